@@ -1,0 +1,1 @@
+// Laws on lists that the other crates' proofs cite: see proofs/.

@@ -1,0 +1,23 @@
+-- The answers of `check_text`, over plain values. Assumes nothing.
+use Prim.Native.Nat.{ℕ, _≤_, _<_}
+use mathlib.Core.Path.{_≡_}
+use mathlib.Core.List.{List}
+use lib.ListN.{length}
+use borrow.Author.Tests.{lt-ltb, le-ltb}
+use Rattle.refusal.specs.declared.Answer.{Answer}
+use Rattle.refusal.specs.declared.Answer.the-variants.{Accepted, Refused}
+use Rattle.refusal.specs.declared.Refusal.the-variants.{TooManyScalars, NotAScalar}
+use Rattle.char_string.specs.Scalars.{firstNonScalar, checked}
+
+module _ (text : List ℕ) where
+  pub long : 65535 < length text → Refused (TooManyScalars (length text)) ≡ checked text
+  unfolding checked
+  long h = simp (lt-ltb _ _ h)
+
+  pub bad : (i : ℕ) → length text ≤ 65535 → i ≡ firstNonScalar text → i < length text → Refused (NotAScalar i) ≡ checked text
+  unfolding checked
+  bad i h e k = simp (le-ltb _ _ h, e, lt-ltb _ _ (rw e at k))
+
+  pub right : (i : ℕ) → length text ≤ 65535 → i ≡ firstNonScalar text → length text ≤ i → Accepted (length text) ≡ checked text
+  unfolding checked
+  right i h e k = simp (le-ltb _ _ h, le-ltb _ _ (rw e at k))

@@ -1,0 +1,53 @@
+-- Where a trimmed word stands. Assumes nothing.
+use Prim.Native.Nat.{ℕ, zero, suc, _+_, _-_, _≤_, _<_}
+use native.Mathlib.Omega.{arith}
+use native.Mathlib.Numerals.{sub-one}
+use mathlib.Core.Path.{_≡_, refl, sym, _∙_, ap}
+use mathlib.Core.List.{List}
+use lib.ListN.{length, take, drop, length-drop}
+use Rattle.basics.specs.Scans.{leading, behindLast}
+use Rattle.basics.proofs.Parts.{tail-drop}
+use Rattle.basics.proofs.Scans.{leading-inside, last-inside}
+use Rattle.char_string.specs.declared.blanks.Span.{Span}
+use Rattle.char_string.specs.declared.blanks.Found.{Found}
+use Rattle.char_string.specs.declared.blanks.Found.the-variants.{At, Nothing}
+use Rattle.char_string.specs.Blanks.{isTrimmed, stays, trimStart, trimEnd, trimOf, trimmedOf, before}
+
+pub start-inside : (word : List ℕ) → trimStart word ≤ length word
+start-inside word = leading-inside isTrimmed word
+
+pub end-inside : (word : List ℕ) → trimEnd word ≤ length word
+end-inside word = omega (arith, start-inside word, last-inside stays (drop (trimStart word) word), length-drop (trimStart word) word)
+
+pub before-some : (i k : ℕ) → i ≡ k → 0 < i → At (i - 1) ≡ before k
+before-some zero k e h = absurd (omega arith)
+before-some (suc i) k e h = ap At (sub-one (suc i)) ∙ ap before e
+
+pub before-none : (i k : ℕ) → i ≡ k → i ≤ 0 → Nothing ≡ before k
+before-none zero k e h = ap before e
+before-none (suc i) k e h = absurd (omega arith)
+
+-- the span that is made of a scan from each side
+pub span-is : (word : List ℕ) (a k : ℕ) → a ≡ trimStart word → k ≡ behindLast stays (take (length word - a) (drop a word)) → _≡_ {A = Span} (record { start = a; end = a + k }) (trimOf word)
+span-is word a k e h =
+    let t : k ≡ behindLast stays (drop (trimStart word) word) = h ∙ ap (behindLast stays) (tail-drop word a ∙ ap (λ (i : ℕ). drop i word) e) in
+    λ i. record { start = e i; end = e i + t i }
+
+pub span-inside : (word : List ℕ) (a k : ℕ) → a ≡ trimStart word → k ≡ behindLast stays (take (length word - a) (drop a word)) → a + k ≤ length word
+span-inside word a k e h =
+    omega (arith, start-inside word, e, h, last-inside stays (take (length word - a) (drop a word)), ap length (tail-drop word a), length-drop a word)
+
+-- the facts that a part between the two positions needs
+pub record Fits (word : List ℕ) (a b : ℕ) : Type 0 where
+  pub order : a ≤ b
+  pub inside : b ≤ length word
+
+pub fits : (word : List ℕ) (s : Span) → s ≡ trimOf word → Fits word (s .start) (s .end)
+fits word s e =
+    let x : s .start ≡ trimStart word = ap (λ (q : Span). q .start) e in
+    let y : s .end ≡ trimEnd word = ap (λ (q : Span). q .end) e in
+    record { order = omega arith; inside = omega (arith, end-inside word) }
+
+pub part-is : (word : List ℕ) (s : Span) → s ≡ trimOf word → take (s .end - s .start) (drop (s .start) word) ≡ trimmedOf word
+unfolding trimmedOf
+part-is word s e = ap (λ (q : Span). take (q .end - q .start) (drop (q .start) word)) e

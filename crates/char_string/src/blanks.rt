@@ -1,0 +1,90 @@
+// Blanks: trimming at the edges of a word, and the last space of a text.
+ghost use mathlib.Core.Path.{_≡_};
+ghost use Rattle.basics.specs.Scans.{behindLast};
+ghost use Rattle.char_string.specs.Blanks.{isTrimmed, stays, trimStart, trimOf, trimmedOf, lastSpace};
+
+// A part of a text: from start up to, and without, end.
+pub struct Span {
+    pub start: usize,
+    pub end: usize,
+}
+
+pub enum Found {
+    At(usize),
+    Nothing,
+}
+
+pub fn is_trimmed(x: u32) -> bool
+    ensures { λ r. ⌜ r ≡ isTrimmed x ⌝ }
+{
+    if x < 0x9 {
+        return false;
+    }
+    if x <= 0xD {
+        return true;
+    }
+    x == 0x20
+}
+
+fn trim_start(word: &[u32]) -> usize
+    ensures { λ r. ⌜ r ≡ trimStart (now (word .entry)) ⌝ }
+{
+    let mut i = 0;
+    while i < word.len() {
+        if !is_trimmed(word[i]) {
+            return i;
+        }
+        i += 1;
+    }
+    i
+}
+
+// How many characters are left once those at the back are stripped.
+fn kept(word: &[u32]) -> usize
+    ensures { λ r. ⌜ r ≡ behindLast stays (now (word .entry)) ⌝ }
+{
+    let mut e = word.len();
+    while 0 < e {
+        if !is_trimmed(word[e - 1]) {
+            return e;
+        }
+        e -= 1;
+    }
+    e
+}
+
+// The positions between which the trimmed word stands.
+pub fn trim(word: &[u32]) -> Span
+    ensures { λ r. ⌜ r ≡ trimOf (now (word .entry)) ⌝ }
+{
+    let start = trim_start(word);
+    let left = kept(&word[start..]);
+    Span {
+        start,
+        end: start + left,
+    }
+}
+
+// The trimmed word, as a part of what was given.
+pub fn trimmed(word: &[u32]) -> &[u32]
+    ensures { λ r. ⌜ now r ≡ trimmedOf (now (word .entry)) ⌝ }
+{
+    let s = trim(word);
+    let start = s.start;
+    let end = s.end;
+    &word[start..end]
+}
+
+// The index of the last U+0020.
+pub fn rfind_space_char_index(text: &[u32]) -> Found
+    ensures { λ r. ⌜ r ≡ lastSpace (now (text .entry)) ⌝ }
+{
+    let mut i = text.len();
+    while 0 < i {
+        if text[i - 1] == 0x20 {
+            return Found::At(i - 1);
+        }
+        i -= 1;
+    }
+    Found::Nothing
+}

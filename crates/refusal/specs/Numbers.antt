@@ -1,0 +1,24 @@
+-- 01, "Numbers the host sees": each refusal's number and detail.
+use Prim.Native.Nat.{ℕ}
+use Rattle.refusal.specs.declared.Refusal.{Refusal}
+use Rattle.refusal.specs.declared.Refusal.the-variants.{IllFormed, TooManyScalars, NotAScalar, NotADictionary, ScratchTooShort, OutputTooShort, WordTooLong, TooFewNodes}
+
+abbrev pub numberOf : Refusal → ℕ
+numberOf (IllFormed d) = 1
+numberOf (TooManyScalars d) = 2
+numberOf (NotAScalar d) = 3
+numberOf NotADictionary = 4
+numberOf (ScratchTooShort d) = 5
+numberOf (OutputTooShort d) = 6
+numberOf (WordTooLong d) = 7
+numberOf (TooFewNodes d) = 8
+
+abbrev pub detailOf : Refusal → ℕ
+detailOf (IllFormed d) = d
+detailOf (TooManyScalars d) = d
+detailOf (NotAScalar d) = d
+detailOf NotADictionary = 0
+detailOf (ScratchTooShort d) = d
+detailOf (OutputTooShort d) = d
+detailOf (WordTooLong d) = d
+detailOf (TooFewNodes d) = d
