@@ -1,3 +1,8 @@
+pub mod FirstBytes
+pub mod Sizes
+pub mod Pieces
+pub mod Runs
+pub mod Decoded
 pub mod Texts
 pub mod Pairs
 pub mod Trimming
