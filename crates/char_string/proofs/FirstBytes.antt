@@ -97,11 +97,16 @@ pub data Fourth (b : ℕ) : ℕ → ℕ → Type 0 where
   f1 : 0xF1 ≤ b → b ≤ 0xF3 → Fourth b 0x80 0xBF
   f4 : 0xF4 ≤ b → b ≤ 0xF4 → Fourth b 0x80 0x8F
 
+-- a byte that is the first of none
+pub data Stray (b : ℕ) : Type 0 where
+  low : 0x80 ≤ b → b < 0xC2 → Stray b
+  high : 0xF5 ≤ b → Stray b
+
 abbrev pub trail : Range
 trail = 0x80 ‥ 0xBF
 
 pub data Kind (b : ℕ) : Type 0 where
-  shut : Closed b → Kind b
+  shut : Stray b → Closed b → Kind b
   one : b ≤ 0x7F → Opens b [] → Kind b
   two : 0xC2 ≤ b → b ≤ 0xDF → Opens b (trail ∷ []) → Kind b
   three : {lo hi : ℕ} → Third b lo hi → Opens b (lo ‥ hi ∷ trail ∷ []) → Kind b
@@ -159,7 +164,7 @@ module _ (b : ℕ) where
 
   at-f4 : Seen from-f4 b → 0xF4 ≤ b → (t : Bool) → ltb b 0xF5 ≡ t → Kind b
   at-f4 v h true e = let k = ltb-true b 0xF5 e in four (f4 h (omega arith)) (opened h (omega arith) v (ahead-none b))
-  at-f4 v h false e = let k = ltb-false b 0xF5 e in shut (closed (seen-past (omega arith) v) (ahead-none b))
+  at-f4 v h false e = let k = ltb-false b 0xF5 e in shut (high k) (closed (seen-past (omega arith) v) (ahead-none b))
 
   at-f1 : Seen from-f1 b → 0xF1 ≤ b → (t : Bool) → ltb b 0xF4 ≡ t → Kind b
   at-f1 v h true e = let k = ltb-true b 0xF4 e in four (f1 h (omega arith)) (opened h (omega arith) v (no-f4 (omega arith)))
@@ -189,13 +194,13 @@ module _ (b : ℕ) where
   at-c2 v h true e = let k = ltb-true b 0xE0 e in two h (omega arith) (opened h (omega arith) v (no-e0 (omega arith)))
   at-c2 v h false e = let k = ltb-false b 0xE0 e in at-e0 (seen-past (omega arith) v) (omega arith) _ refl
 
-  at-80 : Seen from-c2 b → (t : Bool) → ltb b 0xC2 ≡ t → Kind b
-  at-80 v true e = shut (closed v (no-c2 (ltb-true b 0xC2 e)))
-  at-80 v false e = at-c2 v (ltb-false b 0xC2 e) _ refl
+  at-80 : Seen from-c2 b → 0x80 ≤ b → (t : Bool) → ltb b 0xC2 ≡ t → Kind b
+  at-80 v h true e = let k = ltb-true b 0xC2 e in shut (low h k) (closed v (no-c2 k))
+  at-80 v h false e = at-c2 v (ltb-false b 0xC2 e) _ refl
 
   at-00 : (t : Bool) → ltb b 0x80 ≡ t → Kind b
   at-00 true e = let k = ltb-true b 0x80 e in one (omega arith) (opened (omega arith) (omega arith) (seen-all b) (no-c2 (omega arith)))
-  at-00 false e = let k = ltb-false b 0x80 e in at-80 (seen-past (omega arith) (seen-all b)) _ refl
+  at-00 false e = let k = ltb-false b 0x80 e in at-80 (seen-past (omega arith) (seen-all b)) k _ refl
 
   pub kind-of : Kind b
   kind-of = at-00 _ refl

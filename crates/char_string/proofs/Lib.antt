@@ -3,6 +3,8 @@ pub mod Sizes
 pub mod Pieces
 pub mod Runs
 pub mod Decoded
+pub mod Standard
+pub mod Encoding
 pub mod Texts
 pub mod Pairs
 pub mod Trimming

@@ -25,28 +25,28 @@ sized {b} {row} s o h = o .size s ∙ some (starts row s) (suc (length row)) (om
 
 -- how long the sequence is, by its first byte
 size-1 : (b : ℕ) (s : List ℕ) → Kind b → 0 < sizeOf (b ∷ s) → b < 0x80 → sizeOf (b ∷ s) ≡ 1
-size-1 b s (shut c) h k = absurd (omega (arith, c .size s))
+size-1 b s (shut x c) h k = absurd (omega (arith, c .size s))
 size-1 b s (one x o) h k = sized s o h
 size-1 b s (two x y o) h k = absurd (omega arith)
 size-1 b s (three r o) h k = let z = third-range r in absurd (omega arith)
 size-1 b s (four r o) h k = let z = fourth-range r in absurd (omega arith)
 
 size-2 : (b : ℕ) (s : List ℕ) → Kind b → 0 < sizeOf (b ∷ s) → 0x80 ≤ b → b < 0xE0 → sizeOf (b ∷ s) ≡ 2
-size-2 b s (shut c) h j k = absurd (omega (arith, c .size s))
+size-2 b s (shut x c) h j k = absurd (omega (arith, c .size s))
 size-2 b s (one x o) h j k = absurd (omega arith)
 size-2 b s (two x y o) h j k = sized s o h
 size-2 b s (three r o) h j k = let z = third-range r in absurd (omega arith)
 size-2 b s (four r o) h j k = let z = fourth-range r in absurd (omega arith)
 
 size-3 : (b : ℕ) (s : List ℕ) → Kind b → 0 < sizeOf (b ∷ s) → 0xE0 ≤ b → b < 0xF0 → sizeOf (b ∷ s) ≡ 3
-size-3 b s (shut c) h j k = absurd (omega (arith, c .size s))
+size-3 b s (shut x c) h j k = absurd (omega (arith, c .size s))
 size-3 b s (one x o) h j k = absurd (omega arith)
 size-3 b s (two x y o) h j k = absurd (omega arith)
 size-3 b s (three r o) h j k = sized s o h
 size-3 b s (four r o) h j k = let z = fourth-range r in absurd (omega arith)
 
 size-4 : (b : ℕ) (s : List ℕ) → Kind b → 0 < sizeOf (b ∷ s) → 0xF0 ≤ b → sizeOf (b ∷ s) ≡ 4
-size-4 b s (shut c) h j = absurd (omega (arith, c .size s))
+size-4 b s (shut x c) h j = absurd (omega (arith, c .size s))
 size-4 b s (one x o) h j = absurd (omega arith)
 size-4 b s (two x y o) h j = absurd (omega arith)
 size-4 b s (three r o) h j = let z = third-range r in absurd (omega arith)

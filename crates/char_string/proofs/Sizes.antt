@@ -128,7 +128,7 @@ four-by lo hi (x ∷ y ∷ []) =
 four-by lo hi (x ∷ y ∷ z ∷ s) = quad _ _ _ _ _ _ (omega arith)
 
 by-kind : (b : ℕ) (s : List ℕ) → Kind b → By b s ≡ sizeOf (b ∷ s)
-by-kind b s (shut h) = by-entry _ _ _ _ (entry _ 0 0 0 (h .lead) (omega arith) (omega arith)) ∙ none _ _ _ _ _ _ ∙ sym (h .size s)
+by-kind b s (shut x h) = by-entry _ _ _ _ (entry _ 0 0 0 (h .lead) (omega arith) (omega arith)) ∙ none _ _ _ _ _ _ ∙ sym (h .size s)
 by-kind b s (one r h) = by-entry _ _ _ _ (entry _ 1 0 0 (h .lead) (omega arith) (omega arith)) ∙ single _ _ _ _ _ _ (omega arith) ∙ sym (h .size s)
 by-kind b s (two r q h) = by-entry _ _ _ _ (entry _ 2 0x80 0xBF (h .lead) (omega arith) (omega arith)) ∙ two-by s ∙ sym (h .size s)
 by-kind b s (three {lo} {hi} r h) = let k = third-range r in by-entry _ _ _ _ (entry _ 3 lo hi (h .lead) (k .0) (k .1)) ∙ three-by lo hi s ∙ sym (h .size s)
