@@ -1,10 +1,3 @@
-pub mod FirstBytes
-pub mod Sizes
-pub mod Pieces
-pub mod Runs
-pub mod Decoded
-pub mod Standard
-pub mod Encoding
 pub mod Texts
 pub mod Pairs
 pub mod Trimming

@@ -1,9 +1,7 @@
-// Texts of scalars, after char_string.rs: decoding, the scalar check, sub-texts and trimming.
+// Texts of scalars, after char_string.rs: the scalar check, sub-texts and trimming.
 mod blanks;
-mod leads;
 mod parts;
 mod scalars;
-mod utf8;
 
 pub use blanks::Found;
 pub use blanks::is_trimmed;
@@ -21,4 +19,3 @@ pub use parts::substring;
 pub use scalars::check_text;
 pub use scalars::first_non_scalar;
 pub use scalars::is_scalar;
-pub use utf8::decode;
