@@ -1,5 +1,6 @@
 // Blanks: trimming at the edges of a word, and the last space of a text.
 use crate::parts::Span;
+use crate::parts::substring;
 ghost use mathlib.Core.Path.{_≡_};
 ghost use denote.Ref.{ptr};
 ghost use Rattle.basics.specs.Scans.{behindLast};
@@ -68,9 +69,7 @@ pub fn trimmed(word: &[u32]) -> &[u32]
     ensures { λ r. ⌜ ptr r ≡ cellAt (ptr (word .entry)) (trimStart (now (word .entry))) ⌝ }
 {
     let s = trim(word);
-    let start = s.start;
-    let end = s.end;
-    &word[start..end]
+    substring(word, s.start, s.end)
 }
 
 // The index of the last U+0020.

@@ -51,8 +51,8 @@ pub fn substring(text: &[u32], start: usize, end: usize) -> &[u32]
 pub fn chars_len(text: &[u32], start: usize, end: usize) -> usize
     ensures { λ r. ⌜ r ≡ length (partOf (now (text .entry)) start end) ⌝ }
 {
-    let s = fit(text, start, end);
-    s.end - s.start
+    let shown = substring(text, start, end);
+    shown.len()
 }
 
 // The character of a view at an index, if it has one there.
