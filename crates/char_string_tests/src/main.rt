@@ -1,8 +1,10 @@
-// Replays the test vectors of `char_string`: a line of answer for each line of standard input.
+// Replays the test vectors of `char_string`: for each line of standard input, an operation and its inputs, a line with the answer.
 use char_string::Found;
 use vector_lines::behind;
 use vector_lines::field;
 use vector_lines::is;
+use vector_lines::lent;
+use vector_lines::number;
 use vector_lines::part_at;
 use vector_lines::print;
 use vector_lines::print_number;
@@ -43,6 +45,10 @@ fn answer(line: &[u8], cells: &mut [u32]) {
         scalars(line, cells);
         return;
     }
+    if is(op, b"part") {
+        part(line, cells);
+        return;
+    }
     print(b"?");
 }
 
@@ -66,7 +72,7 @@ fn rspace(line: &[u8], cells: &mut [u32]) {
     }
 }
 
-// scalars cells => ok index of the first that is no scalar value, or ok none
+// scalars cells => ok index of the first cell that is no scalar value, or ok none
 fn scalars(line: &[u8], cells: &mut [u32]) {
     let n = read_cells(field(line, 1), cells);
     let bad = char_string::first_non_scalar(&cells[..n]);
@@ -76,4 +82,47 @@ fn scalars(line: &[u8], cells: &mut [u32]) {
     } else {
         print(b"none");
     }
+}
+
+// part n start end => ok right(0/1) start length
+fn part(line: &[u8], cells: &mut [u32]) {
+    count_up(cells);
+    let n = lent(field(line, 1), cells.len());
+    let start = number(field(line, 2));
+    let end = number(field(line, 3));
+    let text = &cells[0..n];
+    let part = char_string::substring(text, start, end);
+    print(b"ok ");
+    if char_string::is_substring(text, start, end) {
+        print(b"1 ");
+        print_start(part, start);
+    } else {
+        print(b"0 ");
+        print_start(part, 0);
+    }
+    print(b" ");
+    print_number(part.len());
+}
+
+// Each cell is its own index, so that a part's first cell tells where the part starts.
+fn count_up(cells: &mut [u32]) {
+    let mut i = 0;
+    let mut x = 0;
+    while i < cells.len() {
+        cells[i] = x;
+        x = std::num::wrapping_add_u32(x, 1);
+        i += 1;
+    }
+}
+
+fn print_start(part: &[u32], empty: usize) {
+    if part.len() == 0 {
+        print_number(empty);
+    } else {
+        print_number(wide(part[0]));
+    }
+}
+
+fn wide(x: u32) -> usize {
+    x as usize
 }
