@@ -1,38 +1,50 @@
 // Replays the test vectors of `char_string`: for each line of standard input, an operation and its inputs, a line with the answer.
 use char_string::Found;
+use refusal::Answer;
 use vector_lines::behind;
 use vector_lines::field;
+use vector_lines::first;
 use vector_lines::is;
 use vector_lines::lent;
 use vector_lines::number;
 use vector_lines::part_at;
 use vector_lines::print;
+use vector_lines::print_cells;
 use vector_lines::print_number;
+use vector_lines::print_refusal;
+use vector_lines::read_bytes;
 use vector_lines::read_cells;
 use vector_lines::read_input;
 
 const INPUT: usize = 524288;
 
+const BYTES: usize = 300000;
+
 const CELLS: usize = 65537;
 
 fn main() {
     let mut input = [0u8; INPUT];
+    let mut bytes = [0u8; BYTES];
     let mut cells = [0u32; CELLS];
     let n = read_input(&mut input);
-    replay(&input[..n], &mut cells);
+    replay(&input[..n], &mut bytes, &mut cells);
 }
 
-fn replay(input: &[u8], cells: &mut [u32]) {
+fn replay(input: &[u8], bytes: &mut [u8], cells: &mut [u32]) {
     let mut at = 0;
     while at < input.len() {
-        answer(part_at(input, at, b'\n'), cells);
+        answer(part_at(input, at, b'\n'), bytes, cells);
         print(b"\n");
         at = behind(input, at, b'\n');
     }
 }
 
-fn answer(line: &[u8], cells: &mut [u32]) {
+fn answer(line: &[u8], bytes: &mut [u8], cells: &mut [u32]) {
     let op = field(line, 0);
+    if is(op, b"decode") {
+        decode(line, bytes, cells);
+        return;
+    }
     if is(op, b"trim") {
         trim(line, cells);
         return;
@@ -50,6 +62,22 @@ fn answer(line: &[u8], cells: &mut [u32]) {
         return;
     }
     print(b"?");
+}
+
+// decode bytes, out cells => ok n scalars
+fn decode(line: &[u8], bytes: &mut [u8], cells: &mut [u32]) {
+    let n = read_bytes(field(line, 1), bytes);
+    let room = lent(field(line, 2), cells.len());
+    let answer = char_string::decode(&bytes[..n], &mut cells[0..room]);
+    match answer {
+        Answer::Accepted(count) => {
+            print(b"ok ");
+            print_number(count);
+            print(b" ");
+            print_cells(first(cells, count));
+        }
+        Answer::Refused(r) => print_refusal(r),
+    }
 }
 
 // trim scalars => ok start end
@@ -84,7 +112,7 @@ fn scalars(line: &[u8], cells: &mut [u32]) {
     }
 }
 
-// part n start end => ok right(0/1) start length
+// part n, start, end => ok right(0/1) start length
 fn part(line: &[u8], cells: &mut [u32]) {
     count_up(cells);
     let n = lent(field(line, 1), cells.len());
