@@ -16,8 +16,9 @@ import vectors
 
 MAX_SCALARS = 65535
 
-# The Unicode Standard, section 3.9: tables 3-4 and 3-8 to 3-11, the sequences named in the text at D84 to D86,
-# at D92 with table 3-7, and in "Constraints on Conversion Processes" and the practice of substitution.
+# The Unicode Standard, section 3.9: the example of D92 whole and in its parts, the sequences that the text names at
+# D84 to D86, beside table 3-7 and in "Constraints on Conversion Processes", table 3-8 as versions 5.2 to 10 had it,
+# and tables 3-8 to 3-11 as they stand since.
 UNICODE = """
 4D D0 B0 E4 BA 8C F0 90 8C 82
 4D

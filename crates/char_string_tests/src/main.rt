@@ -1,4 +1,4 @@
-// Replays the test vectors of `char_string`: for each line of standard input, an operation and its inputs, a line with the answer.
+// Replays the test vectors of `char_string`: a line with the answer for each line of standard input.
 use char_string::Found;
 use refusal::Answer;
 use vector_lines::behind;

@@ -5,7 +5,8 @@ ghost use Prim.Native.Nat.{_-_, _≤_};
 ghost use lib.ListN.{length};
 ghost use Rattle.io.specs.Counts.{Counts};
 
-// Reads standard input into buffer and answers how many bytes there are. An input that leaves no byte of buffer free may be cut off, and cannot be read.
+// Reads standard input into buffer and answers how many bytes there are. An input that fills buffer may be cut off,
+// and cannot be read.
 pub fn read_input(buffer: &mut [u8]) -> usize
     ensures { λ r. ⌜ Counts r (now (buffer .exit)) ⌝ }
 {
@@ -16,8 +17,8 @@ pub fn read_input(buffer: &mut [u8]) -> usize
     n
 }
 
-// The first place from `at` on where the mark stands, or the length. Only this crate calls it.
-pub fn mark_from(text: &[u8], at: usize, mark: u8) -> usize
+// The first place from `at` on where the mark stands, or the length.
+fn mark_from(text: &[u8], at: usize, mark: u8) -> usize
     requires { ⌜ at ≤ length (now text) ⌝ }
     ensures { λ r. ⌜ (at ≤ r) × (r ≤ length (now (text .entry))) ⌝ }
 {
@@ -31,7 +32,7 @@ pub fn mark_from(text: &[u8], at: usize, mark: u8) -> usize
     i
 }
 
-// The part of text that starts at `at` and ends before the next mark, or with the text.
+// The part of text from `at` up to the next mark, or to its end; empty where `at` is past the end.
 pub fn part_at(text: &[u8], at: usize, mark: u8) -> &[u8] {
     if text.len() < at {
         return &text[0..0];
@@ -40,7 +41,7 @@ pub fn part_at(text: &[u8], at: usize, mark: u8) -> &[u8] {
     &text[at..end]
 }
 
-// Where the part after that one starts. Less of the text is left there.
+// Where the part after that one starts: behind the mark, or at the end. Less of the text is left there.
 pub fn behind(text: &[u8], at: usize, mark: u8) -> usize
     ensures { λ r. ⌜ length (now (text .entry)) - r ≤ length (now (text .entry)) - at - 1 ⌝ }
 {
@@ -66,6 +67,22 @@ pub fn field(line: &[u8], k: usize) -> &[u8] {
         i += 1;
     }
     part_at(line, at, b'\t')
+}
+
+// The first byte of text; 0 where it has none.
+pub fn head(text: &[u8]) -> u8 {
+    if text.len() == 0 {
+        return 0;
+    }
+    text[0]
+}
+
+// The text without its first byte.
+pub fn tail(text: &[u8]) -> &[u8] {
+    if text.len() == 0 {
+        return text;
+    }
+    &text[1..]
 }
 
 // Whether text and name are the same bytes.

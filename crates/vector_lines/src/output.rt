@@ -95,7 +95,7 @@ fn run_at(row: &[u32], i: usize) -> usize
     1
 }
 
-// Each `put` adds to the `used` bytes that wait, and answers how many wait then.
+// Each `put` adds to the `used` bytes that wait in a buffer, and answers how many wait then. The buffer is never empty.
 fn put(waiting: &mut [u8], used: usize, b: u8) -> usize {
     if used < waiting.len() {
         waiting[used] = b;
@@ -147,6 +147,7 @@ fn put_all(waiting: &mut [u8], used: usize, text: &[u8]) -> usize {
     n
 }
 
+// Cells have their digits in upper case; `io::hex` makes them in lower case.
 fn upper(b: u8) -> u8 {
     if b < b'a' {
         return b;

@@ -5,12 +5,6 @@ use lib.ListN.{length}
 use borrow.Author.Needs.{needs}
 use Rattle.char_string_tests.proofs.replay.Statement.{statement}
 use Rattle.char_string_tests.proofs.replay.Tie as tie
-use Rattle.char_string_tests.proofs.replay.Reads as reads
-use Rattle.char_string_tests.proofs.replay.Lts as lts
-use Rattle.char_string_tests.proofs.answer.Reads as answer-reads
-use Rattle.vector_lines.proofs.behind.Reads as behind-reads
-use Rattle.vector_lines.proofs.part_at.Reads as part-at-reads
-use Rattle.vector_lines.proofs.print.Reads as print-reads
 
 abbrev Inv-loop : tie.InvT-loop
 Inv-loop input bytes₀ cells₀ at₀ t5 bytes cells at = (length bytes ≡ length bytes₀) × (length cells ≡ length cells₀)
@@ -18,47 +12,36 @@ Inv-loop input bytes₀ cells₀ at₀ t5 bytes cells at = (length bytes ≡ len
 abbrev μ-loop : tie.MeasureT-loop
 μ-loop input bytes₀ cells₀ at₀ t5 bytes cells at = length input - at
 
--- src/main.rt:35:5
 loop-holds : tie.Need-loop-holds Inv-loop μ-loop
 loop-holds c = search needs
 
--- src/main.rt:36:16
 part-at-requires : tie.Need-part-at-requires Inv-loop μ-loop
 part-at-requires c κs = search needs
 
--- src/main.rt:36:9
 answer-requires : tie.Need-answer-requires Inv-loop μ-loop
 answer-requires c κs = search needs
 
--- src/main.rt:37:15
 slice-aggregate-print : tie.Need-slice-aggregate-print Inv-loop μ-loop
 slice-aggregate-print c = search needs
 
--- src/main.rt:37:9
 print-requires : tie.Need-print-requires Inv-loop μ-loop
 print-requires c κs = search needs
 
--- src/main.rt:38:9
 behind-requires : tie.Need-behind-requires Inv-loop μ-loop
 behind-requires c κs = search needs
 
--- src/main.rt:35:5
 loop-less : tie.Need-loop-less Inv-loop μ-loop
 loop-less c = search needs
 
--- src/main.rt:35:5
 loop-again : tie.Need-loop-again Inv-loop μ-loop
 loop-again c = search needs
 
--- src/main.rt:33:1
 same-length : tie.Need-same-length Inv-loop μ-loop
 same-length c = search needs
 
--- src/main.rt:33:1
 same-length-2 : tie.Need-same-length-2 Inv-loop μ-loop
 same-length-2 c = search needs
 
--- src/main.rt:33:1
 returns : tie.Need-returns Inv-loop μ-loop
 returns c = search needs
 

@@ -3,10 +3,6 @@ use Prim.Native.Nat.{_-_, _≤_}
 use borrow.Author.Needs.{needs}
 use Rattle.vector_lines.proofs.input.field.Statement.{statement}
 use Rattle.vector_lines.proofs.input.field.Tie as tie
-use Rattle.vector_lines.proofs.input.field.Reads as reads
-use Rattle.vector_lines.proofs.input.field.Lts as lts
-use Rattle.vector_lines.proofs.input.behind.Reads as behind-reads
-use Rattle.vector_lines.proofs.input.part_at.Reads as part-at-reads
 
 abbrev Inv-loop : tie.InvT-loop
 Inv-loop line k at₀ i₀ at i = i ≤ k
@@ -14,47 +10,36 @@ Inv-loop line k at₀ i₀ at i = i ≤ k
 abbrev μ-loop : tie.MeasureT-loop
 μ-loop line k at₀ i₀ at i = k - i
 
--- src/input.rt:56:5
 loop-holds : tie.Need-loop-holds Inv-loop μ-loop
 loop-holds c = search needs
 
--- src/input.rt:58:20
 sub-result : tie.Need-sub-result Inv-loop μ-loop
 sub-result c = search needs
 
--- src/input.rt:58:20
 part-result-start : tie.Need-part-result-start Inv-loop μ-loop
 part-result-start c = search needs
 
--- src/input.rt:58:20
 part-result-end : tie.Need-part-result-end Inv-loop μ-loop
 part-result-end c = search needs
 
--- src/input.rt:58:13
 returns : tie.Need-returns Inv-loop μ-loop
 returns c = search needs
 
--- src/input.rt:60:9
 behind-requires : tie.Need-behind-requires Inv-loop μ-loop
 behind-requires c κs = search needs
 
--- src/input.rt:61:9
 add-i : tie.Need-add-i Inv-loop μ-loop
 add-i c = search needs
 
--- src/input.rt:56:5
 loop-less : tie.Need-loop-less Inv-loop μ-loop
 loop-less c = search needs
 
--- src/input.rt:56:5
 loop-again : tie.Need-loop-again Inv-loop μ-loop
 loop-again c = search needs
 
--- src/input.rt:63:5
 part-at-requires : tie.Need-part-at-requires Inv-loop μ-loop
 part-at-requires c κs = search needs
 
--- src/input.rt:53:1
 returns-2 : tie.Need-returns-2 Inv-loop μ-loop
 returns-2 c = search needs
 

@@ -4,8 +4,6 @@ use lib.ListN.{length}
 use borrow.Author.Needs.{needs}
 use Rattle.vector_lines.proofs.input.mark_from.Statement.{statement}
 use Rattle.vector_lines.proofs.input.mark_from.Tie as tie
-use Rattle.vector_lines.proofs.input.mark_from.Reads as reads
-use Rattle.vector_lines.proofs.input.mark_from.Lts as lts
 
 abbrev Inv-loop : tie.InvT-loop
 Inv-loop text at mark i₀ i = (at ≤ i) × (i ≤ length text)
@@ -13,31 +11,24 @@ Inv-loop text at mark i₀ i = (at ≤ i) × (i ≤ length text)
 abbrev μ-loop : tie.MeasureT-loop
 μ-loop text at mark i₀ i = length text - i
 
--- src/input.rt:20:5
 loop-holds : tie.Need-loop-holds Inv-loop μ-loop
 loop-holds c = search needs
 
--- src/input.rt:21:12
 shared-slice-read-if1 : tie.Need-shared-slice-read-if1 Inv-loop μ-loop
 shared-slice-read-if1 c = search needs
 
--- src/input.rt:22:13
 returns : tie.Need-returns Inv-loop μ-loop
 returns c = search needs
 
--- src/input.rt:24:9
 add-i : tie.Need-add-i Inv-loop μ-loop
 add-i c = search needs
 
--- src/input.rt:20:5
 loop-less : tie.Need-loop-less Inv-loop μ-loop
 loop-less c = search needs
 
--- src/input.rt:20:5
 loop-again : tie.Need-loop-again Inv-loop μ-loop
 loop-again c = search needs
 
--- src/input.rt:15:1
 returns-2 : tie.Need-returns-2 Inv-loop μ-loop
 returns-2 c = search needs
 

@@ -4,8 +4,6 @@ use lib.ListN.{length}
 use borrow.Author.Needs.{needs}
 use Rattle.vector_lines.proofs.output.run_at.Statement.{statement}
 use Rattle.vector_lines.proofs.output.run_at.Tie as tie
-use Rattle.vector_lines.proofs.output.run_at.Reads as reads
-use Rattle.vector_lines.proofs.output.run_at.Lts as lts
 
 abbrev Inv-loop : tie.InvT-loop
 Inv-loop row i e₀ e = (i < e) × (e ≤ length row)
@@ -13,55 +11,42 @@ Inv-loop row i e₀ e = (i < e) × (e ≤ length row)
 abbrev μ-loop : tie.MeasureT-loop
 μ-loop row i e₀ e = length row - e
 
--- src/output.rt:80:17
 add-e : tie.Need-add-e Inv-loop μ-loop
 add-e c = search needs
 
--- src/output.rt:81:5
 loop-holds : tie.Need-loop-holds Inv-loop μ-loop
 loop-holds c = search needs
 
--- src/output.rt:82:12
 mul-if1 : tie.Need-mul-if1 Inv-loop μ-loop
 mul-if1 c = search needs
 
--- src/output.rt:82:12
 shared-slice-read-if1 : tie.Need-shared-slice-read-if1 Inv-loop μ-loop
 shared-slice-read-if1 c = search needs
 
--- src/output.rt:82:22
 mul-if1-2 : tie.Need-mul-if1-2 Inv-loop μ-loop
 mul-if1-2 c = search needs
 
--- src/output.rt:82:22
 shared-slice-read-if1-2 : tie.Need-shared-slice-read-if1-2 Inv-loop μ-loop
 shared-slice-read-if1-2 c = search needs
 
--- src/output.rt:85:9
 add-e-2 : tie.Need-add-e-2 Inv-loop μ-loop
 add-e-2 c = search needs
 
--- src/output.rt:81:5
 loop-less : tie.Need-loop-less Inv-loop μ-loop
 loop-less c = search needs
 
--- src/output.rt:81:5
 loop-again : tie.Need-loop-again Inv-loop μ-loop
 loop-again c = search needs
 
--- src/output.rt:87:15
 sub-if2 : tie.Need-sub-if2 Inv-loop μ-loop
 sub-if2 c = search needs
 
--- src/output.rt:88:16
 sub-result : tie.Need-sub-result Inv-loop μ-loop
 sub-result c = search needs
 
--- src/output.rt:88:9
 returns : tie.Need-returns Inv-loop μ-loop
 returns c = search needs
 
--- src/output.rt:76:1
 returns-2 : tie.Need-returns-2 Inv-loop μ-loop
 returns-2 c = search needs
 

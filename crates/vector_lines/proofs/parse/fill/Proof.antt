@@ -1,16 +1,11 @@
 -- Assumes nothing.
--- uses
 use native.Mathlib.Omega.{arith}
 use lib.ListN.{length, length-set}
--- end uses
 use Prim.Native.Nat.{_≤_}
 use mathlib.Core.Path.{_≡_}
 use borrow.Author.Needs.{needs}
 use Rattle.vector_lines.proofs.parse.fill.Statement.{statement}
 use Rattle.vector_lines.proofs.parse.fill.Tie as tie
-use Rattle.vector_lines.proofs.parse.fill.Reads as reads
-use Rattle.vector_lines.proofs.parse.fill.Lts as lts
-use Rattle.vector_lines.proofs.output.unread.Reads as unread-reads
 
 abbrev Inv-loop : tie.InvT-loop
 Inv-loop row₀ n x count at₀ left₀ row at left = (at ≤ length row) × (length row ≡ length row₀)
@@ -18,51 +13,39 @@ Inv-loop row₀ n x count at₀ left₀ row at left = (at ≤ length row) × (le
 abbrev μ-loop : tie.MeasureT-loop
 μ-loop row₀ n x count at₀ left₀ row at left = left
 
--- src/parse.rt:183:5
 loop-holds : tie.Need-loop-holds Inv-loop μ-loop
 loop-holds c = search needs
 
--- src/parse.rt:185:13
 unread-requires : tie.Need-unread-requires Inv-loop μ-loop
 unread-requires c κs = search needs
 
--- src/parse.rt:186:13
 same-length : tie.Need-same-length Inv-loop μ-loop
 same-length c = search needs
 
--- src/parse.rt:186:13
 returns : tie.Need-returns Inv-loop μ-loop
 returns c = search needs
 
--- src/parse.rt:188:9
 mul-row : tie.Need-mul-row Inv-loop μ-loop
 mul-row c = search needs
 
--- src/parse.rt:188:9
 slice-write-row : tie.Need-slice-write-row Inv-loop μ-loop
 slice-write-row c = search needs
 
--- src/parse.rt:189:9
 add-at : tie.Need-add-at Inv-loop μ-loop
 add-at c = search needs
 
--- src/parse.rt:190:9
 sub-left : tie.Need-sub-left Inv-loop μ-loop
 sub-left c = search needs
 
--- src/parse.rt:183:5
 loop-less : tie.Need-loop-less Inv-loop μ-loop
 loop-less c = search needs
 
--- src/parse.rt:183:5
 loop-again : tie.Need-loop-again Inv-loop μ-loop
 loop-again c = (simp length-set (omega arith), simp length-set (omega arith))
 
--- src/parse.rt:177:1
 same-length-2 : tie.Need-same-length-2 Inv-loop μ-loop
 same-length-2 c = search needs
 
--- src/parse.rt:177:1
 returns-2 : tie.Need-returns-2 Inv-loop μ-loop
 returns-2 c = search needs
 

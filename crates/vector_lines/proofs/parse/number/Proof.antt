@@ -4,11 +4,6 @@ use lib.ListN.{length}
 use borrow.Author.Needs.{needs}
 use Rattle.vector_lines.proofs.parse.number.Statement.{statement}
 use Rattle.vector_lines.proofs.parse.number.Tie as tie
-use Rattle.vector_lines.proofs.parse.number.Reads as reads
-use Rattle.vector_lines.proofs.parse.number.Lts as lts
-use Rattle.vector_lines.proofs.input.is.Reads as is-reads
-use Rattle.vector_lines.proofs.parse.decimal_more.Reads as decimal-more-reads
-use Rattle.vector_lines.proofs.output.unread.Reads as unread-reads
 
 abbrev Inv-loop : tie.InvT-loop
 Inv-loop text n₀ i₀ n i = i ≤ length text
@@ -16,47 +11,36 @@ Inv-loop text n₀ i₀ n i = i ≤ length text
 abbrev μ-loop : tie.MeasureT-loop
 μ-loop text n₀ i₀ n i = length text - i
 
--- src/parse.rt:14:17
 slice-aggregate-is : tie.Need-slice-aggregate-is Inv-loop μ-loop
 slice-aggregate-is c = search needs
 
--- src/parse.rt:14:8
 is-requires : tie.Need-is-requires Inv-loop μ-loop
 is-requires c κs = search needs
 
--- src/parse.rt:15:9
 returns : tie.Need-returns Inv-loop μ-loop
 returns c = search needs
 
--- src/parse.rt:18:9
 unread-requires : tie.Need-unread-requires Inv-loop μ-loop
 unread-requires c κs = search needs
 
--- src/parse.rt:22:5
 loop-holds : tie.Need-loop-holds Inv-loop μ-loop
 loop-holds c = search needs
 
--- src/parse.rt:23:29
 shared-slice-read-decimal-more : tie.Need-shared-slice-read-decimal-more Inv-loop μ-loop
 shared-slice-read-decimal-more c = search needs
 
--- src/parse.rt:23:9
 decimal-more-requires : tie.Need-decimal-more-requires Inv-loop μ-loop
 decimal-more-requires c κs = search needs
 
--- src/parse.rt:24:9
 add-i : tie.Need-add-i Inv-loop μ-loop
 add-i c = search needs
 
--- src/parse.rt:22:5
 loop-less : tie.Need-loop-less Inv-loop μ-loop
 loop-less c = search needs
 
--- src/parse.rt:22:5
 loop-again : tie.Need-loop-again Inv-loop μ-loop
 loop-again c = search needs
 
--- src/parse.rt:13:1
 returns-2 : tie.Need-returns-2 Inv-loop μ-loop
 returns-2 c = search needs
 

@@ -1,17 +1,11 @@
 -- Assumes nothing.
--- uses
 use native.Mathlib.Omega.{arith}
 use lib.ListN.{length, length-set}
--- end uses
 use Prim.Native.Nat.{_-_, _≤_}
 use mathlib.Core.Path.{_≡_}
 use borrow.Author.Needs.{needs}
 use Rattle.vector_lines.proofs.parse.put_bytes.Statement.{statement}
 use Rattle.vector_lines.proofs.parse.put_bytes.Tie as tie
-use Rattle.vector_lines.proofs.parse.put_bytes.Reads as reads
-use Rattle.vector_lines.proofs.parse.put_bytes.Lts as lts
-use Rattle.vector_lines.proofs.parse.hex_digit.Reads as hex-digit-reads
-use Rattle.vector_lines.proofs.output.unread.Reads as unread-reads
 
 abbrev Inv-loop : tie.InvT-loop
 Inv-loop digits row₀ n at₀ i₀ row at i = (at ≤ length row) × (length row ≡ length row₀)
@@ -19,91 +13,69 @@ Inv-loop digits row₀ n at₀ i₀ row at i = (at ≤ length row) × (length ro
 abbrev μ-loop : tie.MeasureT-loop
 μ-loop digits row₀ n at₀ i₀ row at i = length digits - i
 
--- src/parse.rt:220:5
 loop-holds : tie.Need-loop-holds Inv-loop μ-loop
 loop-holds c = search needs
 
--- src/parse.rt:221:12
 sub-if1 : tie.Need-sub-if1 Inv-loop μ-loop
 sub-if1 c = search needs
 
--- src/parse.rt:222:13
 unread-requires : tie.Need-unread-requires Inv-loop μ-loop
 unread-requires c κs = search needs
 
--- src/parse.rt:223:13
 same-length : tie.Need-same-length Inv-loop μ-loop
 same-length c = search needs
 
--- src/parse.rt:223:13
 returns : tie.Need-returns Inv-loop μ-loop
 returns c = search needs
 
--- src/parse.rt:226:13
 unread-requires-2 : tie.Need-unread-requires-2 Inv-loop μ-loop
 unread-requires-2 c κs = search needs
 
--- src/parse.rt:227:13
 same-length-2 : tie.Need-same-length-2 Inv-loop μ-loop
 same-length-2 c = search needs
 
--- src/parse.rt:227:13
 returns-2 : tie.Need-returns-2 Inv-loop μ-loop
 returns-2 c = search needs
 
--- src/parse.rt:229:29
 shared-slice-read-hex-digit : tie.Need-shared-slice-read-hex-digit Inv-loop μ-loop
 shared-slice-read-hex-digit c = search needs
 
--- src/parse.rt:229:19
 hex-digit-requires : tie.Need-hex-digit-requires Inv-loop μ-loop
 hex-digit-requires c κs = search needs
 
--- src/parse.rt:229:19
 mul-row : tie.Need-mul-row Inv-loop μ-loop
 mul-row c = search needs
 
--- src/parse.rt:229:64
 add-hex-digit : tie.Need-add-hex-digit Inv-loop μ-loop
 add-hex-digit c = search needs
 
--- src/parse.rt:229:57
 shared-slice-read-hex-digit-2 : tie.Need-shared-slice-read-hex-digit-2 Inv-loop μ-loop
 shared-slice-read-hex-digit-2 c = search needs
 
--- src/parse.rt:229:47
 hex-digit-requires-2 : tie.Need-hex-digit-requires-2 Inv-loop μ-loop
 hex-digit-requires-2 c κs = search needs
 
--- src/parse.rt:229:19
 add-row : tie.Need-add-row Inv-loop μ-loop
 add-row c = search needs
 
--- src/parse.rt:229:9
 slice-write-row : tie.Need-slice-write-row Inv-loop μ-loop
 slice-write-row c = search needs
 
--- src/parse.rt:230:9
 add-at : tie.Need-add-at Inv-loop μ-loop
 add-at c = search needs
 
--- src/parse.rt:231:9
 add-i : tie.Need-add-i Inv-loop μ-loop
 add-i c = search needs
 
--- src/parse.rt:220:5
 loop-less : tie.Need-loop-less Inv-loop μ-loop
 loop-less c = search needs
 
--- src/parse.rt:220:5
 loop-again : tie.Need-loop-again Inv-loop μ-loop
 loop-again c = (simp length-set (omega arith), simp length-set (omega arith))
 
--- src/parse.rt:214:1
 same-length-3 : tie.Need-same-length-3 Inv-loop μ-loop
 same-length-3 c = search needs
 
--- src/parse.rt:214:1
 returns-3 : tie.Need-returns-3 Inv-loop μ-loop
 returns-3 c = search needs
 

@@ -5,12 +5,6 @@ use lib.ListN.{length}
 use borrow.Author.Needs.{needs}
 use Rattle.vector_lines.proofs.parse.read_byte_run.Statement.{statement}
 use Rattle.vector_lines.proofs.parse.read_byte_run.Tie as tie
-use Rattle.vector_lines.proofs.parse.read_byte_run.Reads as reads
-use Rattle.vector_lines.proofs.parse.read_byte_run.Lts as lts
-use Rattle.vector_lines.proofs.input.part_at.Reads as part-at-reads
-use Rattle.vector_lines.proofs.parse.put_bytes.Reads as put-bytes-reads
-use Rattle.vector_lines.proofs.parse.times.Reads as times-reads
-use Rattle.vector_lines.proofs.output.unread.Reads as unread-reads
 
 abbrev Inv-loop : tie.InvT-loop
 Inv-loop run row₀ n digits at₀ left₀ row at left = (at ≤ length row) × (length row ≡ length row₀)
@@ -18,51 +12,39 @@ Inv-loop run row₀ n digits at₀ left₀ row at left = (at ≤ length row) × 
 abbrev μ-loop : tie.MeasureT-loop
 μ-loop run row₀ n digits at₀ left₀ row at left = left
 
--- src/parse.rt:200:9
 part-at-requires : tie.Need-part-at-requires Inv-loop μ-loop
 part-at-requires c κs = search needs
 
--- src/parse.rt:202:9
 times-requires : tie.Need-times-requires Inv-loop μ-loop
 times-requires c κs = search needs
 
--- src/parse.rt:203:5
 loop-holds : tie.Need-loop-holds Inv-loop μ-loop
 loop-holds c = search needs
 
--- src/parse.rt:205:13
 unread-requires : tie.Need-unread-requires Inv-loop μ-loop
 unread-requires c κs = search needs
 
--- src/parse.rt:206:13
 same-length : tie.Need-same-length Inv-loop μ-loop
 same-length c = search needs
 
--- src/parse.rt:206:13
 returns : tie.Need-returns Inv-loop μ-loop
 returns c = search needs
 
--- src/parse.rt:208:9
 put-bytes-requires : tie.Need-put-bytes-requires Inv-loop μ-loop
 put-bytes-requires c κs = search needs
 
--- src/parse.rt:209:9
 sub-left : tie.Need-sub-left Inv-loop μ-loop
 sub-left c = search needs
 
--- src/parse.rt:203:5
 loop-less : tie.Need-loop-less Inv-loop μ-loop
 loop-less c = search needs
 
--- src/parse.rt:203:5
 loop-again : tie.Need-loop-again Inv-loop μ-loop
 loop-again c = search needs
 
--- src/parse.rt:196:1
 same-length-2 : tie.Need-same-length-2 Inv-loop μ-loop
 same-length-2 c = search needs
 
--- src/parse.rt:196:1
 returns-2 : tie.Need-returns-2 Inv-loop μ-loop
 returns-2 c = search needs
 
