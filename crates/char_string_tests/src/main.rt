@@ -1,4 +1,4 @@
-// Replays the test vectors of `char_string`: a line with the answer for each line of standard input.
+// Replays the test vectors of `utf8` and `char_string`: a line with the answer for each line of standard input.
 use char_string::Found;
 use refusal::Answer;
 use vector_lines::behind;
@@ -68,7 +68,7 @@ fn answer(line: &[u8], bytes: &mut [u8], cells: &mut [u32]) {
 fn decode(line: &[u8], bytes: &mut [u8], cells: &mut [u32]) {
     let n = read_bytes(field(line, 1), bytes);
     let room = lent(field(line, 2), cells.len());
-    let answer = char_string::decode(&bytes[..n], &mut cells[0..room]);
+    let answer = utf8::decode(&bytes[..n], &mut cells[0..room]);
     match answer {
         Answer::Accepted(count) => {
             print(b"ok ");
