@@ -1,8 +1,9 @@
 -- 01, "Bytes to scalars": the decoder, its table, its refusals and its output.
-use Prim.Native.Nat.{ℕ, zero, suc, _+_, _*_}
+use Prim.Native.Nat.{ℕ, zero, suc, _+_, _*_, _<_}
+use mathlib.Core.Path.{_≡_}
 use mathlib.Core.Bool.{Bool, true, false, not, cond, _&&_}
 use mathlib.Core.List.{List, [], _∷_}
-use lib.ListN.{length, take, drop}
+use lib.ListN.{length, getD, take, drop}
 use lib.Dec.{ltb, eqb}
 use Rattle.basics.specs.Scans.{within}
 use Rattle.refusal.specs.declared.Answer.{Answer}
@@ -26,6 +27,10 @@ leadIn (row ∷ rows) b = cond (opens row b) (packed row) (leadIn rows b)
 
 unfoldable pub leadOf : ℕ → ℕ
 leadOf b = leadIn table37 b
+
+-- The decoder uses a table of 256 entries, one for each first byte.
+pub record Leads (table : List ℕ) : Type 0 where
+  pub rule : (b : ℕ) → b < 256 → getD table b 0 ≡ leadOf b
 
 -- the bytes start with a sequence of the row
 abbrev pub starts : List Range → List ℕ → Bool

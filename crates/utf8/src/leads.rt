@@ -1,6 +1,6 @@
 // The decoder's table: an entry for each first byte.
 ghost use mathlib.Core.Path.{_≡_};
-ghost use Rattle.utf8.specs.Decoding.{leadOf};
+ghost use Rattle.utf8.specs.Decoding.{leadOf, Leads};
 
 // The length of the sequence that the byte starts (0 for none), and the range of its second byte, a byte each.
 const LEAD: [u32; 256] = [
@@ -262,8 +262,16 @@ const LEAD: [u32; 256] = [
     0x000000,
 ];
 
-pub fn lead(b: u8) -> u32
+// The table. A constant is made anew wherever it stands, so a pass over bytes takes it once and lends it.
+pub fn lead_table() -> [u32; 256]
+    ensures { λ r. ⌜ Leads r ⌝ }
+{
+    LEAD
+}
+
+pub fn lead(table: &[u32; 256], b: u8) -> u32
+    requires { ⌜ Leads (now table) ⌝ }
     ensures { λ r. ⌜ r ≡ leadOf b ⌝ }
 {
-    LEAD[b as usize]
+    table[b as usize]
 }

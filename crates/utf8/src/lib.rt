@@ -2,6 +2,7 @@
 mod leads;
 
 use leads::lead;
+use leads::lead_table;
 use refusal::Answer;
 use refusal::MAX_SCALARS;
 use refusal::Refusal;
@@ -12,7 +13,7 @@ ghost use lib.ListN.{length, drop};
 ghost use mathlib.Core.List.{_++_};
 ghost use Rattle.basics.specs.Scans.{within};
 ghost use Rattle.refusal.specs.Answers.{output};
-ghost use Rattle.utf8.specs.Decoding.{sizeOf, runAll, scalarsOf, decoded};
+ghost use Rattle.utf8.specs.Decoding.{Leads, sizeOf, runAll, scalarsOf, decoded};
 ghost use Rattle.utf8.specs.Passes.{pieceOf, countedOf};
 
 // The scalar at a place, and the number of bytes of its sequence.
@@ -44,11 +45,12 @@ fn is_trail(b: u8) -> bool
 }
 
 // The length of the well-formed sequence at a place, 0 where there is none.
-fn size_at(s: &[u8], at: usize) -> usize
+fn size_at(table: &[u32; 256], s: &[u8], at: usize) -> usize
+    requires { ⌜ Leads (now table) ⌝ }
     requires { ⌜ at < length (now s) ⌝ }
     ensures { λ r. ⌜ r ≡ sizeOf (drop at (now (s .entry))) ⌝ }
 {
-    let e = lead(s[at]);
+    let e = lead(table, s[at]);
     let size = (e / 65536) as usize;
     if s.len() - at < size {
         return 0;
@@ -81,10 +83,11 @@ fn size_at(s: &[u8], at: usize) -> usize
 fn count(s: &[u8]) -> Counted
     ensures { λ r. ⌜ r ≡ countedOf (runAll (now (s .entry))) ⌝ }
 {
+    let table = lead_table();
     let mut at = 0;
     let mut n = 0;
     while at < s.len() {
-        let size = size_at(s, at);
+        let size = size_at(&table, s, at);
         if size == 0 {
             return Counted {
                 scalars: n,

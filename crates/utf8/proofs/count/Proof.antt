@@ -11,43 +11,48 @@ use Rattle.utf8.proofs.count.Statement.{statement}
 use Rattle.utf8.proofs.count.Tie as tie
 use Rattle.utf8.proofs.count.Reads as reads
 use Rattle.utf8.proofs.count.Lts as lts
+use Rattle.utf8.proofs.leads.lead_table.Reads as lead-table-reads
 use Rattle.utf8.proofs.size_at.Reads as size-at-reads
 
 abbrev Inv-loop : tie.InvT-loop
-Inv-loop s at₀ n₀ at n = Read s at n
+Inv-loop s table at₀ n₀ at n = Read s at n
 
 abbrev μ-loop : tie.MeasureT-loop
-μ-loop s at₀ n₀ at n = length s - at
+μ-loop s table at₀ n₀ at n = length s - at
 
--- src/utf8.rt:84:5
+-- src/lib.rt:86:17
+lead-table-requires : tie.Need-lead-table-requires Inv-loop μ-loop
+lead-table-requires c κs = search needs
+
+-- src/lib.rt:89:5
 loop-holds : tie.Need-loop-holds Inv-loop μ-loop
 loop-holds c = read-none _
 
--- src/utf8.rt:85:13
+-- src/lib.rt:90:13
 size-at-requires : tie.Need-size-at-requires Inv-loop μ-loop
 size-at-requires c κs = search needs
 
--- src/utf8.rt:87:13
+-- src/lib.rt:92:13
 returns : tie.Need-returns Inv-loop μ-loop
-returns c = read-broken (c .before .before .before .loop .inv) (c .before .before .loop-test .taken) (sym (c .before .size-at .ensures) ∙ c .if1 .taken)
+returns c = read-broken (c .before .before .before .before .loop .inv) (c .before .before .before .loop-test .taken) (sym (c .before .size-at .ensures) ∙ c .if1 .taken)
 
--- src/utf8.rt:93:9
+-- src/lib.rt:98:9
 add-at : tie.Need-add-at Inv-loop μ-loop
-add-at c = let z = read-inside _ _ _ (c .before .before .before .loop .inv .inside) (c .before .size-at .ensures) in omega arith
+add-at c = let z = read-inside _ _ _ (c .before .before .before .before .loop .inv .inside) (c .before .size-at .ensures) in omega arith
 
--- src/utf8.rt:94:9
+-- src/lib.rt:99:9
 add-n : tie.Need-add-n Inv-loop μ-loop
 add-n c = search needs
 
--- src/utf8.rt:84:5
+-- src/lib.rt:89:5
 loop-less : tie.Need-loop-less Inv-loop μ-loop
-loop-less c = let z = read-inside _ _ _ (c .before .before .before .loop .inv .inside) (c .before .size-at .ensures) in omega arith
+loop-less c = let z = read-inside _ _ _ (c .before .before .before .before .loop .inv .inside) (c .before .size-at .ensures) in omega arith
 
--- src/utf8.rt:84:5
+-- src/lib.rt:89:5
 loop-again : tie.Need-loop-again Inv-loop μ-loop
-loop-again c = read-more _ (c .before .before .before .loop .inv) (c .before .size-at .ensures) (omega (arith, c .if1 .left))
+loop-again c = read-more _ (c .before .before .before .before .loop .inv) (c .before .size-at .ensures) (omega (arith, c .if1 .left))
 
--- src/utf8.rt:79:1
+-- src/lib.rt:83:1
 returns-2 : tie.Need-returns-2 Inv-loop μ-loop
 returns-2 c = read-done (c .before .loop .inv) (c .loop-test .left)
 
@@ -57,6 +62,7 @@ count-spec =
     (tie.spec
     Inv-loop
     μ-loop
+    lead-table-requires
     loop-holds
     size-at-requires
     returns
