@@ -178,9 +178,57 @@ def scalar_cells():
             yield scalars([0x61, x, y])
 
 
+def text(row):
+    bad = [i for i, x in enumerate(row) if not is_scalar(x)]
+    if len(row) > MAX_SCALARS:
+        return ["text", vectors.cells(row)], "! 2 %d" % len(row)
+    return ["text", vectors.cells(row)], "! 3 %d" % bad[0] if bad else "ok %d" % len(row)
+
+
+def texts():
+    """Lengths around the limit, with and without a cell that is no scalar value: refusal 2 before 3."""
+    for n in 0, 1, MAX_SCALARS - 1, MAX_SCALARS, MAX_SCALARS + 1:
+        yield text([0xE01] * n)
+        yield text([0xD800] * n)
+        yield text([0xE01] * n + [0x110000])
+        yield text([0x61] + [0xE01] * n + [0xDFFF])
+
+
+def words():
+    """Words with blanks at their edges and inside, trimmed by Python's strip of 01's six characters."""
+    blanks = "\t\n\v\f\r "
+    kept = "\x08\x0e\x1f!a\u0e01\u0085\u00a0\u2003\u200b\u3000"
+    for word in [""] + list(blanks) + list(kept):
+        for front in ["", " ", "\t\r\n", blanks]:
+            for back in ["", " ", "\v\f", blanks]:
+                for whole in front + word + back, front + word + " " + word + back:
+                    yield ["word", vectors.cells([ord(c) for c in whole])], "ok %s" % vectors.cells([ord(c) for c in whole.strip(blanks)])
+
+
+def view(n, start, end, index, a, b):
+    """The answers for a view of the text 0, 1, .., n - 1, by Python's own slices."""
+    right = start <= end <= n
+    shown = list(range(n))[start:end] if right else []
+    base = start if right else 0
+    char = shown[index] if index < len(shown) else "none"
+    sub = (base + a, base + b) if a <= b <= len(shown) else (base, base)
+    return ["view"] + [str(x) for x in (n, start, end, index, a, b)], "ok %d %s %d %d" % (len(shown), char, *sub)
+
+
+def views():
+    """Pairs that fit and pairs that don't, and in each view sub-views that fit and don't, with the largest numbers among them."""
+    largest = 2 ** 64 - 1
+    for n in 0, 1, 3:
+        for start in 0, 1, 2, 3, 4, largest:
+            for end in 0, 1, 3, 4, largest:
+                for a in 0, 1, 2, 3, largest:
+                    for b in 0, 1, 2, 3, largest:
+                        yield view(n, start, end, a, a, b)
+
+
 def main():
     made = list(given(sys.argv[1]))
-    for group in unicode_examples, first_bytes, later_bytes, edges, long_texts, short_rows, scalar_cells:
+    for group in unicode_examples, first_bytes, later_bytes, edges, long_texts, short_rows, scalar_cells, texts, words, views:
         made.extend(group())
     vectors.write("char_string_tests", made)
 

@@ -1,4 +1,5 @@
 // Replays the test vectors of `utf8` and `char_string`: a line with the answer for each line of standard input.
+use char_string::CharAt;
 use char_string::Found;
 use refusal::Answer;
 use vector_lines::behind;
@@ -20,7 +21,7 @@ const INPUT: usize = 524288;
 
 const BYTES: usize = 300000;
 
-const CELLS: usize = 65537;
+const CELLS: usize = 65540;
 
 fn main() {
     let mut input = [0u8; INPUT];
@@ -57,8 +58,20 @@ fn answer(line: &[u8], bytes: &mut [u8], cells: &mut [u32]) {
         scalars(line, cells);
         return;
     }
+    if is(op, b"text") {
+        text(line, cells);
+        return;
+    }
     if is(op, b"part") {
         part(line, cells);
+        return;
+    }
+    if is(op, b"view") {
+        view(line, cells);
+        return;
+    }
+    if is(op, b"word") {
+        word(line, cells);
         return;
     }
     print(b"?");
@@ -110,6 +123,55 @@ fn scalars(line: &[u8], cells: &mut [u32]) {
     } else {
         print(b"none");
     }
+}
+
+// text cells => ok n
+fn text(line: &[u8], cells: &mut [u32]) {
+    let n = read_cells(field(line, 1), cells);
+    match char_string::check_text(&cells[..n]) {
+        Answer::Accepted(count) => {
+            print(b"ok ");
+            print_number(count);
+        }
+        Answer::Refused(r) => print_refusal(r),
+    }
+}
+
+// word scalars => ok the trimmed scalars
+fn word(line: &[u8], cells: &mut [u32]) {
+    let n = read_cells(field(line, 1), cells);
+    print(b"ok ");
+    print_cells(char_string::trimmed(&cells[..n]));
+}
+
+// view n, start, end, index, from, to => ok length, character at index or none, start and end of the sub-view
+fn view(line: &[u8], cells: &mut [u32]) {
+    count_up(cells);
+    let n = lent(field(line, 1), cells.len());
+    let start = number(field(line, 2));
+    let end = number(field(line, 3));
+    print_view(line, &cells[0..n], start, end);
+}
+
+fn print_view(line: &[u8], text: &[u32], start: usize, end: usize) {
+    print(b"ok ");
+    print_number(char_string::chars_len(text, start, end));
+    print(b" ");
+    match char_string::get_char_at(text, start, end, number(field(line, 4))) {
+        CharAt::Scalar(c) => print_number(wide(c)),
+        CharAt::Nothing => print(b"none"),
+    }
+    print(b" ");
+    let s = char_string::sub_view(
+        text,
+        start,
+        end,
+        number(field(line, 5)),
+        number(field(line, 6)),
+    );
+    print_number(s.start);
+    print(b" ");
+    print_number(s.end);
 }
 
 // part n, start, end => ok right(0/1) start length

@@ -3,15 +3,20 @@ use Prim.Native.Nat.{ℕ, _≤_, _<_}
 use native.Mathlib.Omega.{arith}
 use mathlib.Core.Path.{_≡_, refl, sym, _∙_, ap}
 use mathlib.Core.Bool.{Bool, true, false}
-use mathlib.Core.List.{List}
+use mathlib.Core.List.{List, [], _∷_}
 use lib.ListN.{length}
 use borrow.Author.Tests.{lt-ltb, le-ltb}
 use Rattle.refusal.specs.declared.Answer.{Answer}
 use Rattle.refusal.specs.declared.Answer.the-variants.{Accepted, Refused}
 use Rattle.refusal.specs.declared.Refusal.the-variants.{IllFormed, TooManyScalars, OutputTooShort}
 use Rattle.utf8.specs.declared.Counted.{Counted}
-use Rattle.utf8.specs.Decoding.{runAll, scalarsOf, decoded}
+use Rattle.refusal.specs.Answers.{numbers}
+use Rattle.utf8.specs.Decoding.{runAll, scalarsOf, decodeRows, decoded}
 use Rattle.utf8.specs.Passes.{countedOf}
+
+-- Decoding: 1, 2, 6.
+pub decoding : (bytes : List ℕ) (room : ℕ) → numbers (decodeRows bytes room) ≡ 1 ∷ 2 ∷ 6 ∷ []
+decoding bytes room = refl
 
 module _ (bytes : List ℕ) (room : ℕ) (c : Counted) (h : c ≡ countedOf (runAll bytes)) where
   pub number-is : c .scalars ≡ length (scalarsOf bytes)
