@@ -8,4 +8,7 @@ pub mod Alone
 pub mod StartsVowel
 pub mod StartsE
 pub mod StartsConsonant
+pub mod Bounds
+pub mod Ends
+pub mod Rising
 pub mod Cases
