@@ -2,15 +2,14 @@
 use Prim.Native.Nat.{ℕ, zero, suc, _+_, _-_, _≤_, _<_}
 use native.Mathlib.Omega.{arith}
 use native.Mathlib.Numerals.{sub-one}
-use mathlib.Core.Path.{_≡_, refl, sym, _∙_, ap}
+use mathlib.Core.Path.{_≡_, sym, _∙_, ap}
 use mathlib.Core.List.{List}
 use lib.ListN.{length, take, drop, length-drop}
-use Rattle.basics.specs.Scans.{leading, behindLast}
+use Rattle.basics.specs.Scans.{behindLast}
 use borrow.Author.Tests.{le-leb}
 use Rattle.basics.proofs.Parts.{tail-drop}
 use Rattle.basics.proofs.Scans.{leading-inside, last-inside}
 use Rattle.char_string.specs.declared.parts.Span.{Span}
-use Rattle.char_string.specs.declared.blanks.Found.{Found}
 use Rattle.char_string.specs.declared.blanks.Found.the-variants.{At, Nothing}
 use Rattle.char_string.proofs.Pairs.{fit-right}
 use Rattle.char_string.specs.Parts.{fitted, between, partOf}
