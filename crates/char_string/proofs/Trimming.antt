@@ -8,7 +8,7 @@ use lib.ListN.{length, take, drop, length-drop}
 use Rattle.basics.specs.Scans.{leading, behindLast}
 use Rattle.basics.proofs.Parts.{tail-drop}
 use Rattle.basics.proofs.Scans.{leading-inside, last-inside}
-use Rattle.char_string.specs.declared.blanks.Span.{Span}
+use Rattle.char_string.specs.declared.parts.Span.{Span}
 use Rattle.char_string.specs.declared.blanks.Found.{Found}
 use Rattle.char_string.specs.declared.blanks.Found.the-variants.{At, Nothing}
 use Rattle.char_string.specs.Blanks.{isTrimmed, stays, trimStart, trimEnd, trimOf, trimmedOf, before}

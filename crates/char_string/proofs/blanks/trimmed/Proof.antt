@@ -1,6 +1,8 @@
 -- Assumes nothing.
 -- uses
-use native.Mathlib.Omega.{arith}
+use mathlib.Core.Path.{ap}
+use Rattle.char_string.specs.declared.parts.Span.{Span}
+use Rattle.char_string.specs.Parts.{cellAt}
 use Rattle.char_string.proofs.Trimming.{fits, part-is}
 -- end uses
 use borrow.Author.Needs.{needs}
@@ -32,7 +34,7 @@ part-result-end c = fits _ _ (c .trim .ensures) .inside
 
 -- src/blanks.rt:66:1
 returns : tie.Need-returns
-returns c = part-is _ _ (c .before .trim .ensures)
+returns c = (part-is _ _ (c .before .trim .ensures), ap (λ (s : Span). cellAt (c .before .before .before .args .word .ptr) (s .start)) (c .before .trim .ensures))
 
 pub trimmed-spec : {M : Type 1} → statement M
 trimmed-spec =
