@@ -1,0 +1,4 @@
+pub mod Lists
+pub mod Shape
+pub mod Level
+pub mod Canon

@@ -1,0 +1,4 @@
+pub mod Cells
+pub mod Words
+pub mod Paths
+pub mod Sound
