@@ -2,3 +2,4 @@ pub mod Lists
 pub mod Shape
 pub mod Level
 pub mod Canon
+pub mod Rules

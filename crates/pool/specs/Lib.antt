@@ -2,3 +2,4 @@ pub mod Cells
 pub mod Words
 pub mod Paths
 pub mod Sound
+pub mod Rules

@@ -7,8 +7,9 @@ ghost use mathlib.Core.Bool.{false};
 ghost use Prim.Native.Nat.{ℕ, _*_, _≤_, _<_};
 ghost use lib.ListN.{length, getD};
 ghost use Rattle.char_string.specs.Blanks.{isTrimmed};
-ghost use Rattle.pool.specs.Cells.{scalarAt, used};
-ghost use Rattle.pool.specs.Sound.{Shaped, Rising, ends, Sound};
+ghost use Rattle.pool.specs.Cells.{scalarAt};
+ghost use Rattle.pool.specs.Sound.{Shaped, Rising, ends};
+ghost use Rattle.pool.specs.Rules.{wellFormed};
 ghost use Rattle.pool_read.specs.Checks.{Decides, Inner, Each, Nodes};
 
 // The most nodes that a pool may have.
@@ -154,9 +155,9 @@ fn blank(p: &[u32], k: usize) -> bool
     true
 }
 
-// Whether the pool is a dictionary.
+// Whether the cells of a pool are a dictionary: all rules hold.
 pub fn well_formed(p: &[u32]) -> bool
-    ensures { λ r. ⌜ Decides r (Sound (now (p .entry)) (used (now (p .entry))) 0) ⌝ }
+    ensures { λ r. ⌜ r ≡ wellFormed (now (p .entry)) ⌝ }
 {
     if p.len() < 8 {
         return false;
