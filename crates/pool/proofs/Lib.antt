@@ -3,3 +3,4 @@ pub mod Shape
 pub mod Level
 pub mod Canon
 pub mod Rules
+pub mod Edges

@@ -13,7 +13,7 @@ use Rattle.char_string.specs.Blanks.{isTrimmed}
 use Rattle.pool.specs.Cells.{scalarAt, firstAt, countAt, markAt, used}
 use Rattle.pool.specs.Words.{marked}
 use Rattle.pool.specs.Sound.{Shaped, Rising, Fit, Spare, ends, Sound}
-use Rattle.pool.specs.Rules.{capacity, every, inUse, rooted, levelOrder, beforeChildren, rising, scalars, marks, leaves, starts, stops, levels, zeros, rules, all, wellFormed}
+use Rattle.pool.specs.Rules.{capacity, every, rising, zeros, rules, all, wellFormed}
 
 -- ---- truth values
 
@@ -183,18 +183,37 @@ sound p h = sound-is p (each-of (rules p) h)
 
 pub passes : (p : List ℕ) → Sound p (used p) 0 → wellFormed p ≡ true
 unfolding wellFormed
-passes p g = of-each (rules p)
-    ( join _ _ (le-leb 1 (used p) (g .shaped .some)) (le-leb (used p) (capacity p) (omega (arith, g .fits, g .small)))
-    , ( join _ _ (eq-eqb (scalarAt p 0) 0 (g .root)) (eq-eqb (markAt p 0) 0 (g .unmarked))
-      , ( join _ _ (join _ _ (eq-eqb (firstAt p 0) 1 (g .shaped .start)) nexts) (eq-eqb _ (used p) (g .shaped .last (used p - 1) (omega (arith, g .shaped .some))))
-        , ( every-of (used p) (λ i. ltb i (firstAt p i)) (λ i l. lt-ltb i (firstAt p i) (g .shaped .ahead i l))
-          , ( every-of (used p) _ (λ i l. every-of (countAt p i - 1) _ (λ k q. lt-ltb _ _ (climbs i k l q)))
-            , ( inner-of (used p) (λ i. isScalar (scalarAt p i)) (λ i a l. g .fit i a l .legal)
-              , ( inner-of (used p) (λ i. leb (markAt p i) 1) (λ i a l. le-leb (markAt p i) 1 (g .fit i a l .mark))
-                , ( inner-of (used p) (λ i. leb 1 (countAt p i) || marked (markAt p i)) (λ i a l. of-leaf (countAt p i) (markAt p i) (g .leaf i a l (omega arith)))
-                  , ( every-of (countAt p 0) _ (λ i l. ap not (g .start (suc i) (omega arith) (omega arith)))
-                    , ( inner-of (used p) (λ i. not (marked (markAt p i) && isTrimmed (scalarAt p i))) (λ i a l. of-stop (markAt p i) (isTrimmed (scalarAt p i)) (g .fit i a l .stop))
-                      , (eq-eqb (ends p (used p) 255) (used p) (g .shallow), (blanks, tt))))))))))))
+passes p g = of-each (rules p) (
+  join _ _ (le-leb 1 (used p) (g .shaped .some)) (le-leb (used p) (capacity p) (omega (arith, g .fits, g .small))),
+  (
+    join _ _ (eq-eqb (scalarAt p 0) 0 (g .root)) (eq-eqb (markAt p 0) 0 (g .unmarked)),
+    (
+      join _ _ (join _ _ (eq-eqb (firstAt p 0) 1 (g .shaped .start)) nexts) (eq-eqb _ (used p) (g .shaped .last (used p - 1) (omega (arith, g .shaped .some)))),
+      (
+        every-of (used p) (λ i. ltb i (firstAt p i)) (λ i l. lt-ltb i (firstAt p i) (g .shaped .ahead i l)),
+        (
+          every-of (used p) _ (λ i l. every-of (countAt p i - 1) _ (λ k q. lt-ltb _ _ (climbs i k l q))),
+          (
+            inner-of (used p) (λ i. isScalar (scalarAt p i)) (λ i a l. g .fit i a l .legal),
+            (
+              inner-of (used p) (λ i. leb (markAt p i) 1) (λ i a l. le-leb (markAt p i) 1 (g .fit i a l .mark)),
+              (
+                inner-of (used p) (λ i. leb 1 (countAt p i) || marked (markAt p i)) (λ i a l. of-leaf (countAt p i) (markAt p i) (g .leaf i a l (omega arith))),
+                (
+                  every-of (countAt p 0) _ (λ i l. ap not (g .start (suc i) (omega arith) (omega arith))),
+                  (
+                    inner-of (used p) (λ i. not (marked (markAt p i) && isTrimmed (scalarAt p i))) (λ i a l. of-stop (markAt p i) (isTrimmed (scalarAt p i)) (g .fit i a l .stop)),
+                    (eq-eqb (ends p (used p) 255) (used p) (g .shallow), (blanks, tt)),
+                  ),
+                ),
+              ),
+            ),
+          ),
+        ),
+      ),
+    ),
+  ),
+)
   where
     nexts : every (used p - 1) (λ i. eqb (firstAt p (suc i)) (firstAt p i + countAt p i)) ≡ true
     nexts = every-of (used p - 1) (λ i. eqb (firstAt p (suc i)) (firstAt p i + countAt p i)) (λ i l. eq-eqb (firstAt p (suc i)) (firstAt p i + countAt p i) (g .shaped .next i (omega arith)))

@@ -1,7 +1,7 @@
 -- Laws of level order: blocks of children do not overlap, and a word leads to one node. Assumes nothing.
 use mathlib.Core.Path.{_≡_, refl, sym, ap, _∙_, subst}
 use mathlib.Core.Bool.{Bool, true, false, cond, not}
-use mathlib.Core.List.{List, [], _∷_}
+use mathlib.Core.List.{List, [], _∷_, _++_}
 use mathlib.Core.Logic.{⊎-elim}
 use Prim.Native.Nat.{ℕ, zero, suc, _+_, _-_, _*_, _≤_, _<_}
 use native.Mathlib.Omega.{arith}
@@ -9,7 +9,8 @@ use native.Mathlib.Nat.{eq-or-lt-of-le}
 use native.Mathlib.Decide.{decLt}
 use borrow.Author.Tests.{lt-ltb, le-ltb, eq-eqb, eqb-true}
 use lib.Dec.{ltb, eqb}
-use lib.ListN.{getD}
+use lib.Seq.{take-suc, take-add}
+use lib.ListN.{take, drop, getD, length}
 use Rattle.pool.specs.Cells.{scalarAt, firstAt, countAt}
 use Rattle.pool.specs.Paths.{reach, rev}
 use Rattle.pool.specs.Sound.{Shaped, Rising, Fit}
@@ -119,6 +120,29 @@ on-at (at i) = refl
 -- a walk from the root, from its end
 pub walk-is : (p v : List ℕ) → walk p v 0 ≡ reach p (rev v [])
 walk-is p v = ap (λ (z : List ℕ). walk p z 0) (sym (rev-rev v [])) ∙ walk-reach p (rev v []) [] ∙ on-at (reach p (rev v []))
+
+-- a walk over two parts
+pub walk-two : (p u v : List ℕ) (i : ℕ) → walk p (u ++ v) i ≡ on-place none (λ r. walk p v r) (walk p u i)
+walk-two p [] v i = refl
+walk-two p (x ∷ u) v i = go (child p i x) (λ r. walk-two p u v r)
+  where
+    go : (q : Place) → ((r : ℕ) → walk p (u ++ v) r ≡ on-place none (λ z. walk p v z) (walk p u r))
+        → on-place none (λ r. walk p (u ++ v) r) q ≡ on-place none (λ z. walk p v z) (on-place none (λ r. walk p u r) q)
+    go none ih = refl
+    go (at r) ih = ih r
+
+-- one character more is one step more
+pub walk-more : (p text : List ℕ) (i b : ℕ) → i < length text → walk p (take i text) 0 ≡ at b → walk p (take (suc i) text) 0 ≡ child p b (getD text i 0)
+walk-more p text i b h e =
+    ap (λ (l : List ℕ). walk p l 0) (take-suc text i 0 h) ∙ walk-two p (take i text) (getD text i 0 ∷ []) 0 ∙ ap (on-place none (λ r. walk p (getD text i 0 ∷ []) r)) e
+    ∙ on-at (child p b (getD text i 0))
+
+-- a walk that has ended stays ended
+pub walk-append : (p text : List ℕ) (i k : ℕ) → i ≤ k → walk p (take i text) 0 ≡ none → walk p (take k text) 0 ≡ none
+walk-append p text i k l e =
+    let s : k ≡ i + (k - i) = omega arith in
+    ap (λ (j : ℕ). walk p (take j text) 0) s ∙ ap (λ (z : List ℕ). walk p z 0) (take-add i (k - i) text) ∙ walk-two p (take i text) (take (k - i) (drop i text)) 0
+    ∙ ap (on-place none (λ r. walk p (take (k - i) (drop i text)) r)) e
 
 -- a step of `reach`
 pub record Step (p u : List ℕ) (x r : ℕ) : Type 0 where

@@ -3,3 +3,4 @@ pub mod Words
 pub mod Paths
 pub mod Sound
 pub mod Rules
+pub mod Meaning

@@ -3,6 +3,7 @@ use Prim.Native.Nat.{ℕ, zero, suc}
 use mathlib.Core.Bool.{Bool, true, false, cond}
 use mathlib.Core.List.{List, [], _∷_}
 use lib.Dec.{ltb, eqb}
+use lib.ListN.{length}
 use Rattle.pool.specs.Cells.{scalarAt, firstAt, countAt, markAt}
 
 -- a node, or none
@@ -36,3 +37,8 @@ marked (suc m) = true
 -- whether the word is held
 abbrev pub holds : List ℕ → List ℕ → Bool
 holds p w = on-place false (λ r. marked (markAt p r)) (walk p w 0)
+
+-- the nodes that the word needs below node i and the pool lacks
+abbrev pub lacking : List ℕ → List ℕ → ℕ → ℕ
+lacking p [] i = 0
+lacking p (x ∷ w) i = on-place (suc (length w)) (λ r. lacking p w r) (child p i x)

@@ -9,8 +9,8 @@ use Rattle.char_string.specs.Blanks.{isTrimmed}
 use Rattle.pool.specs.Cells.{scalarAt, firstAt, countAt, markAt, used}
 use Rattle.pool.specs.Paths.{reach, rev}
 use Rattle.pool.specs.Sound.{Shaped, Sound}
-use Rattle.pool.specs.Words.{none, at, on-place, scan, child, holds}
-use Rattle.pool_read.specs.Search.{Sought, fresh}
+use Rattle.pool.specs.Words.{lacking, none, at, on-place, scan, child, holds}
+use Rattle.pool_read.specs.Search.{Sought}
 use Rattle.pool_change.specs.Planting.{Room, Plants, Planted, Enters, Entered, stayed, grew, Puts, PutIn}
 use Rattle.pool.proofs.Lists.{drop-next}
 use Rattle.pool.proofs.Shape.{within, reach-within, child-found, step, child-after, first-is, count-is, climb}
@@ -83,16 +83,16 @@ pub record Inv (p₀ w p : List ℕ) (i t : ℕ) : Type 0 where
   pub scalar : 0 < t → scalarAt p i ≡ getD w (t - 1) 0
   pub sound : Sound p n i
   pub words : (v : List ℕ) → holds p v ≡ holds p₀ v
-  pub count : n + fresh p (drop t w) i ≡ used p₀ + fresh p₀ w 0
+  pub count : n + lacking p (drop t w) i ≡ used p₀ + lacking p₀ w 0
   pub long : length p ≡ length p₀
 
 pub begin : (p w : List ℕ) → Puts p w → Inv p w p 0 0
 begin p w h = record { u = []; n = used p; upto = omega arith; long-u = refl; split = refl; path = refl; scalar = λ l. absurd (omega arith); sound = h .sound; words = λ v. refl; count = refl; long = refl }
 
-fresh-leaf : (p w : List ℕ) (i : ℕ) → countAt p i ≡ 0 → fresh p w i ≡ length w
+lacking-leaf : (p w : List ℕ) (i : ℕ) → countAt p i ≡ 0 → lacking p w i ≡ length w
 unfolding child
-fresh-leaf p [] i e = refl
-fresh-leaf p (x ∷ w) i e = ap (λ (c : ℕ). on-place (suc (length w)) (λ r. fresh p w r) (scan p x (firstAt p i) c)) e
+lacking-leaf p [] i e = refl
+lacking-leaf p (x ∷ w) i e = ap (λ (c : ℕ). on-place (suc (length w)) (λ r. lacking p w r) (scan p x (firstAt p i) c)) e
 
 -- the exception moves on
 pub sound-moved : (p : List ℕ) (n i r x : ℕ) → child p i x ≡ at r → Sound p n i → Sound p n r
@@ -127,12 +127,12 @@ module _ (p₀ w p : List ℕ) (i t : ℕ) (pre : Puts p₀ w) (v : Inv p₀ w p
   inside : i < v .n
   inside = reach-within p (v .n) (v .sound .shaped) (v .u) i (v .path)
 
-  fresh-is : fresh p (drop t w) i ≡ on-place (suc (length rest)) (λ r. fresh p rest r) (child p i (getD w t 0))
-  fresh-is = ap (λ (z : List ℕ). fresh p z i) (drop-next w t l)
+  lacking-is : lacking p (drop t w) i ≡ on-place (suc (length rest)) (λ r. lacking p rest r) (child p i (getD w t 0))
+  lacking-is = ap (λ (z : List ℕ). lacking p z i) (drop-next w t l)
 
-  lacks : child p i (getD w t 0) ≡ none → v .n + suc (length rest) ≡ used p₀ + fresh p₀ w 0
+  lacks : child p i (getD w t 0) ≡ none → v .n + suc (length rest) ≡ used p₀ + lacking p₀ w 0
   lacks e =
-      let f : fresh p (drop t w) i ≡ suc (length rest) = fresh-is ∙ ap (on-place (suc (length rest)) (λ r. fresh p rest r)) e in
+      let f : lacking p (drop t w) i ≡ suc (length rest) = lacking-is ∙ ap (on-place (suc (length rest)) (λ r. lacking p rest r)) e in
       omega (arith, v .count)
 
   pub enters : Enters p i (getD w t 0)
@@ -168,7 +168,7 @@ module _ (p₀ w p : List ℕ) (i t : ℕ) (pre : Puts p₀ w) (v : Inv p₀ w p
     scalar = λ q. child-found p i (getD w t 0) r e .is ∙ here;
     sound = sound-moved p (v .n) i r (getD w t 0) e (v .sound);
     words = v .words;
-    count = ap (λ (z : ℕ). v .n + z) (sym (fresh-is ∙ ap (on-place (suc (length rest)) (λ k. fresh p rest k)) e)) ∙ v .count;
+    count = ap (λ (z : ℕ). v .n + z) (sym (lacking-is ∙ ap (on-place (suc (length rest)) (λ k. lacking p rest k)) e)) ∙ v .count;
     long = v .long;
   })
   turn p′ r kept (grew o′ h′) = record {
@@ -183,7 +183,7 @@ module _ (p₀ w p : List ℕ) (i t : ℕ) (pre : Puts p₀ w) (v : Inv p₀ w p
         (omega (arith, enters .room lack, is, kept)) (omega (arith, enters .small lack, is)) (pre .legal t l)
         (λ z. ap (λ (k : ℕ). isTrimmed (getD w k 0)) (first z) ∙ pre .start);
     words = λ z. same-words p p′ (v .n) i r (getD w t 0) (v .sound .shaped) o h z ∙ v .words z;
-    count = omega (arith, fresh-leaf p′ rest r (h .count-new), lacks lack);
+    count = omega (arith, lacking-leaf p′ rest r (h .count-new), lacks lack);
     long = kept ∙ v .long;
   }
     where
@@ -208,7 +208,7 @@ pub done : (p₀ w p : List ℕ) (i t : ℕ) → Puts p₀ w → Inv p₀ w p i 
 done p₀ w p i t pre v l =
     let left : drop t w ≡ [] = drop-of-length-le w l in
     let word : rev (v .u) [] ≡ w = ap (rev (v .u)) (sym left) ∙ v .split in
-    let count : v .n ≡ used p₀ + fresh p₀ w 0 = omega (arith, v .count, ap (λ (z : List ℕ). fresh p z i) left) in
+    let count : v .n ≡ used p₀ + lacking p₀ w 0 = omega (arith, v .count, ap (λ (z : List ℕ). lacking p z i) left) in
     let in′ = inside-end p₀ w p i t v in
     let within′ : i < v .n = reach-within p (v .n) (v .sound .shaped) (v .u) i (v .path) in
     let some : 0 < i = positive p (v .u) (v .n) i (v .sound .shaped) (v .path) (omega (arith, v .long-u, pre .some)) in

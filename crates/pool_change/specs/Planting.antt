@@ -7,10 +7,9 @@ use lib.ListN.{length, getD}
 use Rattle.char_string.specs.Scalars.{isScalar}
 use Rattle.char_string.specs.Blanks.{isTrimmed}
 use Rattle.pool.specs.Cells.{scalarAt, firstAt, countAt, markAt, used}
-use Rattle.pool.specs.Words.{none, at, child, holds}
+use Rattle.pool.specs.Words.{lacking, none, at, child, holds}
 use Rattle.pool.specs.Paths.{reach, rev}
 use Rattle.pool.specs.Sound.{Shaped, Spare, Sound}
-use Rattle.pool_read.specs.Search.{fresh}
 
 -- j is the place of a new child of b with scalar x
 pub record Room (p : List ℕ) (n b j x : ℕ) : Type 0 where
@@ -91,11 +90,11 @@ pub record Puts (p w : List ℕ) : Type 0 where
   pub legal : (t : ℕ) → t < length w → isScalar (getD w t 0) ≡ true
   pub start : isTrimmed (getD w 0 0) ≡ false
   pub stop : isTrimmed (getD w (length w - 1) 0) ≡ false
-  pub room : 8 * (used p + fresh p w 0) ≤ length p
-  pub small : used p + fresh p w 0 ≤ 1048576
+  pub room : 8 * (used p + lacking p w 0) ≤ length p
+  pub small : used p + lacking p w 0 ≤ 1048576
 
 -- what it leaves: a dictionary that holds the word, and else what it held
 pub record PutIn (p p′ w : List ℕ) : Type 0 where
-  pub sound : Sound p′ (used p + fresh p w 0) 0
+  pub sound : Sound p′ (used p + lacking p w 0) 0
   pub held : holds p′ w ≡ true
   pub others : (v : List ℕ) → (v ≡ w → ⊥) → holds p′ v ≡ holds p v

@@ -4,14 +4,16 @@ use mathlib.Core.Bool.{Bool, false, not, cond}
 use mathlib.Core.List.{List}
 use Prim.Native.Nat.{ℕ, zero, suc, _+_, _-_, _*_, _≤_, _<_}
 use native.Mathlib.Omega.{arith}
+use native.Mathlib.Numerals.{add-one}
 use native.Mathlib.Decide.{decLt}
 use borrow.Author.Tests.{lt-ltb, le-ltb, ne-eqb}
 use lib.Dec.{eqb, eqb·suc-zero}
 use lib.ListN.{length, getD, drop, drop-of-length-le, length-drop}
-use Rattle.pool.specs.Cells.{scalarAt, firstAt, countAt, markAt}
+use Rattle.pool.specs.Meaning.{markedIn, amount}
+use Rattle.pool.specs.Cells.{used, scalarAt, firstAt, countAt, markAt}
 use Rattle.pool.specs.Sound.{Readable}
-use Rattle.pool.specs.Words.{none, at, on-place, scan, child, walk, marked, holds}
-use Rattle.pool_read.specs.Search.{Sought, toPlace, fresh}
+use Rattle.pool.specs.Words.{lacking, none, at, on-place, scan, child, walk, marked, holds}
+use Rattle.pool_read.specs.Search.{Sought, toPlace}
 use Rattle.pool_read.specs.declared.search.Kid.{Kid}
 use Rattle.pool_read.specs.declared.search.Kid.the-variants.{Nothing, Is}
 use Rattle.pool.proofs.Lists.{drop-next}
@@ -81,15 +83,15 @@ ended p w i t v l = is-marked (getD p (8 * i + 3) 0)
 pub record Counts (p w : List ℕ) (i t : ℕ) : Type 0 where
   pub upto : t ≤ length w
   pub here : Readable p i
-  pub same : fresh p w 0 ≡ fresh p (drop t w) i
+  pub same : lacking p w 0 ≡ lacking p (drop t w) i
 
 module _ (p w : List ℕ) (i t : ℕ) (v : Counts p w i t) (l : t < length w) where
-  count-on : fresh p w 0 ≡ on-place (suc (length (drop (t + 1) w))) (λ r. fresh p (drop (t + 1) w) r) (child p i (getD w t 0))
-  count-on = v .same ∙ ap (λ (u : List ℕ). fresh p u i) (drop-next w t l)
+  count-on : lacking p w 0 ≡ on-place (suc (length (drop (t + 1) w))) (λ r. lacking p (drop (t + 1) w) r) (child p i (getD w t 0))
+  count-on = v .same ∙ ap (λ (u : List ℕ). lacking p u i) (drop-next w t l)
 
-  pub count-lost : (k : Kid) → toPlace k ≡ child p i (getD w t 0) → k ≡ Nothing → length w - t ≡ fresh p w 0
+  pub count-lost : (k : Kid) → toPlace k ≡ child p i (getD w t 0) → k ≡ Nothing → length w - t ≡ lacking p w 0
   count-lost k e q =
-      let f : fresh p w 0 ≡ suc (length (drop (t + 1) w)) = count-on ∙ ap (on-place (suc (length (drop (t + 1) w))) (λ r. fresh p (drop (t + 1) w) r)) (sym e ∙ ap toPlace q) in
+      let f : lacking p w 0 ≡ suc (length (drop (t + 1) w)) = count-on ∙ ap (on-place (suc (length (drop (t + 1) w))) (λ r. lacking p (drop (t + 1) w) r)) (sym e ∙ ap toPlace q) in
       omega (arith, length-drop (t + 1) w)
 
   pub count-step : (k : Kid) (r : ℕ) → toPlace k ≡ child p i (getD w t 0) → k ≡ Is r → Counts p w r (t + 1)
@@ -98,8 +100,33 @@ module _ (p w : List ℕ) (i t : ℕ) (v : Counts p w i t) (l : t < length w) wh
       record {
         upto = omega arith;
         here = record { nodes = v .here .nodes; inside = omega (arith, within p (v .here .nodes) (v .here .shaped) i (v .here .inside), f .high); shaped = v .here .shaped; fits = v .here .fits };
-        same = count-on ∙ ap (on-place (suc (length (drop (t + 1) w))) (λ r. fresh p (drop (t + 1) w) r)) (sym e ∙ ap toPlace q);
+        same = count-on ∙ ap (on-place (suc (length (drop (t + 1) w))) (λ r. lacking p (drop (t + 1) w) r)) (sym e ∙ ap toPlace q);
       }
 
-pub count-ended : (p w : List ℕ) (i t : ℕ) → Counts p w i t → length w ≤ t → 0 ≡ fresh p w 0
-count-ended p w i t v l = sym (v .same ∙ ap (λ (u : List ℕ). fresh p u i) (drop-of-length-le w l))
+pub count-ended : (p w : List ℕ) (i t : ℕ) → Counts p w i t → length w ≤ t → 0 ≡ lacking p w 0
+count-ended p w i t v l = sym (v .same ∙ ap (λ (u : List ℕ). lacking p u i) (drop-of-length-le w l))
+
+-- ---- counting marks
+
+pub record Tallied (p : List ℕ) (n words i : ℕ) : Type 0 where
+  pub upto : i ≤ n
+  pub few : words ≤ i
+  pub is : words ≡ markedIn p i
+
+pub tallied-all : {p : List ℕ} {n words i : ℕ} → Tallied p n words i → n ≤ i → n ≡ used p → words ≡ amount p
+tallied-all {p} {n} {words} {i} v l e = v .is ∙ ap (markedIn p) (let z : i ≡ n = omega (arith, v .upto) in z ∙ e)
+
+module _ {p : List ℕ} {n words i : ℕ} (v : Tallied p n words i) (l : i < n) where
+  tally : (m : ℕ) → m ≡ getD p (8 * i + 3) 0 → markedIn p (i + 1) ≡ markedIn p i + cond (marked m) 1 0
+  unfolding markAt
+  tally m e = ap (markedIn p) (add-one i) ∙ ap (λ (k : ℕ). markedIn p i + cond (marked k) 1 0) (sym e)
+
+  one : (m : ℕ) → (m ≡ 0 → ⊥) → _≡_ {A = ℕ} (cond (marked m) 1 0) 1
+  one zero ne = absurd (ne refl)
+  one (suc m) ne = refl
+
+  pub tallied-more : (getD p (8 * i + 3) 0 ≡ 0 → ⊥) → Tallied p n (words + 1) (i + 1)
+  tallied-more ne = record { upto = omega arith; few = omega (arith, v .few); is = omega (arith, v .is, tally _ refl, one _ ne) }
+
+  pub tallied-on : getD p (8 * i + 3) 0 ≡ 0 → Tallied p n words (i + 1)
+  tallied-on e = record { upto = omega arith; few = omega (arith, v .few); is = omega (arith, v .is, tally 0 (sym e)) }

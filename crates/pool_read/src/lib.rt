@@ -4,8 +4,10 @@ mod search;
 
 pub use rules::well_formed;
 pub use search::Kid;
+pub use search::count_words;
 pub use search::find_child;
 pub use search::is_held;
 pub use search::missing;
+pub use search::prefix_count;
 pub use search::prefix_lengths;
 pub use search::seek;

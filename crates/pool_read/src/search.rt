@@ -1,9 +1,11 @@
 // The search for words.
 use pool::wide;
 ghost use mathlib.Core.Path.{_≡_};
-ghost use Rattle.pool.specs.Words.{child, holds};
+ghost use lib.ListN.{length};
+ghost use Rattle.pool.specs.Words.{child, holds, lacking};
+ghost use Rattle.pool.specs.Meaning.{prefixLengths, amount};
 ghost use Rattle.pool.specs.Sound.{Readable};
-ghost use Rattle.pool_read.specs.Search.{Sought, toPlace, fresh, prefixes, Asks, Wrote};
+ghost use Rattle.pool_read.specs.Search.{Sought, toPlace, Asks, Wrote, Counts};
 
 // A child, or none.
 pub enum Kid {
@@ -68,7 +70,7 @@ pub fn is_held(p: &[u32], w: &[u32]) -> bool
 // How many nodes the word needs that the pool lacks.
 pub fn missing(p: &[u32], w: &[u32]) -> usize
     requires { ⌜ Readable (now p) 0 ⌝ }
-    ensures { λ r. ⌜ r ≡ fresh (now (p .entry)) (now (w .entry)) 0 ⌝ }
+    ensures { λ r. ⌜ r ≡ lacking (now (p .entry)) (now (w .entry)) 0 ⌝ }
 {
     let mut i: usize = 0;
     let mut t: usize = 0;
@@ -87,10 +89,36 @@ pub fn missing(p: &[u32], w: &[u32]) -> usize
     0
 }
 
+// How many words the text starts with.
+pub fn prefix_count(p: &[u32], text: &[u32]) -> usize
+    requires { ⌜ Readable (now p) 0 ⌝ }
+    ensures { λ r. ⌜ r ≡ length (prefixLengths (holds (now (p .entry))) (now (text .entry))) ⌝ }
+{
+    let mut b: usize = 0;
+    let mut n: usize = 0;
+    let mut i: usize = 0;
+    while i < text.len() {
+        let kid = find_child(p, b, text[i]);
+        match kid {
+            Kid::Nothing => {
+                return n;
+            }
+            Kid::Is(r) => {
+                b = r;
+                i += 1;
+                if p[8 * r + 3] != 0 {
+                    n += 1;
+                }
+            }
+        }
+    }
+    n
+}
+
 // Writes the lengths of the words that the text starts with to the front of out, rising, and returns their number.
 pub fn prefix_lengths(p: &[u32], text: &[u32], out: &mut [u32]) -> usize
     requires { ⌜ Asks (now p) (now text) (now out) ⌝ }
-    ensures { λ r. ⌜ Wrote (now (out .entry)) (prefixes (now (p .entry)) (now (text .entry)) 0 0) (now (out .exit)) r ⌝ }
+    ensures { λ r. ⌜ Wrote (now (out .entry)) (prefixLengths (holds (now (p .entry))) (now (text .entry))) (now (out .exit)) r ⌝ }
 {
     let mut b: usize = 0;
     let mut n: usize = 0;
@@ -112,4 +140,22 @@ pub fn prefix_lengths(p: &[u32], text: &[u32], out: &mut [u32]) -> usize
         }
     }
     n
+}
+
+// How many words are held.
+pub fn count_words(p: &[u32]) -> usize
+    requires { ⌜ Counts (now p) ⌝ }
+    ensures { λ r. ⌜ r ≡ amount (now (p .entry)) ⌝ }
+{
+    let n = wide(p[4]);
+    let mut words: usize = 0;
+    let mut i: usize = 0;
+    while i < n {
+        let mark = p[8 * i + 3];
+        i += 1;
+        if mark != 0 {
+            words += 1;
+        }
+    }
+    words
 }
