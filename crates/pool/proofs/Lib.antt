@@ -4,3 +4,4 @@ pub mod Level
 pub mod Canon
 pub mod Rules
 pub mod Edges
+pub mod Sets

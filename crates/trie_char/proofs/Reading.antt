@@ -61,10 +61,11 @@ module _ (pool text : List ℕ) {a : Answer} {k : ℕ} (is : a ≡ answer (readR
 
       pub prefix-done : m ≤ length out → (new : List ℕ) (r : ℕ) → Wrote out (prefixLengths (holds (take (8 * n) pool)) text) new r
           → (Accepted r ≡ answer (prefixRows text (meaning pool) out) (length (prefixLengths (held (meaning pool)) text))) × (new ≡ output (Accepted r) (prefixLengths (held (meaning pool)) text) out)
-      prefix-done l new r w =
-          ( ap Accepted (w .count ∙ sym (ap length lengths))
-            ∙ row-no (readRows text (meaning pool)) (row out) (length text) (length (prefixLengths (held (meaning pool)) text)) first (le-ltb (length out) (length (prefixLengths (held (meaning pool)) text)) (omega (arith, count)))
-          , w .is ∙ sym (ap (λ (z : List ℕ). z ++ drop (length z) out) lengths))
+      prefix-done l new r w = (
+        ap Accepted (w .count ∙ sym (ap length lengths))
+            ∙ row-no (readRows text (meaning pool)) (row out) (length text) (length (prefixLengths (held (meaning pool)) text)) first (le-ltb (length out) (length (prefixLengths (held (meaning pool)) text)) (omega (arith, count))),
+        w .is ∙ sym (ap (λ (z : List ℕ). z ++ drop (length z) out) lengths),
+      )
 
 -- ---- a refused one
 

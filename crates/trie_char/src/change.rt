@@ -1,4 +1,6 @@
 // Changing a dictionary.
+use crate::pools::capacity;
+use crate::pools::check_word;
 use char_string::trimmed;
 use pool::wide;
 use pool_change::add_word;
@@ -7,27 +9,27 @@ use pool_read::is_held;
 use pool_read::missing;
 use refusal::Answer;
 use refusal::Refusal;
-use crate::pools::capacity;
-use crate::pools::check_word;
 ghost use mathlib.Core.Path.{_≡_};
-ghost use mathlib.Core.List.{List};
-ghost use Prim.Native.Nat.{ℕ, _≤_};
-ghost use lib.ListN.{length, getD};
+ghost use Prim.Native.Nat.{_≤_};
+ghost use lib.ListN.{length};
 ghost use Rattle.refusal.specs.Answers.{answer};
 ghost use Rattle.char_string.specs.Blanks.{trimmedOf};
 ghost use Rattle.pool.specs.Meaning.{meaning, noWord, withWord, withoutWord, report};
 ghost use Rattle.trie_char.specs.Refusals.{held, removeRows, addRows, freshRows};
-ghost use Rattle.trie_char.specs.Changes.{After};
+ghost use Rattle.trie_char.specs.Changes.{After, RootAlone};
 
-// Sets every cell to 0.
-fn clear(cells: &mut [u32])
-    ensures { λ _. ⌜ ((k : ℕ) → getD (now (cells .exit)) k 0 ≡ 0) ⌝ }
+// Sets the cells to a dictionary without words: the root alone.
+fn reset(cells: &mut [u32])
+    requires { ⌜ 8 ≤ length (now cells) ⌝ }
+    ensures { λ _. ⌜ RootAlone (now (cells .exit)) ⌝ }
 {
     let mut k: usize = 0;
     while k < cells.len() {
         cells[k] = 0;
         k += 1;
     }
+    cells[1] = 1;
+    cells[4] = 1;
 }
 
 // Makes a dictionary without words, whatever the cells held before.
@@ -39,9 +41,7 @@ pub fn fresh(pool: &mut [u32]) -> Answer
         return Answer::Refused(Refusal::TooFewNodes(1));
     }
     let cells = 8 * capacity(pool.len());
-    clear(&mut pool[..cells]);
-    pool[1] = 1;
-    pool[4] = 1;
+    reset(&mut pool[..cells]);
     Answer::Accepted(0)
 }
 

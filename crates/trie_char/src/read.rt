@@ -1,12 +1,12 @@
 // Reading a dictionary.
+use crate::pools::capacity;
+use crate::pools::check;
+use crate::pools::is_dictionary;
 use pool_read::count_words;
 use pool_read::is_held;
 use pool_read::prefix_count;
 use refusal::Answer;
 use refusal::Refusal;
-use crate::pools::capacity;
-use crate::pools::check;
-use crate::pools::is_dictionary;
 ghost use mathlib.Core.Path.{_≡_};
 ghost use mathlib.Core.Bool.{cond};
 ghost use lib.ListN.{length};
