@@ -3,19 +3,19 @@ use Prim.Native.Nat.{ℕ, zero, suc, _+_, _-_, _≤_, _<_}
 use native.Mathlib.Omega.{arith}
 use native.Mathlib.Decide.{decLt}
 use mathlib.Core.Path.{_≡_, refl, sym, ap, _∙_}
-use mathlib.Core.Bool.{Bool, true, false}
+use mathlib.Core.Bool.{true, false}
 use mathlib.Core.List.{List, [], _∷_}
 use lib.ListN.{length, getD}
 use Rattle.char_string.specs.Scalars.{isScalar}
 use Rattle.char_string.specs.Blanks.{isTrimmed, trimmedOf}
-use Rattle.pool.specs.Cells.{scalarAt, firstAt, countAt, markAt}
+use Rattle.pool.specs.Cells.{markAt}
 use Rattle.pool.specs.Words.{Place, none, at, on-place, child, walk, marked, holds}
 use Rattle.pool.specs.Paths.{reach, rev}
 use Rattle.pool.specs.Sound.{Sound, ends}
 use Rattle.pool.proofs.Shape.{child-found, child-after, within, reach-within, walk-is, rev-rev, Step, step}
 use Rattle.pool.proofs.Level.{ends-mono, level-low}
 use Rattle.pool.proofs.Rules.{clash}
-use Rattle.pool.proofs.Edges.{Edges, trimmed-is}
+use Rattle.pool.proofs.Edges.{trimmed-is}
 
 pub record Word (w : List ℕ) : Type 0 where
   pub trimmed : trimmedOf w ≡ w

@@ -9,3 +9,4 @@ pub mod Held
 pub mod Number
 pub mod Listing
 pub mod With
+pub mod Walks

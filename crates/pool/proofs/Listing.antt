@@ -2,23 +2,23 @@
 use Prim.Native.Nat.{ℕ, zero, suc, _+_, _-_, _≤_, _<_}
 use native.Mathlib.Omega.{arith}
 use native.Mathlib.Decide.{decLt}
-use mathlib.Core.Path.{_≡_, refl, sym, ap, subst, _∙_}
+use mathlib.Core.Path.{_≡_, refl, sym, ap, _∙_}
 use mathlib.Core.Bool.{Bool, true, false, cond}
 use mathlib.Core.List.{List, [], _∷_, _++_}
-use mathlib.Core.Logic.{_⊎_, inl, inr}
+use mathlib.Core.Logic.{inl, inr}
 use borrow.Author.Tests.{ltb-true, lt-ltb, le-ltb}
 use lib.Dec.{ltb}
 use lib.ListN.{length}
-use Rattle.pool.specs.Cells.{markAt, used}
-use Rattle.pool.specs.Words.{Place, none, at, on-place, child, walk, marked, holds}
+use Rattle.pool.specs.Cells.{markAt}
+use Rattle.pool.specs.Words.{Place, none, at, on-place, walk, marked, holds}
 use Rattle.pool.specs.Paths.{reach, rev}
 use Rattle.pool.specs.Sound.{Sound}
-use Rattle.pool.specs.Meaning.{tally, amount}
+use Rattle.pool.specs.Meaning.{tally}
 use Rattle.pool.specs.Listing.{Member, Distinct, Number, Held, Prefix}
 use Rattle.pool.proofs.Shape.{child-after, reach-within, walk-is, walk-two, rev-rev, step, one-path}
 use Rattle.pool.proofs.Rules.{clash}
 use Rattle.pool.proofs.Held.{ending}
-use Rattle.pool.proofs.Canon.{Alive, alive, has-path}
+use Rattle.pool.proofs.Canon.{alive, has-path}
 
 -- ---- words and nodes
 
@@ -84,7 +84,8 @@ module _ (p : List ℕ) (n : ℕ) (g : Sound p n 0) where
     where
       go : (b : Bool) → f i ≡ b → Listed f i → Word i → Listed f (suc i)
       go false e r w = record {
-        words = r .words; distinct = r .distinct;
+        words = r .words;
+        distinct = r .distinct;
         only = λ v m. wider f i v (r .only v m);
         all = λ v a. r .all v (narrower v a (decLt (a .node) i));
         long = r .long ∙ sym (ap (λ (z : Bool). tally f i + cond z 1 0) e ∙ (let z : tally f i + 0 ≡ tally f i = omega arith in z));

@@ -1,19 +1,19 @@
 -- The nodes that there would be with one word more: one for each prefix of it that no word held has. Assumes nothing.
-use Prim.Native.Nat.{ℕ, zero, suc, _+_, _-_, _≤_, _<_}
+use Prim.Native.Nat.{ℕ, zero, suc, _+_, _-_, _≤_}
 use native.Mathlib.Omega.{arith}
-use mathlib.Core.Path.{_≡_, refl, sym, ap, subst, _∙_}
+use mathlib.Core.Path.{_≡_, refl, sym, ap, _∙_}
 use mathlib.Core.Bool.{Bool, true, false, _||_}
 use mathlib.Core.List.{List, [], _∷_, _++_}
 use mathlib.Core.Logic.{_⊎_, inl, inr}
 use lib.ListN.{length, length-append}
 use Rattle.pool.specs.Words.{Place, none, at, on-place, child, walk, holds, lacking}
 use Rattle.pool.specs.Sound.{Sound}
-use Rattle.pool.specs.Meaning.{Words, same, withWord}
+use Rattle.pool.specs.Meaning.{same, withWord}
 use Rattle.pool.specs.Listing.{Member, Distinct, Number, Prefix}
 use Rattle.pool.proofs.Shape.{walk-two}
 use Rattle.pool.proofs.Rules.{clash}
 use Rattle.pool.proofs.Sets.{same-true, same-self}
-use Rattle.pool.proofs.Listing.{Leads, prefix-leads, leads-prefix, root-only, nodes-in-use}
+use Rattle.pool.proofs.Listing.{prefix-leads, leads-prefix, root-only, nodes-in-use}
 
 -- ---- lists of words
 
@@ -99,9 +99,10 @@ longer-all done (x ∷ r) v l = go (back done r v x l) (longer-all (done ++ (x �
 
 longer-distinct : (done r : List ℕ) → Distinct (longer done r)
 longer-distinct done [] = tt
-longer-distinct done (x ∷ r) =
-    ( λ m. let l = longer-only (done ++ (x ∷ [])) r (done ++ (x ∷ [])) m in omega (arith, l .some, ap length (l .is), length-append (done ++ (x ∷ [])) (l .part))
-    , longer-distinct (done ++ (x ∷ [])) r)
+longer-distinct done (x ∷ r) = (
+  λ m. let l = longer-only (done ++ (x ∷ [])) r (done ++ (x ∷ [])) m in omega (arith, l .some, ap length (l .is), length-append (done ++ (x ∷ [])) (l .part)),
+  longer-distinct (done ++ (x ∷ [])) r,
+)
 
 -- ---- those that lead nowhere
 
@@ -118,7 +119,9 @@ module _ (p : List ℕ) where
 
   new : (done r : List ℕ) (b : ℕ) → walk p done 0 ≡ at b → New done r b
   new done [] b e = record {
-    words = []; distinct = tt; only = λ v m. absurd m;
+    words = [];
+    distinct = tt;
+    only = λ v m. absurd m;
     all = λ v l h. absurd (omega (arith, l .some, ap length (l .whole), length-append (l .part) (l .left)));
     long = refl;
   }

@@ -73,6 +73,11 @@ pub is-marked : (m : ℕ) → not (eqb m 0) ≡ marked m
 is-marked zero = refl
 is-marked (suc m) = ap not (eqb·suc-zero m)
 
+-- the mark as the code reads it
+pub mark-is : (p : List ℕ) (i : ℕ) → not (eqb (getD p (8 * i + 3) 0) 0) ≡ marked (markAt p i)
+unfolding markAt
+mark-is p i = is-marked (getD p (8 * i + 3) 0)
+
 pub ended : (p w : List ℕ) (i t : ℕ) → Inv p w i t → length w ≤ t → not (eqb (getD p (8 * i + 3) 0) 0) ≡ holds p w
 unfolding markAt
 ended p w i t v l = is-marked (getD p (8 * i + 3) 0)

@@ -2,7 +2,7 @@
 -- uses
 use mathlib.Core.Path.{refl, sym}
 use native.Mathlib.Omega.{arith}
-use Rattle.trie_char.proofs.Parts.{inside, long, readable}
+use Rattle.pool_lent.proofs.Parts.{inside, long, readable}
 use Rattle.trie_char.proofs.Changing.{known, used-fits, add-full, add-blank, add-held, puts, add-done, add-refused}
 -- end uses
 use borrow.Author.Needs.{needs}
@@ -15,8 +15,8 @@ use Rattle.pool.proofs.wide.Reads as wide-reads
 use Rattle.pool_change.proofs.add_word.Reads as add-word-reads
 use Rattle.pool_read.proofs.is_held.Reads as is-held-reads
 use Rattle.pool_read.proofs.missing.Reads as missing-reads
-use Rattle.trie_char.proofs.pools.capacity.Reads as capacity-reads
-use Rattle.trie_char.proofs.pools.check_word.Reads as check-word-reads
+use Rattle.pool_lent.proofs.capacity.Reads as capacity-reads
+use Rattle.trie_char.proofs.words.check_word.Reads as check-word-reads
 
 -- src/change.rt:54:9
 check-word-requires : tie.Need-check-word-requires
