@@ -39,12 +39,22 @@ pub span-inside : (word : List ℕ) (a k : ℕ) → a ≡ trimStart word → k �
 span-inside word a k e h =
     omega (arith, start-inside word, e, h, last-inside stays (take (length word - a) (drop a word)), ap length (tail-drop word a), length-drop a word)
 
--- the trimmed word is the part between its two positions
-right : (word : List ℕ) (s : Span) → s ≡ trimOf word → s ≡ fitted (length word) (s .start) (s .end)
-right word s e =
+-- the two positions are a right pair
+pub record Fits (word : List ℕ) (a b : ℕ) : Type 0 where
+  pub order : a ≤ b
+  pub inside : b ≤ length word
+
+pub fits : (word : List ℕ) (s : Span) → s ≡ trimOf word → Fits word (s .start) (s .end)
+fits word s e =
     let x : s .start ≡ trimStart word = ap (λ (q : Span). q .start) e in
     let y : s .end ≡ trimEnd word = ap (λ (q : Span). q .end) e in
-    fit-right (length word) (s .start) (s .end) (simp (le-leb (s .start) (s .end) (omega arith), le-leb (s .end) (length word) (omega (arith, end-inside word))))
+    record { order = omega arith; inside = omega (arith, end-inside word) }
+
+-- the trimmed word is the part between them
+right : (word : List ℕ) (s : Span) → s ≡ trimOf word → s ≡ fitted (length word) (s .start) (s .end)
+right word s e =
+    let f = fits word s e in
+    fit-right (length word) (s .start) (s .end) (simp (le-leb (s .start) (s .end) (f .order), le-leb (s .end) (length word) (f .inside)))
 
 pub part-is : (word : List ℕ) (s : Span) → s ≡ trimOf word → partOf word (s .start) (s .end) ≡ trimmedOf word
 unfolding trimmedOf
