@@ -6,6 +6,7 @@ use mathlib.Core.Path.{_≡_, sym, _∙_, ap}
 use mathlib.Core.List.{List}
 use lib.ListN.{length, take, drop, length-drop}
 use Rattle.basics.specs.Scans.{behindLast}
+use lib.Seq.{length-take-le}
 use borrow.Author.Tests.{le-leb}
 use Rattle.basics.proofs.Parts.{tail-drop}
 use Rattle.basics.proofs.Scans.{leading-inside, last-inside}
@@ -62,3 +63,10 @@ part-is word s e = ap (between word) (sym (right word s e) ∙ e)
 
 pub start-is : (word : List ℕ) (s : Span) → s ≡ trimOf word → fitted (length word) (s .start) (s .end) .start ≡ trimStart word
 start-is word s e = ap (λ (q : Span). q .start) (sym (right word s e) ∙ e)
+
+pub length-is : (word : List ℕ) (s : Span) → s ≡ trimOf word → s .end - s .start ≡ length (trimmedOf word)
+unfolding trimmedOf
+length-is word s e =
+    let f = fits word s e in
+    sym (length-take-le (s .end - s .start) (drop (s .start) word) (omega (arith, f .order, f .inside, length-drop (s .start) word)))
+    ∙ ap (λ (q : Span). length (take (q .end - q .start) (drop (q .start) word))) e
