@@ -9,9 +9,8 @@ use lib.Dec.{ltb}
 use borrow.Author.Tests.{ltb-false, lt-ltb, le-ltb}
 use Rattle.refusal.specs.declared.Refusal.{Refusal}
 use Rattle.refusal.specs.declared.Refusal.the-variants.{TooManyScalars, NotAScalar, OutputTooShort}
-use Rattle.refusal.specs.declared.Answer.{Answer}
 use Rattle.refusal.specs.declared.Answer.the-variants.{Accepted, Refused}
-use Rattle.refusal.specs.Answers.{Row, answer}
+use Rattle.refusal.specs.Answers.{answer}
 use Rattle.refusal.proofs.Order.{not-both, refused-first, accepted-first}
 use Rattle.char_string.specs.Scalars.{textRows, firstNonScalar, checked}
 use Rattle.tcc_rules.specs.Clusters.{clusterEnds}

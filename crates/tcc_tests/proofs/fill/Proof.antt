@@ -6,8 +6,6 @@ use lib.ListN.{length, length-set}
 use borrow.Author.Needs.{needs}
 use Rattle.tcc_tests.proofs.fill.Statement.{statement}
 use Rattle.tcc_tests.proofs.fill.Tie as tie
-use Rattle.tcc_tests.proofs.fill.Reads as reads
-use Rattle.tcc_tests.proofs.fill.Lts as lts
 
 abbrev Inv-loop : tie.InvT-loop
 Inv-loop row₀ i₀ row i = (i ≤ length row) × (length row ≡ length row₀)
@@ -15,35 +13,27 @@ Inv-loop row₀ i₀ row i = (i ≤ length row) × (length row ≡ length row₀
 abbrev μ-loop : tie.MeasureT-loop
 μ-loop row₀ i₀ row i = length row₀ - i
 
--- src/main.rt:121:5
 loop-holds : tie.Need-loop-holds Inv-loop μ-loop
 loop-holds c = search needs
 
--- src/main.rt:122:9
 mul-row : tie.Need-mul-row Inv-loop μ-loop
 mul-row c = search needs
 
--- src/main.rt:122:9
 slice-write-row : tie.Need-slice-write-row Inv-loop μ-loop
 slice-write-row c = search needs
 
--- src/main.rt:123:9
 add-i : tie.Need-add-i Inv-loop μ-loop
 add-i c = search needs
 
--- src/main.rt:121:5
 loop-less : tie.Need-loop-less Inv-loop μ-loop
 loop-less c = search needs
 
--- src/main.rt:121:5
 loop-again : tie.Need-loop-again Inv-loop μ-loop
 loop-again c = (simp length-set (omega arith), simp length-set (omega arith))
 
--- src/main.rt:119:1
 same-length : tie.Need-same-length Inv-loop μ-loop
 same-length c = search needs
 
--- src/main.rt:119:1
 returns : tie.Need-returns Inv-loop μ-loop
 returns c = search needs
 

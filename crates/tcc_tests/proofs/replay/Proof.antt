@@ -5,12 +5,6 @@ use lib.ListN.{length}
 use borrow.Author.Needs.{needs}
 use Rattle.tcc_tests.proofs.replay.Statement.{statement}
 use Rattle.tcc_tests.proofs.replay.Tie as tie
-use Rattle.tcc_tests.proofs.replay.Reads as reads
-use Rattle.tcc_tests.proofs.replay.Lts as lts
-use Rattle.tcc_tests.proofs.answer.Reads as answer-reads
-use Rattle.vector_lines.proofs.behind.Reads as behind-reads
-use Rattle.vector_lines.proofs.part_at.Reads as part-at-reads
-use Rattle.vector_lines.proofs.print.Reads as print-reads
 
 abbrev Inv-loop : tie.InvT-loop
 Inv-loop input text₀ out₀ at₀ t5 text out at = (length text ≡ length text₀) × (length out ≡ length out₀)
@@ -18,47 +12,36 @@ Inv-loop input text₀ out₀ at₀ t5 text out at = (length text ≡ length tex
 abbrev μ-loop : tie.MeasureT-loop
 μ-loop input text₀ out₀ at₀ t5 text out at = length input - at
 
--- src/main.rt:34:5
 loop-holds : tie.Need-loop-holds Inv-loop μ-loop
 loop-holds c = search needs
 
--- src/main.rt:35:16
 part-at-requires : tie.Need-part-at-requires Inv-loop μ-loop
 part-at-requires c κs = search needs
 
--- src/main.rt:35:9
 answer-requires : tie.Need-answer-requires Inv-loop μ-loop
 answer-requires c κs = search needs
 
--- src/main.rt:36:15
 slice-aggregate-print : tie.Need-slice-aggregate-print Inv-loop μ-loop
 slice-aggregate-print c = search needs
 
--- src/main.rt:36:9
 print-requires : tie.Need-print-requires Inv-loop μ-loop
 print-requires c κs = search needs
 
--- src/main.rt:37:9
 behind-requires : tie.Need-behind-requires Inv-loop μ-loop
 behind-requires c κs = search needs
 
--- src/main.rt:34:5
 loop-less : tie.Need-loop-less Inv-loop μ-loop
 loop-less c = search needs
 
--- src/main.rt:34:5
 loop-again : tie.Need-loop-again Inv-loop μ-loop
 loop-again c = search needs
 
--- src/main.rt:32:1
 same-length : tie.Need-same-length Inv-loop μ-loop
 same-length c = search needs
 
--- src/main.rt:32:1
 same-length-2 : tie.Need-same-length-2 Inv-loop μ-loop
 same-length-2 c = search needs
 
--- src/main.rt:32:1
 returns : tie.Need-returns Inv-loop μ-loop
 returns c = search needs
 
