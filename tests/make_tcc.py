@@ -154,6 +154,8 @@ def lines(path, written):
     for length in (3, 8, 30, 60):
         texts += ["".join(draw.choice(CHARACTERS) for _ in range(length)) for _ in range(150)]
     texts += ["".join(draw.choice(CHARACTERS) for _ in range(3000)) for _ in range(4)]
+    won = set().union(*(clusters(text, rules)[1] for text in texts))
+    assert won == {0, *WINNERS}, sorted(won)
     for text in texts:
         row = [ord(x) for x in text]
         made.append((["clusters", vectors.cells(row), "*"], answer(row, "*", rules)))
