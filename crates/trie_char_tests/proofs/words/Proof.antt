@@ -5,14 +5,6 @@ use lib.ListN.{length}
 use borrow.Author.Needs.{needs}
 use Rattle.trie_char_tests.proofs.words.Statement.{statement}
 use Rattle.trie_char_tests.proofs.words.Tie as tie
-use Rattle.trie_char_tests.proofs.words.Reads as reads
-use Rattle.trie_char_tests.proofs.words.Lts as lts
-use Rattle.trie_char.proofs.add.Reads as add-reads
-use Rattle.vector_lines.proofs.behind.Reads as behind-reads
-use Rattle.vector_lines.proofs.is.Reads as is-reads
-use Rattle.vector_lines.proofs.part_at.Reads as part-at-reads
-use Rattle.vector_lines.proofs.first.Reads as first-reads
-use Rattle.vector_lines.proofs.read_cells.Reads as read-cells-reads
 
 abbrev Inv-loop : tie.InvT-loop
 Inv-loop list pool₀ cells₀ at₀ pool cells at = (length pool ≡ length pool₀) × (length cells ≡ length cells₀)
@@ -20,63 +12,48 @@ Inv-loop list pool₀ cells₀ at₀ pool cells at = (length pool ≡ length poo
 abbrev μ-loop : tie.MeasureT-loop
 μ-loop list pool₀ cells₀ at₀ pool cells at = length list - at
 
--- src/main.rt:196:17
 slice-aggregate-is : tie.Need-slice-aggregate-is Inv-loop μ-loop
 slice-aggregate-is c = search needs
 
--- src/main.rt:196:8
 is-requires : tie.Need-is-requires Inv-loop μ-loop
 is-requires c κs = search needs
 
--- src/main.rt:197:9
 returns : tie.Need-returns Inv-loop μ-loop
 returns c = search needs
 
--- src/main.rt:200:5
 loop-holds : tie.Need-loop-holds Inv-loop μ-loop
 loop-holds c = search needs
 
--- src/main.rt:201:36
 part-at-requires : tie.Need-part-at-requires Inv-loop μ-loop
 part-at-requires c κs = search needs
 
--- src/main.rt:201:28
 part-at-requires-2 : tie.Need-part-at-requires-2 Inv-loop μ-loop
 part-at-requires-2 c κs = search needs
 
--- src/main.rt:201:13
 read-cells-requires : tie.Need-read-cells-requires Inv-loop μ-loop
 read-cells-requires c κs = search needs
 
--- src/main.rt:202:30
 first-requires : tie.Need-first-requires Inv-loop μ-loop
 first-requires c κs = search needs
 
--- src/main.rt:202:9
 add-requires : tie.Need-add-requires Inv-loop μ-loop
 add-requires c κs = search needs
 
--- src/main.rt:203:9
 behind-requires : tie.Need-behind-requires Inv-loop μ-loop
 behind-requires c κs = search needs
 
--- src/main.rt:200:5
 loop-less : tie.Need-loop-less Inv-loop μ-loop
 loop-less c = search needs
 
--- src/main.rt:200:5
 loop-again : tie.Need-loop-again Inv-loop μ-loop
 loop-again c = search needs
 
--- src/main.rt:195:1
 same-length : tie.Need-same-length Inv-loop μ-loop
 same-length c = search needs
 
--- src/main.rt:195:1
 same-length-2 : tie.Need-same-length-2 Inv-loop μ-loop
 same-length-2 c = search needs
 
--- src/main.rt:195:1
 returns-2 : tie.Need-returns-2 Inv-loop μ-loop
 returns-2 c = search needs
 
