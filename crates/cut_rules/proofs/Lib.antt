@@ -1,2 +1,5 @@
+pub mod Positions
+pub mod Spans
+pub mod Search
 pub mod Cases
 pub mod SameWords

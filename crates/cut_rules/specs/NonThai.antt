@@ -48,7 +48,7 @@ lineEnd (x ∷ []) = cond (eqb x 0xA) 1 0
 lineEnd (x ∷ y ∷ s) = cond (eqb x 0xA) 1 (cond (eqb x 0xD && eqb y 0xA) 2 0)
 
 -- the first alternative that matches
-abbrev pub firstMatch : List ℕ → ℕ
+unfoldable pub firstMatch : List ℕ → ℕ
 firstMatch [] = 0
 firstMatch (m ∷ ms) = cond (eqb m 0) (firstMatch ms) m
 
