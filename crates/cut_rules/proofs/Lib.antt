@@ -1,5 +1,10 @@
 pub mod Positions
 pub mod Spans
 pub mod Search
+pub mod Edges
+pub mod Tokens
+pub mod Recording
+pub mod Turns
+pub mod Result
 pub mod Cases
 pub mod SameWords
