@@ -1,21 +1,19 @@
 -- Step 1: what recording the words at a place comes to. Assumes nothing.
-use Prim.Native.Nat.{ℕ, zero, suc, _+_, _*_, _-_, _≤_, _<_}
+use Prim.Native.Nat.{ℕ, suc, _+_, _≤_, _<_}
 use native.Mathlib.Omega.{arith}
 use mathlib.Core.Path.{_≡_, refl, sym, _∙_, ap, subst}
 use mathlib.Core.Bool.{Bool, true, false, cond}
-use mathlib.Core.Logic.{_⊎_, inl, inr, ⊎-elim}
-use mathlib.Core.List.{List, [], _∷_, _++_, List·Memᴰ·head, List·Memᴰ·tail, List·Memᴰ·cases-cons, List·Memᴰ·append-cases, List·Memᴰ·not-nil, List·Memᴰ·eq-of-singleton, Memᴰ·cast, Memᴰ·append-left, Memᴰ·append-right}
+use mathlib.Core.Logic.{_⊎_, inr, ⊎-elim}
+use mathlib.Core.List.{List, [], _∷_, _++_, List·Memᴰ·head, List·Memᴰ·tail, List·Memᴰ·cases-cons, List·Memᴰ·append-cases, List·Memᴰ·not-nil, List·Memᴰ·eq-of-singleton, Memᴰ·cast, Memᴰ·append-right}
 use lib.ListN.{length}
-use lib.Dec.{eqb, ltb}
-use borrow.Author.Tests.{ltb-true, ltb-false}
+use lib.Dec.{ltb}
 use Rattle.cut_rules.specs.Positions.{member, inserted}
 use Rattle.cut_rules.specs.Words.{Given, size, wordEnds}
-use Rattle.cut_rules.specs.Search.{Graph}
 use Rattle.cut_rules.specs.Cutting.{Edge, State, recorded, recordedAll, graphOf}
-use Rattle.cut_rules.proofs.Positions.{In, Rises, none, next, at-least, member-in, put-rises, put-in, put-keeps, put-only}
-use Rattle.cut_rules.proofs.Spans.{word-spans, token-spans}
-use Rattle.cut_rules.proofs.Search.{Chain, Reach, here, edge, Within, path-found}
-use Rattle.cut_rules.proofs.Edges.{edgeOf, graph-in, in-graph, reach-more, few-stand, each-counted}
+use Rattle.cut_rules.proofs.Positions.{In, Rises, none, member-in, put-rises, put-in, put-keeps, put-only}
+use Rattle.cut_rules.proofs.Spans.{word-spans}
+use Rattle.cut_rules.proofs.Search.{Reach, here, edge}
+use Rattle.cut_rules.proofs.Edges.{edgeOf, in-graph, reach-more}
 
 -- an edge that stands leads from a place below low, at or above the committed end, along a word that ends at a cluster end
 pub record Stands (g : Given) (low : ℕ) (s : State) (x y : ℕ) : Type 0 where

@@ -2,14 +2,14 @@
 use Prim.Native.Nat.{ℕ, zero, suc, _+_, _*_, _-_, _≤_, _<_}
 use native.Mathlib.Omega.{arith}
 use native.Mathlib.Decide.{decLt}
-use mathlib.Core.Path.{_≡_, refl, sym, _∙_, ap, subst}
+use mathlib.Core.Path.{_≡_, refl, sym, subst}
 use mathlib.Core.List.{List, [], _∷_, List·Memᴰ·head, List·Memᴰ·tail}
 use lib.ListN.{length, getD}
 use Rattle.cut_rules.specs.Words.{Given, size}
 use Rattle.cut_rules.specs.Cutting.{State, begin, turn, turns, cut}
 use Rattle.cut_rules.proofs.Positions.{In, Rises, at-least}
 use Rattle.cut_rules.proofs.Tokens.{Tokens, rising, last-is, few-tokens, none-here}
-use Rattle.cut_rules.proofs.Turns.{Between, Turned, at-first, turn-on, turn-off, rest-rises}
+use Rattle.cut_rules.proofs.Turns.{Between, at-first, turn-on, turn-off, rest-rises}
 
 -- no candidate below n is left
 pub record Ended (g : Given) (s : State) : Type 0 where

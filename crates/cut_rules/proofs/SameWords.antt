@@ -3,7 +3,6 @@ use Prim.Native.Nat.{ℕ}
 use mathlib.Core.Path.{_≡_}
 use mathlib.Core.Bool.{Bool}
 use mathlib.Core.List.{List}
-use Rattle.cut_rules.specs.Words.{Given}
 use Rattle.cut_rules.specs.Cutting.{cut}
 
 pub same-words : (text : List ℕ) (isEnd : ℕ → Bool) (held held′ : List ℕ → Bool) → ((w : List ℕ) → held w ≡ held′ w)

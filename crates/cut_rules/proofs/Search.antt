@@ -10,7 +10,7 @@ use lib.Dec.{eqb}
 use borrow.Author.Tests.{eqb-true, eqb-false, eq-eqb, ne-eqb}
 use Rattle.cut_rules.specs.Positions.{upFrom, keep, those, any, member}
 use Rattle.cut_rules.specs.Search.{Graph, Way, farther, Queue, queued, Passed, reached, onward, passed, after, searched, pathTo}
-use Rattle.cut_rules.proofs.Positions.{In, member-in, in-member}
+use Rattle.cut_rules.proofs.Positions.{In, member-in}
 
 -- the vertices after a on a way along edges to z
 pub data Chain (graph : Graph) : ℕ → List ℕ → ℕ → Type 0 where

@@ -1,7 +1,7 @@
 -- Where words and tokens of the non-dictionary rule end: behind their start, and within the text. Assumes nothing.
 use Prim.Native.Nat.{ℕ, zero, suc, _+_, _-_, _≤_, _<_, min}
 use native.Mathlib.Omega.{arith}
-use mathlib.Core.Path.{_≡_, refl, sym, _∙_, ap}
+use mathlib.Core.Path.{_≡_, refl}
 use mathlib.Core.Bool.{Bool, true, false, cond, _&&_}
 use mathlib.Core.Logic.{⊎-elim}
 use mathlib.Core.List.{List, [], _∷_}
@@ -10,7 +10,7 @@ use lib.Dec.{eqb}
 use borrow.Author.Tests.{eqb-false}
 use Rattle.basics.specs.Scans.{leading}
 use Rattle.basics.proofs.Scans.{leading-inside}
-use Rattle.cut_rules.specs.Positions.{upFrom, those}
+use Rattle.cut_rules.specs.Positions.{upFrom}
 use Rattle.cut_rules.specs.NonThai.{isLetter, isDigit, isThaiDigit, isPoint, isBlank, groupOf, groups, number, lineEnd, firstMatch, nonThai}
 use Rattle.cut_rules.specs.Words.{Given, size, isWord, wordEnds}
 use Rattle.cut_rules.specs.NonDictionary.{nonThaiAt, stopsAt, skipEnd, tokenEnd}

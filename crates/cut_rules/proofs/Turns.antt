@@ -1,13 +1,11 @@
 -- What holds between turns, and that a turn keeps it. Assumes nothing.
-use Prim.Native.Nat.{ℕ, zero, suc, _+_, _*_, _-_, _≤_, _<_}
+use Prim.Native.Nat.{ℕ, suc, _+_, _*_, _-_, _≤_, _<_}
 use native.Mathlib.Omega.{arith}
 use native.Mathlib.Decide.{decLt}
 use mathlib.Core.Path.{_≡_, refl, sym, _∙_, ap, subst}
-use mathlib.Core.Bool.{Bool, true, false, cond}
 use mathlib.Core.Logic.{⊎-elim}
-use mathlib.Core.List.{List, [], _∷_, _++_, List·Memᴰ·head, List·Memᴰ·tail, List·Memᴰ·cases-cons, List·Memᴰ·not-nil, List·Memᴰ·eq-of-singleton, Memᴰ·cast, nil≢cons}
+use mathlib.Core.List.{List, [], _∷_, List·Memᴰ·head, List·Memᴰ·tail, List·Memᴰ·cases-cons, List·Memᴰ·not-nil, List·Memᴰ·eq-of-singleton, nil≢cons}
 use lib.ListN.{length}
-use lib.Dec.{ltb}
 use borrow.Author.Tests.{lt-ltb, le-ltb}
 use Rattle.cut_rules.specs.Words.{Given, size, wordEnds}
 use Rattle.cut_rules.specs.NonDictionary.{tokenEnd}
@@ -16,9 +14,9 @@ use Rattle.cut_rules.specs.Cutting.{State, begin, recordedAll, graphOf, 
 use Rattle.cut_rules.proofs.Positions.{In, Rises, none, next, at-least}
 use Rattle.cut_rules.proofs.Spans.{word-spans, token-spans}
 use Rattle.cut_rules.proofs.Search.{Chain, Reach, here, Within, path-found}
-use Rattle.cut_rules.proofs.Edges.{edgeOf, graph-in, few-stand, each-counted}
+use Rattle.cut_rules.proofs.Edges.{graph-in, few-stand, each-counted}
 use Rattle.cut_rules.proofs.Tokens.{Tokens, other, stop, then, behind, chained}
-use Rattle.cut_rules.proofs.Recording.{Stands, Handled, Placing, Placed, placed}
+use Rattle.cut_rules.proofs.Recording.{Handled, Placing, Placed, placed}
 
 -- Between turns: the places below the least candidate are handled; a sole candidate is the committed end; edges and their count keep within
 -- their bounds; and the ends so far are tokens from 0 to the committed end.
