@@ -1,4 +1,5 @@
 pub mod Positions
+pub mod Counting
 pub mod Spans
 pub mod Search
 pub mod Edges

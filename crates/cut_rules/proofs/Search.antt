@@ -8,8 +8,9 @@ use mathlib.Core.List.{List, [], _∷_, _++_, List·Memᴰ·head, List·Memᴰ·
 use lib.ListN.{length, length-append}
 use lib.Dec.{eqb}
 use borrow.Author.Tests.{eqb-true, eqb-false, eq-eqb, ne-eqb}
-use Rattle.cut_rules.specs.Positions.{upFrom, keep, those, any, member}
+use Rattle.cut_rules.specs.Positions.{howMany, any, member}
 use Rattle.cut_rules.specs.Search.{Graph, Way, farther, Queue, queued, Passed, reached, onward, passed, after, searched, pathTo}
+use Rattle.cut_rules.proofs.Counting.{one-fewer, many-most}
 use Rattle.cut_rules.proofs.Positions.{In, member-in}
 
 -- the vertices after a on a way along edges to z
@@ -27,71 +28,23 @@ pub data Reach (graph : Graph) (a : ℕ) : ℕ → Type 0 where
   here : Reach graph a a
   edge : {x z : ℕ} → Reach graph a x → In z (graph x) → Reach graph a z
 
--- ---- how many of m positions from a on were never queued
+-- ---- how many of k positions from a on were never queued
+
+unseen : List ℕ → ℕ → Bool
+unseen seen p = not (member p seen)
 
 fresh : List ℕ → ℕ → ℕ → ℕ
-fresh seen a m = length (those (λ (p : ℕ). not (member p seen)) (upFrom m a))
-
-abbrev grown : Bool → ℕ → ℕ
-grown true k = suc k
-grown false k = k
-
-length-keep : (t : Bool) (x : ℕ) (xs : List ℕ) → length (keep t x xs) ≡ grown t (length xs)
-length-keep true x xs = refl
-length-keep false x xs = refl
-
-fresh-zero : (seen : List ℕ) (a : ℕ) → fresh seen a 0 ≡ 0
-unfolding fresh upFrom those
-fresh-zero seen a = refl
-
-fresh-suc : (seen : List ℕ) (a m : ℕ) → fresh seen a (suc m) ≡ grown (not (member a seen)) (fresh seen (suc a) m)
-unfolding fresh upFrom those
-fresh-suc seen a m = length-keep (not (member a seen)) a (those (λ (p : ℕ). not (member p seen)) (upFrom m (suc a)))
-
-member-other : (x p : ℕ) (seen : List ℕ) → (p ≡ x → ⊥) → member p (x ∷ seen) ≡ member p seen
-unfolding any
-member-other x p seen n = rw (ne-eqb p x n)
-
-member-same : (x p : ℕ) (seen : List ℕ) → p ≡ x → member p (x ∷ seen) ≡ true
-unfolding any
-member-same x p seen e = rw (eq-eqb p x e)
-
--- a vertex that lies before them doesn't count
-fresh-before : (x : ℕ) (seen : List ℕ) (a m : ℕ) → x < a → fresh (x ∷ seen) a m ≡ fresh seen a m
-fresh-before x seen a zero h = fresh-zero (x ∷ seen) a ∙ sym (fresh-zero seen a)
-fresh-before x seen a (suc m) h =
-    fresh-suc (x ∷ seen) a m
-    ∙ ap (λ (t : Bool). grown (not t) (fresh (x ∷ seen) (suc a) m)) (member-other x a seen (λ e. omega arith))
-    ∙ ap (grown (not (member a seen))) (fresh-before x seen (suc a) m (omega arith))
-    ∙ sym (fresh-suc seen a m)
+fresh seen a k = howMany (unseen seen) k a
 
 -- one among them that is queued for the first time leaves one less
-fresh-less : (x : ℕ) (seen : List ℕ) (a m : ℕ) → a ≤ x → x < a + m → member x seen ≡ false → suc (fresh (x ∷ seen) a m) ≡ fresh seen a m
-fresh-less x seen a zero h k n = absurd (omega arith)
-fresh-less x seen a (suc m) h k n = go (λ u v. fresh-less x seen (suc a) m u v n) (eqb a x) refl
-  where
-    go : (suc a ≤ x → x < suc a + m → suc (fresh (x ∷ seen) (suc a) m) ≡ fresh seen (suc a) m) → (t : Bool) → eqb a x ≡ t → suc (fresh (x ∷ seen) a (suc m)) ≡ fresh seen a (suc m)
-    go ih true e =
-        let q = eqb-true a x e in
-        ap suc (fresh-suc (x ∷ seen) a m ∙ ap (λ (t : Bool). grown (not t) (fresh (x ∷ seen) (suc a) m)) (member-same x a seen q) ∙ fresh-before x seen (suc a) m (omega arith))
-        ∙ sym (fresh-suc seen a m ∙ ap (λ (t : Bool). grown (not t) (fresh seen (suc a) m)) (ap (λ (p : ℕ). member p seen) q ∙ n))
-    go ih false e =
-        let q = eqb-false a x e in
-        ap suc (fresh-suc (x ∷ seen) a m ∙ ap (λ (t : Bool). grown (not t) (fresh (x ∷ seen) (suc a) m)) (member-other x a seen q))
-        ∙ out (member a seen) (ih (omega arith) (omega arith))
-        ∙ sym (fresh-suc seen a m)
-      where
-        out : (t : Bool) → suc (fresh (x ∷ seen) (suc a) m) ≡ fresh seen (suc a) m → suc (grown (not t) (fresh (x ∷ seen) (suc a) m)) ≡ grown (not t) (fresh seen (suc a) m)
-        out true i = i
-        out false i = ap suc i
+fresh-less : (x : ℕ) (seen : List ℕ) (a k : ℕ) → a ≤ x → x < a + k → member x seen ≡ false → suc (fresh (x ∷ seen) a k) ≡ fresh seen a k
+unfolding fresh unseen any
+fresh-less x seen a k h l n =
+    one-fewer (unseen seen) (unseen (x ∷ seen)) x k a (ap not n) (rw (eq-eqb x x refl)) (λ y o. rw (ne-eqb y x o)) h l
 
-fresh-most : (seen : List ℕ) (a m : ℕ) → fresh seen a m ≤ m
-fresh-most seen a zero = omega (arith, fresh-zero seen a)
-fresh-most seen a (suc m) = go (not (member a seen)) (fresh-suc seen a m) (fresh-most seen (suc a) m)
-  where
-    go : (t : Bool) → fresh seen a (suc m) ≡ grown t (fresh seen (suc a) m) → fresh seen (suc a) m ≤ m → fresh seen a (suc m) ≤ suc m
-    go true e h = omega arith
-    go false e h = omega arith
+fresh-most : (seen : List ℕ) (a k : ℕ) → fresh seen a k ≤ k
+unfolding fresh
+fresh-most seen a k = many-most (unseen seen) k a
 
 -- some way that waits reaches x
 record Waits (ways : List Way) (x : ℕ) : Type 0 where

@@ -2,6 +2,7 @@
 use Prim.Native.Nat.{ℕ, zero, suc}
 use mathlib.Core.Bool.{Bool, true, false, cond, _||_}
 use mathlib.Core.List.{List, [], _∷_}
+use lib.ListN.{length}
 use lib.Dec.{ltb, eqb}
 
 -- k positions from p on
@@ -18,6 +19,10 @@ keep false x xs = xs
 unfoldable pub those : (ℕ → Bool) → List ℕ → List ℕ
 those test [] = []
 those test (x ∷ xs) = keep (test x) x (those test xs)
+
+-- how many of k positions from p on pass the test
+unfoldable pub howMany : (ℕ → Bool) → ℕ → ℕ → ℕ
+howMany test k p = length (those test (upFrom k p))
 
 -- the first that passes the test, or d
 unfoldable pub firstOr : ℕ → (ℕ → Bool) → List ℕ → ℕ
