@@ -1,5 +1,5 @@
 -- A step of a walk, over plain values. Assumes nothing.
-use Prim.Native.Nat.{ℕ, zero, suc, _+_, _-_, _*_, _<_}
+use Prim.Native.Nat.{ℕ, zero, suc, _+_, _-_, _*_, _≤_, _<_}
 use native.Mathlib.Omega.{arith}
 use native.Mathlib.Nat.{sub-self}
 use mathlib.Core.Path.{_≡_, refl, sym, _∙_, ap}
@@ -21,6 +21,30 @@ use Rattle.word_walk.specs.Walks.{givenBy, Walked, Asks, Next}
 
 pub start-walk : (text pool : List ℕ) (b : ℕ) → Walked text pool b b 0
 start-walk text pool b = record { order = omega arith; leads = ap (λ (k : ℕ). walk pool (take k (drop b text)) 0) (sub-self b) }
+
+-- ---- a flag tells of a cluster end
+
+flag-at : (text : List ℕ) {flags : List ℕ} {p : ℕ} → flags ≡ endFlags text → p ≤ length text → getD flags p 0 ≡ flag (isEnd text p)
+flag-at text {flags} {p} e h = ap (λ (l : List ℕ). getD l p 0) (e ∙ sym (append-nil (endFlags text))) ∙ ends-at text [] p h
+
+flag-no : (t : Bool) → flag t ≡ 0 → t ≡ false
+flag-no true e = absurd (omega arith)
+flag-no false e = refl
+
+flag-yes : (t : Bool) → (flag t ≡ 0 → ⊥) → t ≡ true
+flag-yes true n = refl
+flag-yes false n = absurd (n refl)
+
+pub end-no : (text : List ℕ) {flags : List ℕ} {p : ℕ} → flags ≡ endFlags text → p ≤ length text → getD flags p 0 ≡ 0 → isEnd text p ≡ false
+end-no text {flags} {p} e h z = flag-no (isEnd text p) (sym (flag-at text e h) ∙ z)
+
+pub end-yes : (text : List ℕ) {flags : List ℕ} {p : ℕ} → flags ≡ endFlags text → p ≤ length text → (getD flags p 0 ≡ 0 → ⊥) → isEnd text p ≡ true
+end-yes text {flags} {p} e h n = flag-yes (isEnd text p) (λ z. n (flag-at text e h ∙ z))
+
+pub flags-size : (text : List ℕ) {flags : List ℕ} → flags ≡ endFlags text → length flags ≡ length text + 1
+flags-size text e = ap length e ∙ ends-long text
+
+-- ---- a step
 
 module _ {text pool flags : List ℕ} {e node : ℕ} (a : Asks text pool flags e node) where
   module _ {b : ℕ} (w : Walked text pool b e node) where
@@ -62,18 +86,6 @@ module _ {text pool flags : List ℕ} {e node : ℕ} (a : Asks text pool flags e
     marked-yes zero n = absurd (n refl)
     marked-yes (suc m) n = refl
 
-    flag-here : getD flags (e + 1) 0 ≡ flag (isEnd text (e + 1))
-    flag-here =
-        ap (λ (l : List ℕ). getD l (e + 1) 0) (a .flags-are ∙ sym (append-nil (endFlags text))) ∙ ends-at text [] (e + 1) (omega (arith, a .inside))
-
-    flag-no : (t : Bool) → flag t ≡ 0 → t ≡ false
-    flag-no true e = absurd (omega arith)
-    flag-no false e = refl
-
-    flag-yes : (t : Bool) → (flag t ≡ 0 → ⊥) → t ≡ true
-    flag-yes true n = refl
-    flag-yes false n = absurd (n refl)
-
     pub flag-index : e + 1 < length flags
     flag-index = omega (arith, ap length (a .flags-are), ends-long text, a .inside)
 
@@ -90,8 +102,8 @@ module _ {text pool flags : List ℕ} {e node : ℕ} (a : Asks text pool flags e
 
     pub unended-part : getD flags (e + 1) 0 ≡ 0 → (b : ℕ) → Walked text pool b e node → Next text pool b e r false
     unended-part z b w =
-        next-of w (tells-of w c q (marked (markAt pool r)) false refl (flag-no (isEnd text (e + 1)) (sym flag-here ∙ z)) ∙ and-false (marked (markAt pool r)))
+        next-of w (tells-of w c q (marked (markAt pool r)) false refl (end-no text (a .flags-are) (omega (arith, a .inside)) z) ∙ and-false (marked (markAt pool r)))
 
     pub whole-word : (getD pool (8 * r + 3) 0 ≡ 0 → ⊥) → (getD flags (e + 1) 0 ≡ 0 → ⊥) → (b : ℕ) → Walked text pool b e node → Next text pool b e r true
     unfolding markAt
-    whole-word m f b w = next-of w (tells-of w c q true true (marked-yes (getD pool (8 * r + 3) 0) m) (flag-yes (isEnd text (e + 1)) (λ z. f (flag-here ∙ z))))
+    whole-word m f b w = next-of w (tells-of w c q true true (marked-yes (getD pool (8 * r + 3) 0) m) (end-yes text (a .flags-are) (omega (arith, a .inside)) f))
