@@ -237,5 +237,5 @@ turn-at {g} {s} h k =
       order = h .order;
       placed-at = step1 g s (h .least) (h .rest) (h .is) k (h .handled) (h .order) (h .sole) (h .few) (h .total) (h .tokens);
       turn-is = ap (λ (l : List ℕ). turn g l s) (h .is) ∙ rw (lt-ltb (h .least) (size g) k);
-      turned-to = settles g s (h .least) (h .rest) (h .is) k (h .handled) (h .order) (h .sole) (h .few) (h .total) (h .tokens) (afterWords g s (h .least) (h .rest) .candidates) refl
+      turned-to = settles g s (h .least) (h .rest) (h .is) k (h .handled) (h .order) (h .sole) (h .few) (h .total) (h .tokens) (afterWords g s (h .least) (h .rest) .candidates) refl;
     }

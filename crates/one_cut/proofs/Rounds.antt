@@ -5,31 +5,32 @@ use native.Mathlib.Numerals.{add-one}
 use native.Mathlib.Decide.{decLt}
 use mathlib.Core.Path.{_≡_, refl, sym, _∙_, ap, subst}
 use mathlib.Core.Bool.{Bool, true, false, not}
-use mathlib.Core.List.{List, [], _∷_, _++_, List·Memᴰ·head, List·Memᴰ·tail, List·Memᴰ·cases-cons, List·Memᴰ·not-nil, List·Memᴰ·eq-of-singleton, head-eq-of-cons-eq, tail-eq-of-cons-eq}
-use lib.ListN.{length, getD, set, take, drop, length-set, length-append, length-drop}
-use lib.Seq.{getD-set-same, getD-set-other, take-set-le, take-set-lt, drop-set-lt, take-suc-set, take-take, getD-take, getD-drop, length-take-le}
+use mathlib.Core.List.{List, [], _∷_, _++_, append-nil, List·Memᴰ·head, List·Memᴰ·tail, List·Memᴰ·eq-of-singleton, head-eq-of-cons-eq, tail-eq-of-cons-eq}
+use lib.ListN.{length, getD, set, take, drop, length-set, length-append, length-drop, replicate, drop-of-length-le, List·getD-append}
+use lib.Seq.{getD-set-same, getD-set-other, take-set-le, drop-set-lt, take-suc-set, take-take, getD-take, getD-drop, length-take-le, take-at, drop-at}
 use lib.Dec.{eqb}
 use borrow.Author.Tests.{eq-eqb, ne-eqb, eqb-true, eqb-false}
 use Rattle.cut_rules.specs.Positions.{any, member}
 use Rattle.cut_rules.specs.Words.{Given, size, wordEnds}
 use Rattle.cut_rules.specs.NonDictionary.{tokenEnd}
-use Rattle.cut_rules.specs.Search.{Graph, pathTo}
-use Rattle.cut_rules.specs.Cutting.{State, begin, recordedAll, graphOf, commit, settled, takenOut, turn, turns, cut}
+use Rattle.cut_rules.specs.Search.{pathTo}
+use Rattle.cut_rules.specs.Cutting.{State, begin, graphOf, commit, settled, takenOut, turn, turns, cut}
 use Rattle.cut_rules.proofs.Positions.{In, Rises, none, next, at-least, member-in, in-member, not-in}
 use Rattle.cut_rules.proofs.Spans.{word-spans, token-spans}
-use Rattle.cut_rules.proofs.Edges.{edgeOf, graph-in, few-stand}
+use Rattle.cut_rules.proofs.Edges.{graph-in, few-stand}
 use Rattle.cut_rules.proofs.Tokens.{few-tokens}
-use Rattle.cut_rules.proofs.Recording.{Stands, Handled, Placing, Placed}
-use Rattle.cut_rules.proofs.Turns.{Between, Turned, afterWords, At, turn-at}
+use Rattle.cut_rules.proofs.Recording.{Placing}
+use Rattle.cut_rules.proofs.Turns.{Between, Turned, at-first, turn-off, afterWords, At, turn-at}
 use Rattle.bfs.specs.Rows.{Sized, graphIn, before, Edges, Start, Path}
 use Rattle.bfs.proofs.Rows.{above-same, drop-same}
 use Rattle.bfs.proofs.Same.{path-same}
 use Rattle.tcc.specs.Flags.{endFlags}
+use Rattle.tcc.proofs.Marks.{ends-long}
 use Rattle.pool.specs.Sound.{Readable}
 use Rattle.word_walk.specs.Walks.{givenBy}
 use Rattle.word_edges.specs.declared.Progress.{Progress}
 use Rattle.word_edges.specs.Recording.{Rows, Counts, Here, Alone, After, RecordsAll}
-use Rattle.one_cut.specs.Rows.{NextIs, TokenAt}
+use Rattle.one_cut.specs.Rows.{NextIs, TokenAt, Fresh, Done}
 
 -- the rows stand for the state s of the definition, whose least candidate is b
 pub record Round (text pool row : List ℕ) (m b committed ends : ℕ) (p : Progress) : Type 0 where
@@ -74,6 +75,17 @@ member-again x y l i = go (eqb x y) refl
     go : (t : Bool) → eqb x y ≡ t → member x (y ∷ l) ≡ member x l
     go true e = simp e (sym (ap (λ (z : ℕ). member z l) (eqb-true x y e) ∙ in-member y l i))
     go false e = simp e
+
+first-marks : (row : List ℕ) (m x : ℕ) → getD row (5 * m) 0 ≡ 1 → ((x ≡ 0 → ⊥) → getD row (5 * m + x) 0 ≡ 0) → member x (0 ∷ []) ≡ not (eqb (getD row (5 * m + x) 0) 0)
+unfolding any
+first-marks row m x o z = go (eqb x 0) refl
+  where
+    go : (t : Bool) → eqb x 0 ≡ t → member x (0 ∷ []) ≡ not (eqb (getD row (5 * m + x) 0) 0)
+    go true e =
+        let i : 5 * m + x ≡ 5 * m = omega (arith, eqb-true x 0 e) in
+        let c : getD row (5 * m + x) 0 ≡ 1 = ap (λ (j : ℕ). getD row j 0) i ∙ o in
+        simp (e, ne-eqb (getD row (5 * m + x) 0) 0 (λ w. omega arith))
+    go false e = simp (e, eq-eqb (getD row (5 * m + x) 0) 0 (z (eqb-false x 0 e)))
 
 cell-in : (l : List ℕ) (j : ℕ) → j < length l → In (getD l j 0) l
 cell-in [] j h = absurd (omega arith)
@@ -122,7 +134,7 @@ module _ {text pool row : List ℕ} {m b committed ends : ℕ} {p : Progress} (r
           few = omega (arith, r .edges-is, r .between .few, r .b-is, r .between .order);
           left-few = omega (arith, r .left-is, rest-few, r .sized .small, r .size-is);
           total-few = omega (arith, total-few, r .sized .small, r .size-is);
-          none = r .counts b (omega arith) (omega (arith, r .size-is))
+          none = r .counts b (omega arith) (omega (arith, r .size-is));
         }
 
     abbrev cs : List ℕ
@@ -147,7 +159,7 @@ module _ {text pool row : List ℕ} {m b committed ends : ℕ} {p : Progress} (r
           marks = r .rows .marks;
           graph = r .rows .graph;
           fits = r .rows .fits;
-          shown = λ x i. r .rows .shown x (subst (λ (l : List ℕ). In x l) (sym (at-b .is)) (List·Memᴰ·tail i))
+          shown = λ x i. r .rows .shown x (subst (λ (l : List ℕ). In x l) (sym (at-b .is)) (List·Memᴰ·tail i));
         }
 
     counts₀ : Counts p (takenOut cs (r .s))
@@ -281,17 +293,17 @@ module _ {text pool row : List ℕ} {m b committed ends : ℕ} {p : Progress} (r
                 marks = marks₃;
                 graph = λ v l h. absurd (omega arith);
                 fits = λ v l h. absurd (omega arith);
-                shown = λ x i. List·Memᴰ·head (List·Memᴰ·eq-of-singleton i)
+                shown = λ x i. List·Memᴰ·head (List·Memᴰ·eq-of-singleton i);
               };
               edges-is = refl;
               left-is = ap length tail₃;
               total-is = after .counts .total;
               ends-is = omega (arith, r .ends-is, length-append (s₁ .ends) (t ∷ []), ap length same-ends);
               ends-are = ap (λ (j : ℕ). take j row₃) (add-one ends) ∙ take-suc-set (set row′ (5 * m + t) 1) ends t (simp length-set (omega (arith, token-asks .room, sized′ .long)))
-                ∙ ap (λ (l : List ℕ). l ++ (t ∷ [])) (take-set-le ends row′ (5 * m + t) 1 (omega (arith, token-asks .room)) ∙ ends′ ∙ sym same-ends);
+                  ∙ ap (λ (l : List ℕ). l ++ (t ∷ [])) (take-set-le ends row′ (5 * m + t) 1 (omega (arith, token-asks .room)) ∙ ends′ ∙ sym same-ends);
               unmarked = λ x l h. cell₃ (2 * m + x) (omega arith) (λ e. omega arith) ∙ unmarked′ x (omega arith) h;
               firsts = λ v l h. cell₃ (3 * m + v) (omega arith) (λ e. omega arith) ∙ firsts′ v (omega arith) h;
-              counts = λ v l h. cell₃ (4 * m + v) (omega arith) (λ e. omega arith) ∙ counts′ v (omega arith) h
+              counts = λ v l h. cell₃ (4 * m + v) (omega arith) (λ e. omega arith) ∙ counts′ v (omega arith) h;
             }
 
         pub token-round : (e : ℕ) (row″ : List ℕ) → e ≡ t → row″ ≡ set (set row′ (5 * m + e) 1) ends e → Round text pool row″ m e e (ends + 1) (record { edges = 0; left = 0; total = q .total })
@@ -388,7 +400,7 @@ module _ {text pool row : List ℕ} {m b committed ends : ℕ} {p : Progress} (r
                 ends-are = ends′ ∙ sym same-ends;
                 unmarked = unmarked′;
                 firsts = λ v l h. firsts′ v (omega arith) h;
-                counts = λ v l h. counts′ v (omega arith) h
+                counts = λ v l h. counts′ v (omega arith) h;
               }
 
         -- step 2: exactly one candidate left
@@ -398,9 +410,10 @@ module _ {text pool row : List ℕ} {m b committed ends : ℕ} {p : Progress} (r
 
           known-low : (y : ℕ) → In y (s₁ .known) → y ≤ c₁
           known-low y i =
-              elim (decLt b y)
-              [ yes o ↦ (let e : y ≡ c₁ = List·Memᴰ·eq-of-singleton (subst (λ (l : List ℕ). In y l) only (placing₁ .handled .left y i o)) in omega arith)
-              | no n ↦ (let f = first-above in omega arith) ]
+              elim (decLt b y) [
+                | yes o ↦ (let e : y ≡ c₁ = List·Memᴰ·eq-of-singleton (subst (λ (l : List ℕ). In y l) only (placing₁ .handled .left y i o)) in omega arith)
+                | no n ↦ (let f = first-above in omega arith)
+              ]
 
           spans-edge : (v y : ℕ) → In y (graphOf (s₁ .edges) v) → (s₁ .committed ≤ v) × (v < y) × (y ≤ c₁)
           spans-edge v y i =
@@ -419,11 +432,11 @@ module _ {text pool row : List ℕ} {m b committed ends : ℕ} {p : Progress} (r
               record {
                 fits = omega (arith, edges-few, r .exact);
                 on = λ j k.
-                  let sp = spans-edge v (getD row′ (7 * m + getD row′ (3 * m + v) 0 + j) 0)
+                    let sp = spans-edge v (getD row′ (7 * m + getD row′ (3 * m + v) 0 + j) 0)
                     (subst (λ (l : List ℕ). In (getD row′ (7 * m + getD row′ (3 * m + v) 0 + j) 0) l) (graph-all v lo (omega arith))
                     (subst (λ (x : ℕ). In x (graphIn row′ m v)) (graph-at v j k) (cell-in (graphIn row′ m v) j (omega arith))))
-                  in
-                  (sp .1, sp .2)
+                    in
+                    (sp .1, sp .2);
               }
             where
               graph-size : (v : ℕ) → 7 * m + getD row′ (3 * m + v) 0 + getD row′ (4 * m + v) 0 ≤ length row′ → length (graphIn row′ m v) ≡ getD row′ (4 * m + v) 0
@@ -439,7 +452,7 @@ module _ {text pool row : List ℕ} {m b committed ends : ℕ} {p : Progress} (r
                 order = (let l = committed-low in let f = first-above in omega arith);
                 inside = first-inside;
                 edges = edges-of;
-                fresh = unmarked′
+                fresh = unmarked′;
               }
 
           abbrev path₂ : List ℕ
@@ -450,8 +463,8 @@ module _ {text pool row : List ℕ} {m b committed ends : ℕ} {p : Progress} (r
               let fi = first-inside in
               path-same (graphIn row′ m) (graphOf (s₁ .edges)) committed c₁ (λ v l h. graph-all v (omega (arith, r .committed-is, same-committed)) (omega arith))
               (λ v y l h i.
-                let sp = spans-edge v y (subst (λ (k : List ℕ). In y k) (graph-all v (omega (arith, r .committed-is, same-committed)) (omega arith)) i) in
-                (omega (arith, sp .1), sp .2))
+              let sp = spans-edge v y (subst (λ (k : List ℕ). In y k) (graph-all v (omega (arith, r .committed-is, same-committed)) (omega arith)) i) in
+              (omega (arith, sp .1), sp .2))
               (start-at .order)
               ∙ ap (λ (x : ℕ). pathTo (graphOf (s₁ .edges)) x c₁) (r .committed-is ∙ sym same-committed)
 
@@ -485,7 +498,7 @@ module _ {text pool row : List ℕ} {m b committed ends : ℕ} {p : Progress} (r
                   marks = λ x h. marks₂ x h ∙ ap (λ (y : ℕ). not (eqb y 0)) (sym (above-same row′ row″ m (pa .high) (5 * m + x) (omega arith)));
                   graph = λ v l h. absurd (omega arith);
                   fits = λ v l h. absurd (omega arith);
-                  shown = λ x i. List·Memᴰ·head (List·Memᴰ·eq-of-singleton i)
+                  shown = λ x i. List·Memᴰ·head (List·Memᴰ·eq-of-singleton i);
                 };
                 edges-is = refl;
                 left-is = ap length (tail-eq-of-cons-eq (turned₂ .between .is));
@@ -494,8 +507,149 @@ module _ {text pool row : List ℕ} {m b committed ends : ℕ} {p : Progress} (r
                 ends-are = pa .ends ∙ ap (λ (l : List ℕ). l ++ pathTo (graphIn row′ m) committed c₁) (ends′ ∙ sym same-ends) ∙ ap (λ (l : List ℕ). s₁ .ends ++ l) same-path;
                 unmarked = pa .later;
                 firsts = λ v l h. above-same row′ row″ m (pa .high) (3 * m + v) (omega arith) ∙ firsts′ v (omega arith) h;
-                counts = λ v l h. above-same row′ row″ m (pa .high) (4 * m + v) (omega arith) ∙ counts′ v (omega arith) h
+                counts = λ v l h. above-same row′ row″ m (pa .high) (4 * m + v) (omega arith) ∙ counts′ v (omega arith) h;
               }
             where
               marks₂ : (x : ℕ) → x < m → member x (c₁ ∷ s₁ .known) ≡ not (eqb (getD row′ (5 * m + x) 0) 0)
               marks₂ x h = member-again x c₁ (s₁ .known) (after .rows .shown c₁ first-in) ∙ after .rows .marks x h
+
+      -- ---- by the number of candidates left
+
+      module _ {c : ℕ} (nx : NextIs row′ m b c) where
+        one-by : (l : List ℕ) → s₁ .candidates ≡ l → length l ≡ 1 → (c₁ : ℕ) × (c ≡ c₁) × (s₁ .candidates ≡ c₁ ∷ [])
+        one-by [] e n = absurd (omega arith)
+        one-by (c₁ ∷ []) e n = (c₁, least-is nx e, e)
+        one-by (c₁ ∷ d ∷ ds) e n = absurd (omega arith)
+
+        module _ (one-left : q .left ≡ 1) where
+          sole : (c₁ : ℕ) × (c ≡ c₁) × (s₁ .candidates ≡ c₁ ∷ [])
+          sole = one-by (s₁ .candidates) refl (sym (after .counts .left) ∙ one-left)
+
+          pub start-one : Start row′ m committed c
+          start-one = subst (λ (x : ℕ). Start row′ m committed x) (sym (sole .1)) (start-at nx (sole .2) refl)
+
+          pub round-one : (row″ : List ℕ) (e : ℕ) → length row″ ≡ length row′ → Path row′ row″ m committed c ends e → Round text pool row″ m c c e (record { edges = 0; left = 0; total = q .total })
+          round-one row″ e sz pa =
+              subst (λ (x : ℕ). Round text pool row″ m x x e (record { edges = 0; left = 0; total = q .total })) (sym (sole .1))
+              (path-round nx (sole .2) refl row″ e sz (subst (λ (x : ℕ). Path row′ row″ m committed x ends e) (sole .1) pa))
+
+        pub round-more : (q .left ≡ 0 → ⊥) → (q .left ≡ 1 → ⊥) → Round text pool row′ m c committed ends (record { edges = q .edges; left = q .left - 1; total = q .total })
+        round-more n o = go (s₁ .candidates) refl
+          where
+            go : (l : List ℕ) → s₁ .candidates ≡ l → Round text pool row′ m c committed ends (record { edges = q .edges; left = q .left - 1; total = q .total })
+            go [] e = absurd (n (after .counts .left ∙ ap length e))
+            go (c₁ ∷ []) e = absurd (o (after .counts .left ∙ ap length e))
+            go (c₁ ∷ d ∷ ds) e =
+                subst (λ (x : ℕ). Round text pool row′ m x committed ends (record { edges = q .edges; left = q .left - 1; total = q .total })) (sym (least-is nx e)) (go-round nx e refl)
+
+      pub still-sized : Sized row′ m
+      still-sized = sized′
+
+-- ---- at the end
+
+turns-off : (k : ℕ) {g : Given} (s : State) (h : Between g s) → size g ≤ h .least → turns k g s ≡ s
+unfolding turns
+turns-off zero s h l = refl
+turns-off (suc k) {g} s h l = ap (λ (x : State). turns k g x) (turn-off h l) ∙ turns-off k s h l
+
+-- a row of zeros
+zeros-are : (l : List ℕ) → ((k : ℕ) → getD l k 0 ≡ 0) → l ≡ replicate (length l) 0
+zeros-are [] h = refl
+zeros-are (x ∷ l) h = let z = h 0 in ap (λ (y : ℕ). y ∷ l) z ∙ ap (λ (t : List ℕ). 0 ∷ t) (zeros-are l (λ k. h (suc k)))
+
+module _ {text pool row : List ℕ} {m b committed ends : ℕ} {p : Progress} (r : Round text pool row m b committed ends p) (over : length text ≤ b) where
+  final : turns (length text) (givenBy text pool) begin ≡ r .s
+  final = r .rest ∙ turns-off (r .k) (r .s) (r .between) (omega (arith, r .b-is))
+
+  ends-final : cut (givenBy text pool) .ends ≡ r .s .ends
+  unfolding cut
+  ends-final = ap (λ (x : State). x .ends) final
+
+  edges-final : cut (givenBy text pool) .edges ≡ r .s .count
+  unfolding cut
+  edges-final = ap (λ (x : State). x .count) final
+
+  pub ends-fit : ends ≤ length row
+  ends-fit = omega (arith, ends-few r, committed-low r, b-inside r, r .size-is, r .exact)
+
+  pub done : (row₀ row′ : List ℕ) → Fresh text pool row₀ → length row ≡ length row₀ → row′ ≡ take ends row ++ replicate (length row - ends) 0
+      → Done (givenBy text pool) row₀ row′ (record { ends = ends; edges = p .total })
+  done row₀ row′ f sz e =
+      let n : ends ≡ length (cut (givenBy text pool) .ends) = r .ends-is ∙ ap length (sym ends-final) in
+      let d : drop ends row₀ ≡ replicate (length row - ends) 0 =
+      zeros-are (drop ends row₀) (λ k. getD-drop ends row₀ k 0 ∙ f .blank (ends + k)) ∙ ap (λ (i : ℕ). replicate {A = ℕ} i 0) (length-drop ends row₀ ∙ ap (λ (i : ℕ). i - ends) (sym sz))
+      in
+      record {
+        ends = n;
+        edges = r .total-is ∙ sym edges-final;
+        is = e ∙ ap (λ (l : List ℕ). l ++ replicate {A = ℕ} (length row - ends) 0) (r .ends-are ∙ sym ends-final) ∙ ap (λ (l : List ℕ). cut (givenBy text pool) .ends ++ l) (sym d)
+            ∙ ap (λ (i : ℕ). cut (givenBy text pool) .ends ++ drop i row₀) n;
+      }
+
+-- ---- at the start
+
+module _ (text pool row : List ℕ) (m : ℕ) (f : Fresh text pool row) (size-is : m ≡ length text + 1) (t : List ℕ)
+    (flags : t ≡ endFlags text ++ drop (length text + 1) (take (7 * m - 6 * m) (drop (6 * m) row))) where
+  abbrev row₁ : List ℕ
+  row₁ = take (6 * m) row ++ (t ++ drop (7 * m - 6 * m) (drop (6 * m) row))
+
+  abbrev row₂ : List ℕ
+  row₂ = set row₁ (5 * m) 1
+
+  part-size : length (take (7 * m - 6 * m) (drop (6 * m) row)) ≡ m
+  part-size = length-take-le (7 * m - 6 * m) (drop (6 * m) row) (omega (arith, length-drop (6 * m) row, f .size)) ∙ omega arith
+
+  t-is : t ≡ endFlags text
+  t-is = flags ∙ ap (λ (l : List ℕ). endFlags text ++ l) (drop-of-length-le (take (7 * m - 6 * m) (drop (6 * m) row)) {i = length text + 1} (omega (arith, part-size))) ∙ append-nil (endFlags text)
+
+  t-size : length t ≡ 7 * m - 6 * m
+  t-size = ap length t-is ∙ ends-long text ∙ omega arith
+
+  front-size : length (take (6 * m) row) ≡ 6 * m
+  front-size = length-take-le (6 * m) row (omega (arith, f .size))
+
+  pub size₁ : length row₁ ≡ length row
+  size₁ =
+      length-append (take (6 * m) row) (t ++ drop (7 * m - 6 * m) (drop (6 * m) row))
+      ∙ omega (arith, front-size, length-append t (drop (7 * m - 6 * m) (drop (6 * m) row)), t-size, length-drop (7 * m - 6 * m) (drop (6 * m) row), length-drop (6 * m) row, f .size)
+
+  low₁ : (i : ℕ) → i < 6 * m → getD row₁ i 0 ≡ 0
+  low₁ i h = List·getD-append (take (6 * m) row) (t ++ drop (7 * m - 6 * m) (drop (6 * m) row)) 0 i (omega (arith, front-size)) ∙ getD-take (6 * m) row i 0 h ∙ f .blank i
+
+  low₂ : (i : ℕ) → i < 6 * m → (i ≡ 5 * m → ⊥) → getD row₂ i 0 ≡ 0
+  low₂ i h n = getD-set-other row₁ (5 * m) i 1 0 n ∙ low₁ i h
+
+  pub first-round : Round text pool row₂ m 0 0 0 (record { edges = 0; left = 0; total = 0 })
+  first-round =
+      let b = at-first (givenBy text pool) in
+      record {
+        size-is = size-is;
+        sized = record { small = (let s = f .short in omega arith); long = omega (arith, length-set row₁ (5 * m) 1, size₁, f .size) };
+        exact = length-set row₁ (5 * m) 1 ∙ size₁ ∙ omega (arith, f .size);
+        root-is = f .root-is;
+        flags-are = ap (take (7 * m - 6 * m)) (drop-set-lt (6 * m) row₁ (5 * m) 1 (omega arith) ∙ drop-at (take (6 * m) row) (t ++ drop (7 * m - 6 * m) (drop (6 * m) row)) (6 * m) front-size)
+            ∙ take-at t (drop (7 * m - 6 * m) (drop (6 * m) row)) (7 * m - 6 * m) t-size ∙ t-is;
+        s = begin;
+        between = b;
+        k = length text;
+        enough = omega arith;
+        rest = refl;
+        b-is = head-eq-of-cons-eq (b .is);
+        committed-is = refl;
+        rows = record { marks = marks-first; graph = λ v l h. absurd (omega arith); fits = λ v l h. absurd (omega arith); shown = λ x i. i };
+        edges-is = refl;
+        left-is = ap length (tail-eq-of-cons-eq (b .is));
+        total-is = refl;
+        ends-is = refl;
+        ends-are = refl;
+        unmarked = λ x l h. low₂ (2 * m + x) (omega arith) (λ e. omega arith);
+        firsts = λ v l h. low₂ (3 * m + v) (omega arith) (λ e. omega arith);
+        counts = λ v l h. low₂ (4 * m + v) (omega arith) (λ e. omega arith);
+      }
+    where
+      marks-first : (x : ℕ) → x < m → member x (0 ∷ []) ≡ not (eqb (getD row₂ (5 * m + x) 0) 0)
+      marks-first x h = first-marks row₂ m x (getD-set-same row₁ (5 * m) 1 0 (omega (arith, size₁, f .size))) (λ n. low₂ (5 * m + x) (omega arith) (λ e. n (omega arith)))
+
+pub part-long : {text pool row : List ℕ} {m : ℕ} → Fresh text pool row → m ≡ length text + 1 → length text < length (take (7 * m - 6 * m) (drop (6 * m) row))
+part-long {text} {pool} {row} {m} f e =
+    omega (arith, length-take-le (7 * m - 6 * m) (drop (6 * m) row) (omega (arith, length-drop (6 * m) row, f .size)))

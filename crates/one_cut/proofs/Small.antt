@@ -1,10 +1,10 @@
 -- The next candidate, one token, and clearing, over plain values. Assumes nothing.
-use Prim.Native.Nat.{ℕ, zero, suc, _+_, _*_, _-_, _≤_, _<_}
+use Prim.Native.Nat.{ℕ, _+_, _*_, _-_, _≤_, _<_}
 use native.Mathlib.Omega.{arith}
 use native.Mathlib.Decide.{decLt}
 use mathlib.Core.Path.{_≡_, refl, sym, _∙_, ap}
-use mathlib.Core.List.{List, [], _∷_, _++_, append-nil}
-use lib.ListN.{length, getD, set, take, drop, replicate, length-set, length-append, length-replicate, length-take, length-drop, getD-replicate, List·getD-append, List·getD-eq-default}
+use mathlib.Core.List.{List, _++_}
+use lib.ListN.{length, getD, set, take, replicate, length-set, length-append, length-replicate, getD-replicate, List·getD-append}
 use lib.Seq.{getD-set-same, getD-set-other, getD-take, ext-getD, length-take-le, getD-append-add}
 use Rattle.one_cut.specs.Rows.{NextIs}
 
@@ -27,7 +27,7 @@ module _ {row : List ℕ} {m b c : ℕ} (s : Seeking row m b c) where
       record {
         above = omega (arith, s .above);
         upto = omega arith;
-        none = λ x l k. elim (decLt x c) [ yes o ↦ s .none x l o | no n ↦ (let e : x ≡ c = omega arith in ap (λ (i : ℕ). getD row (5 * m + i) 0) e ∙ z) ]
+        none = λ x l k. elim (decLt x c) [ yes o ↦ s .none x l o | no n ↦ (let e : x ≡ c = omega arith in ap (λ (i : ℕ). getD row (5 * m + i) 0) e ∙ z) ];
       }
 
   pub seek-end : m ≤ c → NextIs row m b c
@@ -53,7 +53,7 @@ module _ {row₀ row : List ℕ} {k i : ℕ} (c : Cleared row₀ row k i) where
         size = length-set row i 0 ∙ c .size;
         front = λ j l. getD-set-other row i j 0 0 (λ e. omega (arith, c .from)) ∙ c .front j l;
         zeros = λ j l u.
-          elim (decLt j i) [ yes o ↦ getD-set-other row i j 0 0 (λ e. omega arith) ∙ c .zeros j l o | no n ↦ (let e : j ≡ i = omega arith in ap (λ (x : ℕ). getD (set row i 0) x 0) e ∙ getD-set-same row i 0 0 h) ]
+            elim (decLt j i) [ yes o ↦ getD-set-other row i j 0 0 (λ e. omega arith) ∙ c .zeros j l o | no n ↦ (let e : j ≡ i = omega arith in ap (λ (x : ℕ). getD (set row i 0) x 0) e ∙ getD-set-same row i 0 0 h) ];
       }
 
   pub clear-end : k ≤ length row₀ → length row ≤ i → row ≡ take k row₀ ++ replicate (length row₀ - k) 0
@@ -70,4 +70,4 @@ module _ {row₀ row : List ℕ} {k i : ℕ} (c : Cleared row₀ row k i) where
           let e : j ≡ length (take k row₀) + (j - k) = omega (arith, length-take-le k row₀ h) in
           c .zeros j o (omega arith)
           ∙ sym (ap (λ (x : ℕ). getD (take k row₀ ++ replicate {A = ℕ} (length row₀ - k) 0) x 0) e ∙ getD-append-add (take k row₀) (replicate {A = ℕ} (length row₀ - k) 0) (j - k) 0
-            ∙ getD-replicate {A = ℕ} (length row₀ - k) (j - k) 0 0 (omega (arith, c .size)))
+          ∙ getD-replicate {A = ℕ} (length row₀ - k) (j - k) 0 0 (omega (arith, c .size)))

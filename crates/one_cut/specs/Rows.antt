@@ -33,6 +33,13 @@ pub record Fresh (text pool row : List ℕ) : Type 0 where
   pub size : length row ≡ 8 * (length text + 1) + 50
   pub blank : (k : ℕ) → getD row k 0 ≡ 0
 
+-- the same, at the front of a row that may be longer
+pub record Lent (text pool row : List ℕ) : Type 0 where
+  pub short : length text ≤ 65535
+  pub root-is : Readable pool 0
+  pub room : 8 * length text + 58 ≤ length row
+  pub blank : (k : ℕ) → k < 8 * length text + 58 → getD row k 0 ≡ 0
+
 -- the ends stand at the front, and the rest is as it was
 pub record Done (g : Given) (row row′ : List ℕ) (r : Ends) : Type 0 where
   pub ends : r .ends ≡ length (cut g .ends)

@@ -12,7 +12,7 @@ ghost use lib.ListN.{length, take, set, getD, replicate};
 ghost use Rattle.cut_rules.specs.NonDictionary.{tokenEnd};
 ghost use Rattle.bfs.specs.Rows.{Sized};
 ghost use Rattle.word_walk.specs.Walks.{givenBy};
-ghost use Rattle.one_cut.specs.Rows.{NextIs, TokenAt, Fresh, Done};
+ghost use Rattle.one_cut.specs.Rows.{NextIs, TokenAt, Fresh, Lent, Done};
 
 // The number of ends, and the number of edges recorded in the whole call.
 pub struct Ends {
@@ -119,4 +119,14 @@ fn cut_rows(text: &[u32], pool: &[u32], row: &mut [u32]) -> Ends
         ends,
         edges: p.total,
     }
+}
+
+// The plain cut of a text: its ends stand at the front of the row then, and the rest of it is as it was. The row's first 8n + 58 cells are 0;
+// 9n + 128 cells are always enough.
+pub fn one_cut(text: &[u32], pool: &[u32], row: &mut [u32]) -> Ends
+    requires { ⌜ Lent (now text) (now pool) (now row) ⌝ }
+    ensures { λ r. ⌜ Done (givenBy (now (text .entry)) (now (pool .entry))) (now (row .entry)) (now (row .exit)) r ⌝ }
+{
+    let cells = 8 * text.len() + 58;
+    cut_rows(text, pool, &mut row[..cells])
 }

@@ -1,14 +1,10 @@
 -- Assumes nothing.
--- uses
 use Prim.Native.Nat.{_-_}
 use native.Mathlib.Omega.{arith}
 use Rattle.one_cut.proofs.Small.{Seeking, seek-first, seek-found, seek-on, seek-end}
--- end uses
 use borrow.Author.Needs.{needs}
 use Rattle.one_cut.proofs.next_candidate.Statement.{statement}
 use Rattle.one_cut.proofs.next_candidate.Tie as tie
-use Rattle.one_cut.proofs.next_candidate.Reads as reads
-use Rattle.one_cut.proofs.next_candidate.Lts as lts
 
 abbrev Inv-loop : tie.InvT-loop
 Inv-loop row m b c₀ c = Seeking row m b c
@@ -16,47 +12,36 @@ Inv-loop row m b c₀ c = Seeking row m b c
 abbrev μ-loop : tie.MeasureT-loop
 μ-loop row m b c₀ c = m - c
 
--- src/lib.rt:29:17
 add-c : tie.Need-add-c Inv-loop μ-loop
 add-c c = search needs
 
--- src/lib.rt:30:5
 loop-holds : tie.Need-loop-holds Inv-loop μ-loop
 loop-holds c = seek-first _ _ _ (c .pre .1)
 
--- src/lib.rt:31:16
 mul-if1 : tie.Need-mul-if1 Inv-loop μ-loop
 mul-if1 c = search needs
 
--- src/lib.rt:31:16
 add-if1 : tie.Need-add-if1 Inv-loop μ-loop
 add-if1 c = search needs
 
--- src/lib.rt:31:12
 mul-if1-2 : tie.Need-mul-if1-2 Inv-loop μ-loop
 mul-if1-2 c = search needs
 
--- src/lib.rt:31:12
 shared-slice-read-if1 : tie.Need-shared-slice-read-if1 Inv-loop μ-loop
 shared-slice-read-if1 c = search needs
 
--- src/lib.rt:32:13
 returns : tie.Need-returns Inv-loop μ-loop
 returns c = seek-found (c .before .before .before .loop .inv) (c .before .before .loop-test .taken) (c .if1 .taken)
 
--- src/lib.rt:34:9
 add-c-2 : tie.Need-add-c-2 Inv-loop μ-loop
 add-c-2 c = search needs
 
--- src/lib.rt:30:5
 loop-less : tie.Need-loop-less Inv-loop μ-loop
 loop-less c = let t = c .before .before .loop-test .taken in omega arith
 
--- src/lib.rt:30:5
 loop-again : tie.Need-loop-again Inv-loop μ-loop
 loop-again c = seek-on (c .before .before .before .loop .inv) (c .before .before .loop-test .taken) (c .if1 .left)
 
--- src/lib.rt:24:1
 returns-2 : tie.Need-returns-2 Inv-loop μ-loop
 returns-2 c = seek-end (c .before .loop .inv) (c .loop-test .left)
 
