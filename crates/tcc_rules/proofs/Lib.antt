@@ -1,0 +1,14 @@
+pub mod Known
+pub mod Classes
+pub mod Steps
+pub mod Skips
+pub mod Tails
+pub mod Paths
+pub mod Alone
+pub mod StartsVowel
+pub mod StartsE
+pub mod StartsConsonant
+pub mod Bounds
+pub mod Ends
+pub mod Rising
+pub mod Cases

@@ -1,0 +1,65 @@
+-- Assumes nothing.
+-- uses
+use Prim.Native.Nat.{_+_}
+use native.Mathlib.Omega.{arith}
+use mathlib.Core.Path.{refl, sym, _∙_}
+use mathlib.Core.List.{List, [], _∷_, _++_}
+use lib.ListN.{getD}
+use borrow.Author.Tests.{not-true, not-false}
+use Rattle.tcc_rules.specs.Rules.{is, upTo, consonant, tone, dOrI}
+use Rattle.tcc_rules.proofs.Classes.{seen, unlike}
+use Rattle.tcc_rules.proofs.StartsVowel.{ai-alone, ai-open}
+-- end uses
+use borrow.Author.Needs.{needs}
+use Rattle.tcc_rules.proofs.after_vowel.from_ai.Statement.{statement}
+use Rattle.tcc_rules.proofs.after_vowel.from_ai.Tie as tie
+use Rattle.tcc_rules.proofs.after_vowel.from_ai.Reads as reads
+use Rattle.tcc_rules.proofs.after_vowel.from_ai.Lts as lts
+use Rattle.tcc_rules.proofs.group.skip_tone.Reads as skip-tone-reads
+use Rattle.tcc_rules.proofs.letters.at.Reads as at-reads
+use Rattle.tcc_rules.proofs.letters.is_consonant.Reads as is-consonant-reads
+
+-- src/after_vowel.rt:82:31
+add-at : tie.Need-add-at
+add-at c = omega (arith, c .before .pre .0)
+
+-- src/after_vowel.rt:82:22
+at-requires : tie.Need-at-requires
+at-requires c κs = search needs
+
+-- src/after_vowel.rt:82:9
+is-consonant-requires : tie.Need-is-consonant-requires
+is-consonant-requires c κs = search needs
+
+-- src/after_vowel.rt:83:16
+add-result : tie.Need-add-result
+add-result c = omega (arith, c .before .before .before .before .pre .0)
+
+-- src/after_vowel.rt:83:9
+returns : tie.Need-returns
+returns c = ai-alone (c .before .before .before .before .args .text .now) (c .before .before .before .before .args .p) (c .before .before .before .before .pre) (seen consonant (c .before .before .at .ensures) (c .before .is-consonant .ensures) (not-true _ (c .if1 .taken)))
+
+-- src/after_vowel.rt:85:21
+add-skip-tone : tie.Need-add-skip-tone
+add-skip-tone c = omega (arith, c .before .before .before .before .pre .0)
+
+-- src/after_vowel.rt:85:5
+skip-tone-requires : tie.Need-skip-tone-requires
+skip-tone-requires c κs = search needs
+
+-- src/after_vowel.rt:78:1
+returns-2 : tie.Need-returns-2
+returns-2 c = ai-open (c .before .before .before .before .before .args .text .now) (c .before .before .before .before .before .args .p) (c .before .before .before .before .before .pre) (seen consonant (c .before .before .before .at .ensures) (c .before .before .is-consonant .ensures) (not-false _ (c .before .if1 .left))) (c .skip-tone .ensures)
+
+pub from-ai-spec : {M : Type 1} → statement M
+from-ai-spec =
+    tie.close
+    (tie.spec
+    add-at
+    at-requires
+    is-consonant-requires
+    add-result
+    returns
+    add-skip-tone
+    skip-tone-requires
+    returns-2)
