@@ -5,6 +5,19 @@ import subprocess
 ROOT = os.path.dirname(os.path.dirname(os.path.abspath(__file__)))
 RUST = os.path.join(ROOT, "target", "differential", "cargo", "release", "nlpo3-answers")
 
+# The proved program that answers an operation.
+PROGRAMS = {"clusters": "tcc_tests", "prefix": "trie_char_tests", "dict": "trie_char_tests", "cut": "cut_tests"}
+
+
+def listed():
+    """The programs that stand in crates.txt."""
+    crates = {line.split(":")[0] for line in open(os.path.join(ROOT, "crates.txt"), encoding="utf-8")}
+    return sorted(crates & set(PROGRAMS.values()))
+
+
+def op(line):
+    return line.split("\t", 1)[0]
+
 
 def run(program, lines):
     """The program's answer for each line."""
@@ -20,27 +33,6 @@ def rust(lines):
     return run(RUST, lines)
 
 
-def scalars(field):
-    """The cells of a field as a list of numbers."""
-    row = []
-    if field == "-":
-        return row
-    for part in field.split("."):
-        cell, _, times = part.partition("*")
-        row += [int(cell, 16)] * int(times or 1)
-    return row
-
-
-# Unicode's White_Space, which the Rust trims, less the six characters that document 01 trims.
-TRIMMED_BY_RUST = {0x85, 0xA0, 0x1680, 0x2028, 0x2029, 0x202F, 0x205F, 0x3000} | set(range(0x2000, 0x200B))
-TRIMMED = set(range(0x9, 0xE)) | {0x20}
-
-
-def trims_more(word):
-    """Whether the Rust takes more off the edges of a word than document 01."""
-    row = [x for x in scalars(word)]
-    while row and row[0] in TRIMMED:
-        row.pop(0)
-    while row and row[-1] in TRIMMED:
-        row.pop()
-    return bool(row) and (row[0] in TRIMMED_BY_RUST or row[-1] in TRIMMED_BY_RUST)
+def ours(lines):
+    """The answers of the program for the lines' operation, which is the same for all."""
+    return run(os.path.join(ROOT, "target", "bin", PROGRAMS[op(lines[0])]), lines)
