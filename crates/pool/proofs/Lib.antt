@@ -1,0 +1,12 @@
+pub mod Lists
+pub mod Shape
+pub mod Level
+pub mod Canon
+pub mod Rules
+pub mod Edges
+pub mod Sets
+pub mod Held
+pub mod Number
+pub mod Listing
+pub mod With
+pub mod Walks

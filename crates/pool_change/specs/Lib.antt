@@ -1,0 +1,2 @@
+pub mod Planting
+pub mod Plucking

@@ -1,0 +1,4 @@
+pub mod Decide
+pub mod Finding
+pub mod Whole
+pub mod Prefixes

@@ -1,0 +1,14 @@
+// Reading a dictionary's pool: the check of its rules, and the search for words. For our own crates.
+mod rules;
+mod search;
+
+pub use rules::well_formed;
+pub use search::Kid;
+pub use search::count_words;
+pub use search::ends_word;
+pub use search::find_child;
+pub use search::is_held;
+pub use search::missing;
+pub use search::prefix_count;
+pub use search::prefix_lengths;
+pub use search::seek;

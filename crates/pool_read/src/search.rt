@@ -1,0 +1,170 @@
+// The search for words.
+use pool::wide;
+ghost use mathlib.Core.Path.{_≡_};
+ghost use lib.ListN.{length};
+ghost use Rattle.pool.specs.Cells.{markAt};
+ghost use Rattle.pool.specs.Words.{child, marked, holds, lacking};
+ghost use Rattle.pool.specs.Meaning.{prefixLengths, amount};
+ghost use Rattle.pool.specs.Sound.{Readable};
+ghost use Rattle.pool_read.specs.Search.{Sought, toPlace, Asks, Wrote, Counts};
+
+// A child, or none.
+pub enum Kid {
+    Nothing,
+    Is(usize),
+}
+
+// Where a child of b with scalar x stands, or would stand.
+pub fn seek(p: &[u32], b: usize, x: u32) -> usize
+    requires { ⌜ Readable (now p) b ⌝ }
+    ensures { λ r. ⌜ Sought (now (p .entry)) b x r ⌝ }
+{
+    let mut k = wide(p[8 * b + 1]);
+    let e = k + wide(p[8 * b + 2]);
+    while k < e {
+        if x <= p[8 * k] {
+            return k;
+        }
+        k += 1;
+    }
+    k
+}
+
+// The child of b with scalar x.
+pub fn find_child(p: &[u32], b: usize, x: u32) -> Kid
+    requires { ⌜ Readable (now p) b ⌝ }
+    ensures { λ r. ⌜ toPlace r ≡ child (now (p .entry)) b x ⌝ }
+{
+    let r = seek(p, b, x);
+    let e = wide(p[8 * b + 1]) + wide(p[8 * b + 2]);
+    if e <= r {
+        return Kid::Nothing;
+    }
+    if p[8 * r] != x {
+        return Kid::Nothing;
+    }
+    Kid::Is(r)
+}
+
+// Whether a word ends at node i.
+pub fn ends_word(p: &[u32], i: usize) -> bool
+    requires { ⌜ Readable (now p) i ⌝ }
+    ensures { λ r. ⌜ r ≡ marked (markAt (now (p .entry)) i) ⌝ }
+{
+    p[8 * i + 3] != 0
+}
+
+// Whether the word is held.
+pub fn is_held(p: &[u32], w: &[u32]) -> bool
+    requires { ⌜ Readable (now p) 0 ⌝ }
+    ensures { λ r. ⌜ r ≡ holds (now (p .entry)) (now (w .entry)) ⌝ }
+{
+    let mut i: usize = 0;
+    let mut t: usize = 0;
+    while t < w.len() {
+        let kid = find_child(p, i, w[t]);
+        match kid {
+            Kid::Nothing => {
+                return false;
+            }
+            Kid::Is(r) => {
+                i = r;
+            }
+        }
+        t += 1;
+    }
+    p[8 * i + 3] != 0
+}
+
+// How many nodes the word needs that the pool lacks.
+pub fn missing(p: &[u32], w: &[u32]) -> usize
+    requires { ⌜ Readable (now p) 0 ⌝ }
+    ensures { λ r. ⌜ r ≡ lacking (now (p .entry)) (now (w .entry)) 0 ⌝ }
+{
+    let mut i: usize = 0;
+    let mut t: usize = 0;
+    while t < w.len() {
+        let kid = find_child(p, i, w[t]);
+        match kid {
+            Kid::Nothing => {
+                return w.len() - t;
+            }
+            Kid::Is(r) => {
+                i = r;
+            }
+        }
+        t += 1;
+    }
+    0
+}
+
+// How many words the text starts with.
+pub fn prefix_count(p: &[u32], text: &[u32]) -> usize
+    requires { ⌜ Readable (now p) 0 ⌝ }
+    ensures { λ r. ⌜ r ≡ length (prefixLengths (holds (now (p .entry))) (now (text .entry))) ⌝ }
+{
+    let mut b: usize = 0;
+    let mut n: usize = 0;
+    let mut i: usize = 0;
+    while i < text.len() {
+        let kid = find_child(p, b, text[i]);
+        match kid {
+            Kid::Nothing => {
+                return n;
+            }
+            Kid::Is(r) => {
+                b = r;
+                i += 1;
+                if p[8 * r + 3] != 0 {
+                    n += 1;
+                }
+            }
+        }
+    }
+    n
+}
+
+// Writes the lengths of the words that the text starts with to the front of out, rising, and returns their number.
+pub fn prefix_lengths(p: &[u32], text: &[u32], out: &mut [u32]) -> usize
+    requires { ⌜ Asks (now p) (now text) (now out) ⌝ }
+    ensures { λ r. ⌜ Wrote (now (out .entry)) (prefixLengths (holds (now (p .entry))) (now (text .entry))) (now (out .exit)) r ⌝ }
+{
+    let mut b: usize = 0;
+    let mut n: usize = 0;
+    let mut i: usize = 0;
+    while i < text.len() {
+        let kid = find_child(p, b, text[i]);
+        match kid {
+            Kid::Nothing => {
+                return n;
+            }
+            Kid::Is(r) => {
+                b = r;
+                i += 1;
+                if p[8 * r + 3] != 0 {
+                    out[n] = i as u32;
+                    n += 1;
+                }
+            }
+        }
+    }
+    n
+}
+
+// How many words are held.
+pub fn count_words(p: &[u32]) -> usize
+    requires { ⌜ Counts (now p) ⌝ }
+    ensures { λ r. ⌜ r ≡ amount (now (p .entry)) ⌝ }
+{
+    let n = wide(p[4]);
+    let mut words: usize = 0;
+    let mut i: usize = 0;
+    while i < n {
+        let mark = p[8 * i + 3];
+        i += 1;
+        if mark != 0 {
+            words += 1;
+        }
+    }
+    words
+}

@@ -1,0 +1,56 @@
+-- Refusal 7, behind 2, 3 and 4. Assumes nothing.
+use Prim.Native.Nat.{ℕ, _-_, _≤_, _<_}
+use native.Mathlib.Omega.{arith}
+use mathlib.Core.Path.{_≡_, sym, ap, _∙_}
+use mathlib.Core.Bool.{false}
+use mathlib.Core.List.{List}
+use mathlib.Core.Option.{Option}
+use borrow.Author.Tests.{ltb-false, lt-ltb, le-ltb}
+use lib.Dec.{ltb}
+use lib.ListN.{length, drop, length-drop}
+use lib.Seq.{length-take-le}
+use Rattle.refusal.specs.declared.Refusal.{Refusal}
+use Rattle.refusal.specs.declared.Refusal.the-variants.{WordTooLong}
+use Rattle.refusal.specs.declared.Answer.{Answer}
+use Rattle.refusal.specs.declared.Answer.the-variants.{Accepted, Refused}
+use Rattle.refusal.specs.Answers.{Row, answer}
+use Rattle.refusal.proofs.Order.{refused-first}
+use Rattle.pool_lent.proofs.Rows.{none-of, row-yes, row-kept}
+use Rattle.char_string.specs.Scalars.{firstNonScalar}
+use Rattle.char_string.specs.Blanks.{trimmedOf, trimOf}
+use Rattle.char_string.specs.declared.blanks.Span.{Span}
+use Rattle.char_string.proofs.Trimming.{fits, part-is}
+use Rattle.pool.specs.Meaning.{Words}
+use Rattle.pool_lent.specs.Refusals.{isNone, readRows}
+use Rattle.trie_char.specs.Refusals.{lengthRows, removeRows}
+
+pub record Word (word : List ℕ) (m : Option Words) : Type 0 where
+  pub legal : length word ≤ firstNonScalar word
+  pub known : isNone m ≡ false
+  pub short : length (trimmedOf word) ≤ 255
+
+pub word-of : (word : List ℕ) (m : Option Words) (n k : ℕ) → answer (removeRows word m) n ≡ Accepted k → Word word m
+word-of word m n k h =
+    let r = none-of (removeRows word m) n k h in
+    record { legal = ltb-false (firstNonScalar word) (length word) (r .1 .0); known = r .1 .1 .0; short = ltb-false 255 (length (trimmedOf word)) (r .1 .1 .1 .0) }
+
+-- the length that trimming leaves, by its two positions
+pub kept-is : (word : List ℕ) (s : Span) → s ≡ trimOf word → s .end - s .start ≡ length (trimmedOf word)
+unfolding trimmedOf
+kept-is word s e =
+    let f = fits word s e in
+    sym (ap length (sym (part-is word s e)) ∙ length-take-le (s .end - s .start) (drop (s .start) word) (omega (arith, f .order, f .inside, length-drop (s .start) word)))
+
+module _ (word : List ℕ) (m : Option Words) {a : Answer} (is : a ≡ answer (readRows word m) (length word)) where
+  abbrev row : Row
+  row = record { refusal = WordTooLong (length (trimmedOf word)); holds = ltb 255 (length (trimmedOf word)) }
+
+  pub word-read : {r : Refusal} → a ≡ Refused r → Refused r ≡ answer (removeRows word m) (length word)
+  word-read e = sym (refused-first (readRows word m) (lengthRows word) (length word) (length word) (sym is ∙ e))
+
+  pub word-long : {k : ℕ} (t : ℕ) → a ≡ Accepted k → t ≡ length (trimmedOf word) → 255 < t → Refused (WordTooLong t) ≡ answer (removeRows word m) (length word)
+  word-long t e l h =
+      ap (λ (z : ℕ). Refused (WordTooLong z)) l ∙ row-yes (readRows word m) row (length word) (length word) (sym is ∙ e) (lt-ltb 255 (length (trimmedOf word)) (omega arith))
+
+  pub word-short : {k : ℕ} (t : ℕ) → a ≡ Accepted k → t ≡ length (trimmedOf word) → t ≤ 255 → Accepted k ≡ answer (removeRows word m) (length word)
+  word-short t e l h = row-kept (readRows word m) row (length word) (sym is ∙ e) (le-ltb 255 (length (trimmedOf word)) (omega arith))

@@ -1,0 +1,100 @@
+// Changing a dictionary.
+use crate::words::check_word;
+use char_string::trimmed;
+use pool::wide;
+use pool_change::add_word;
+use pool_change::remove_word;
+use pool_lent::capacity;
+use pool_read::is_held;
+use pool_read::missing;
+use refusal::Answer;
+use refusal::Refusal;
+ghost use mathlib.Core.Path.{_≡_};
+ghost use Prim.Native.Nat.{_≤_};
+ghost use lib.ListN.{length};
+ghost use Rattle.refusal.specs.Answers.{answer};
+ghost use Rattle.char_string.specs.Blanks.{trimmedOf};
+ghost use Rattle.pool.specs.Meaning.{meaning, noWord, withWord, withoutWord, report};
+ghost use Rattle.pool_lent.specs.Refusals.{held};
+ghost use Rattle.trie_char.specs.Refusals.{removeRows, addRows, freshRows};
+ghost use Rattle.trie_char.specs.Changes.{After, RootAlone};
+
+// Sets the cells to a dictionary without words: the root alone.
+fn reset(cells: &mut [u32])
+    requires { ⌜ 8 ≤ length (now cells) ⌝ }
+    ensures { λ _. ⌜ RootAlone (now (cells .exit)) ⌝ }
+{
+    let mut k: usize = 0;
+    while k < cells.len() {
+        cells[k] = 0;
+        k += 1;
+    }
+    cells[1] = 1;
+    cells[4] = 1;
+}
+
+// Makes a dictionary without words, whatever the cells held before.
+pub fn fresh(pool: &mut [u32]) -> Answer
+    ensures { λ r. ⌜ r ≡ answer (freshRows (now (pool .entry))) 0 ⌝ }
+    ensures { λ r. ⌜ After r (now (pool .entry)) (now (pool .exit)) noWord ⌝ }
+{
+    if pool.len() < 8 {
+        return Answer::Refused(Refusal::TooFewNodes(1));
+    }
+    let cells = 8 * capacity(pool.len());
+    reset(&mut pool[..cells]);
+    Answer::Accepted(0)
+}
+
+// Adds the trimmed word; 1 if the set changed, else 0.
+pub fn add(pool: &mut [u32], word: &[u32]) -> Answer
+    ensures { λ r. ⌜ r ≡ answer (addRows (now (word .entry)) (now (pool .entry)))
+        (report (trimmedOf (now (word .entry))) (held (meaning (now (pool .entry)))) (withWord (trimmedOf (now (word .entry))) (held (meaning (now (pool .entry)))))) ⌝ }
+    ensures { λ r. ⌜ After r (now (pool .entry)) (now (pool .exit)) (withWord (trimmedOf (now (word .entry))) (held (meaning (now (pool .entry))))) ⌝ }
+{
+    let first = check_word(pool, word);
+    match first {
+        Answer::Refused(r) => {
+            return Answer::Refused(r);
+        }
+        Answer::Accepted(_) => {}
+    }
+    let w = trimmed(word);
+    let nodes = capacity(pool.len());
+    let cells = 8 * nodes;
+    let more = missing(&pool[..cells], w);
+    let free = nodes - wide(pool[4]);
+    if free < more {
+        return Answer::Refused(Refusal::TooFewNodes(more - free));
+    }
+    if w.len() == 0 {
+        return Answer::Accepted(0);
+    }
+    if is_held(&pool[..cells], w) {
+        return Answer::Accepted(0);
+    }
+    add_word(&mut pool[..cells], w);
+    Answer::Accepted(1)
+}
+
+// Removes the trimmed word; 1 if the set changed, else 0.
+pub fn remove(pool: &mut [u32], word: &[u32]) -> Answer
+    ensures { λ r. ⌜ r ≡ answer (removeRows (now (word .entry)) (meaning (now (pool .entry))))
+        (report (trimmedOf (now (word .entry))) (held (meaning (now (pool .entry)))) (withoutWord (trimmedOf (now (word .entry))) (held (meaning (now (pool .entry)))))) ⌝ }
+    ensures { λ r. ⌜ After r (now (pool .entry)) (now (pool .exit)) (withoutWord (trimmedOf (now (word .entry))) (held (meaning (now (pool .entry))))) ⌝ }
+{
+    let first = check_word(pool, word);
+    match first {
+        Answer::Refused(r) => {
+            return Answer::Refused(r);
+        }
+        Answer::Accepted(_) => {}
+    }
+    let w = trimmed(word);
+    let cells = 8 * capacity(pool.len());
+    if !is_held(&pool[..cells], w) {
+        return Answer::Accepted(0);
+    }
+    remove_word(&mut pool[..cells], 0, w);
+    Answer::Accepted(1)
+}

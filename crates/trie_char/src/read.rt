@@ -1,0 +1,66 @@
+// Reading a dictionary.
+use pool_lent::capacity;
+use pool_lent::check;
+use pool_lent::is_dictionary;
+use pool_read::count_words;
+use pool_read::is_held;
+use pool_read::prefix_count;
+use refusal::Answer;
+use refusal::Refusal;
+ghost use mathlib.Core.Path.{_≡_};
+ghost use mathlib.Core.Bool.{cond};
+ghost use lib.ListN.{length};
+ghost use Rattle.refusal.specs.Answers.{answer, output};
+ghost use Rattle.pool.specs.Rules.{cellsOf};
+ghost use Rattle.pool.specs.Meaning.{meaning, prefixLengths, amount};
+ghost use Rattle.pool_lent.specs.Refusals.{held, poolRows, readRows};
+ghost use Rattle.trie_char.specs.Refusals.{prefixRows};
+
+// 1 if the word is held, else 0. The word is taken as it is.
+pub fn contain(pool: &[u32], word: &[u32]) -> Answer
+    ensures { λ r. ⌜ r ≡ answer (readRows (now (word .entry)) (meaning (now (pool .entry)))) (cond (held (meaning (now (pool .entry))) (now (word .entry))) 1 0) ⌝ }
+{
+    let first = check(pool, word);
+    match first {
+        Answer::Refused(r) => Answer::Refused(r),
+        Answer::Accepted(_) => {
+            let cells = 8 * capacity(pool.len());
+            if is_held(&pool[..cells], word) {
+                return Answer::Accepted(1);
+            }
+            Answer::Accepted(0)
+        }
+    }
+}
+
+// The lengths of the words that the text starts with, rising, at the front of out; accepted with their number.
+pub fn prefix_lengths(pool: &[u32], text: &[u32], out: &mut [u32]) -> Answer
+    ensures { λ r. ⌜ r ≡ answer (prefixRows (now (text .entry)) (meaning (now (pool .entry))) (now (out .entry)))
+        (length (prefixLengths (held (meaning (now (pool .entry)))) (now (text .entry)))) ⌝ }
+    ensures { λ r. ⌜ now (out .exit) ≡ output r (prefixLengths (held (meaning (now (pool .entry)))) (now (text .entry))) (now (out .entry)) ⌝ }
+{
+    let first = check(pool, text);
+    match first {
+        Answer::Refused(r) => Answer::Refused(r),
+        Answer::Accepted(_) => {
+            let cells = 8 * capacity(pool.len());
+            let n = prefix_count(&pool[..cells], text);
+            if out.len() < n {
+                return Answer::Refused(Refusal::OutputTooShort(n));
+            }
+            let k = pool_read::prefix_lengths(&pool[..cells], text, out);
+            Answer::Accepted(k)
+        }
+    }
+}
+
+// How many words the dictionary holds.
+pub fn amount_of_words(pool: &[u32]) -> Answer
+    ensures { λ r. ⌜ r ≡ answer (poolRows (meaning (now (pool .entry)))) (amount (cellsOf (now (pool .entry)))) ⌝ }
+{
+    if !is_dictionary(pool) {
+        return Answer::Refused(Refusal::NotADictionary);
+    }
+    let cells = 8 * capacity(pool.len());
+    Answer::Accepted(count_words(&pool[..cells]))
+}
