@@ -63,13 +63,10 @@ def prefix(held, of):
 
 
 def dict_script(steps):
-    """Steps are pairs of a letter and a text; `f`, `#` and `n` have none."""
-    return "dict\t%d\t%s" % (POOL_CELLS, ";".join([step if step in "f#n" else step + cells(word) for step, word in steps]))
+    """Steps are pairs of a letter and a text; `f`, `#` and `n` have none. The pool has a node for each character added."""
+    nodes = 1 + sum([len(word) for step, word in steps if step == "+"])
+    return "dict\t%d\t%s" % (8 * nodes, ";".join([step if step in "f#n" else step + cells(word) for step, word in steps]))
 
 
 def cut(mode, held, of):
     return "cut\t%s\t%s\t%s\t*\t*" % (mode, words(held), cells(of))
-
-
-# Enough nodes for every script: no add is refused.
-POOL_CELLS = 65536

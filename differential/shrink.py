@@ -6,22 +6,28 @@ import sides
 PLAIN = "\u0e01a"
 
 
-def smaller(row):
-    """A row without one of its parts: halves first, then quarters, down to single items."""
+def parts(row):
+    """The parts of a row: all of it, then halves, down to single items."""
     size = len(row)
     while 0 < size:
         for i in range(0, len(row), size):
-            yield row[:i] + row[i + size :]
+            yield i, min(i + size, len(row))
         size //= 2
 
 
+def smaller(row):
+    """A row without one of its parts."""
+    for start, end in parts(row):
+        yield row[:start] + row[end:]
+
+
 def plainer(text):
-    """A text with one character made plain."""
-    for i, c in enumerate(text):
+    """A text with one of its parts made plain."""
+    for start, end in parts(text):
         for plain in PLAIN:
-            if c == plain:
+            if text[start:end] == plain * (end - start):
                 break
-            yield text[:i] + plain + text[i + 1 :]
+            yield text[:start] + plain * (end - start) + text[end:]
 
 
 def texts(text):
@@ -67,6 +73,8 @@ def candidates(line):
         at = 1 if fields[0] == "prefix" else 2
         words, text = held_words(fields[at]), lines.text(fields[at + 1])
         make = lines.prefix if at == 1 else lambda held, of: lines.cut(fields[1], held, of)
+        for held in smaller(words):
+            yield make(held, text)
         for other in texts(text):
             yield make(words, other)
         for held in rows(words, texts):
@@ -89,7 +97,7 @@ def shrunk(line):
                 continue
             batch.append(other)
             size += len(other)
-            if 100000 < size:
+            if 30000 < size:
                 found, batch, size = first_different(batch), [], 0
                 if found:
                     break

@@ -15,7 +15,7 @@ use vector_lines::read_input;
 const INPUT: usize = 524288;
 
 // More than a text may have, so that a longer one can be given.
-const CELLS: usize = 65540;
+const CELLS: usize = 70000;
 
 fn main() {
     let mut input = [0u8; INPUT];
