@@ -6,10 +6,10 @@ use mathlib.Core.Path.{_≡_, refl, sym, _∙_, ap}
 use mathlib.Core.Bool.{Bool, true, false, cond}
 use mathlib.Core.List.{List, [], _∷_}
 use lib.ListN.{length, getD, take, drop}
-use lib.Seq.{drop-cons, drop-length, take-length}
+use lib.Seq.{drop-cons, take-length}
 use lib.ListN.{drop-of-length-le}
 use lib.Dec.{eqb}
-use borrow.Author.Tests.{ne-eqb, eqb-true, eqb-false}
+use borrow.Author.Tests.{ne-eqb}
 use Rattle.basics.specs.Scans.{leading, behindLast}
 
 pub leading-yes : (p : ℕ → Bool) (x : ℕ) (xs : List ℕ) → p x ≡ true → leading p (x ∷ xs) ≡ suc (leading p xs)

@@ -1,15 +1,14 @@
 -- Right and wrong pairs of positions, and the parts between them. Assumes nothing.
-use Prim.Native.Nat.{ℕ, _+_, _-_, _*_, _≤_, _<_}
+use Prim.Native.Nat.{ℕ, _+_, _-_, _≤_, _<_}
 use native.Mathlib.Omega.{arith}
 use mathlib.Core.Path.{_≡_, refl, sym, _∙_, ap}
 use mathlib.Core.Bool.{Bool, true, false, cond, _&&_}
-use mathlib.Core.List.{List, []}
-use lib.ListN.{length, getD, take, drop, length-drop}
+use mathlib.Core.List.{List}
+use lib.ListN.{length, getD, drop, length-drop}
 use lib.Seq.{length-take-le}
 use lib.Dec.{leb}
-use borrow.Author.Tests.{le-leb, lt-leb, leb-true, lt-ltb, le-ltb}
+use borrow.Author.Tests.{lt-leb, leb-true, lt-ltb, le-ltb}
 use Rattle.char_string.specs.declared.parts.Span.{Span}
-use Rattle.char_string.specs.declared.parts.CharAt.{CharAt}
 use Rattle.char_string.specs.declared.parts.CharAt.the-variants.{Scalar, Nothing}
 use Rattle.char_string.specs.Parts.{rightPair, fitted, between, partOf, charAt, shifted, subView}
 

@@ -2,15 +2,15 @@
 use Prim.Native.Nat.{ℕ, zero, suc, _+_, _-_, _≤_, _<_}
 use native.Mathlib.Omega.{arith}
 use native.Mathlib.Numerals.{sub-one}
-use mathlib.Core.Path.{_≡_, refl, sym, _∙_, ap}
+use mathlib.Core.Path.{_≡_, sym, _∙_, ap}
 use mathlib.Core.List.{List}
 use lib.ListN.{length, take, drop, length-drop}
-use Rattle.basics.specs.Scans.{leading, behindLast}
+use Rattle.basics.specs.Scans.{behindLast}
+use lib.Seq.{length-take-le}
 use borrow.Author.Tests.{le-leb}
 use Rattle.basics.proofs.Parts.{tail-drop}
 use Rattle.basics.proofs.Scans.{leading-inside, last-inside}
 use Rattle.char_string.specs.declared.parts.Span.{Span}
-use Rattle.char_string.specs.declared.blanks.Found.{Found}
 use Rattle.char_string.specs.declared.blanks.Found.the-variants.{At, Nothing}
 use Rattle.char_string.proofs.Pairs.{fit-right}
 use Rattle.char_string.specs.Parts.{fitted, between, partOf}
@@ -40,12 +40,22 @@ pub span-inside : (word : List ℕ) (a k : ℕ) → a ≡ trimStart word → k �
 span-inside word a k e h =
     omega (arith, start-inside word, e, h, last-inside stays (take (length word - a) (drop a word)), ap length (tail-drop word a), length-drop a word)
 
--- the trimmed word is the part between its two positions
-right : (word : List ℕ) (s : Span) → s ≡ trimOf word → s ≡ fitted (length word) (s .start) (s .end)
-right word s e =
+-- the two positions are a right pair
+pub record Fits (word : List ℕ) (a b : ℕ) : Type 0 where
+  pub order : a ≤ b
+  pub inside : b ≤ length word
+
+pub fits : (word : List ℕ) (s : Span) → s ≡ trimOf word → Fits word (s .start) (s .end)
+fits word s e =
     let x : s .start ≡ trimStart word = ap (λ (q : Span). q .start) e in
     let y : s .end ≡ trimEnd word = ap (λ (q : Span). q .end) e in
-    fit-right (length word) (s .start) (s .end) (simp (le-leb (s .start) (s .end) (omega arith), le-leb (s .end) (length word) (omega (arith, end-inside word))))
+    record { order = omega arith; inside = omega (arith, end-inside word) }
+
+-- the trimmed word is the part between them
+right : (word : List ℕ) (s : Span) → s ≡ trimOf word → s ≡ fitted (length word) (s .start) (s .end)
+right word s e =
+    let f = fits word s e in
+    fit-right (length word) (s .start) (s .end) (simp (le-leb (s .start) (s .end) (f .order), le-leb (s .end) (length word) (f .inside)))
 
 pub part-is : (word : List ℕ) (s : Span) → s ≡ trimOf word → partOf word (s .start) (s .end) ≡ trimmedOf word
 unfolding trimmedOf
@@ -53,3 +63,10 @@ part-is word s e = ap (between word) (sym (right word s e) ∙ e)
 
 pub start-is : (word : List ℕ) (s : Span) → s ≡ trimOf word → fitted (length word) (s .start) (s .end) .start ≡ trimStart word
 start-is word s e = ap (λ (q : Span). q .start) (sym (right word s e) ∙ e)
+
+pub length-is : (word : List ℕ) (s : Span) → s ≡ trimOf word → s .end - s .start ≡ length (trimmedOf word)
+unfolding trimmedOf
+length-is word s e =
+    let f = fits word s e in
+    sym (length-take-le (s .end - s .start) (drop (s .start) word) (omega (arith, f .order, f .inside, length-drop (s .start) word)))
+    ∙ ap (λ (q : Span). length (take (q .end - q .start) (drop (q .start) word))) e

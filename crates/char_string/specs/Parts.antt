@@ -1,7 +1,7 @@
 -- Sub-texts: a part of the caller's text, and a view with a start and an end.
 use Prim.Native.Nat.{ℕ, _+_, _-_, _*_}
 use mathlib.Core.Bool.{Bool, cond, _&&_}
-use mathlib.Core.List.{List, []}
+use mathlib.Core.List.{List}
 use lib.ListN.{length, getD, take, drop}
 use lib.Dec.{leb, ltb}
 use Rattle.char_string.specs.declared.parts.Span.{Span}

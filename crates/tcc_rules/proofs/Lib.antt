@@ -2,8 +2,8 @@ pub mod Known
 pub mod Classes
 pub mod Steps
 pub mod Skips
-pub mod Tails
 pub mod Paths
+pub mod Tails
 pub mod Alone
 pub mod StartsVowel
 pub mod StartsE

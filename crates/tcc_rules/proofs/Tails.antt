@@ -7,20 +7,15 @@ use mathlib.Core.List.{List, [], _∷_, _++_}
 use lib.ListN.{length, getD, take}
 use lib.Dec.{T, ltb}
 use borrow.Author.Tests.{lt-ltb, le-ltb}
-use Rattle.tcc_rules.specs.Patterns.{holds, Pattern, end, fail, Match, none, upto, match, isMatch, items, one, opt, optional}
+use Rattle.tcc_rules.specs.Patterns.{Range, holds, Pattern, end, fail, Match, none, upto, match, isMatch, items, one, opt, optional}
 use Rattle.tcc_rules.specs.Rules.{is, consonant, leading, dOrI, ch, k}
 use Rattle.tcc_rules.specs.Clusters.{ended}
-use Rattle.tcc_rules.specs.Inner.{exact, some, skipped, endOr, kEnd, shorter}
+use Rattle.tcc_rules.specs.Inner.{Known, exact, some, place, endOr, kEnd, shorter}
+use Rattle.tcc_rules.proofs.Classes.{NoneOf, all, none-of}
 use Rattle.tcc_rules.proofs.Steps.{endBy, end-fail, end-end, end-sure, step, stay, sure, match-past}
-use Rattle.tcc_rules.proofs.Skips.{skip}
+use Rattle.tcc_rules.proofs.Paths.{Path, left, count, other, clear, along}
 
--- what is left of k, character by character
-abbrev third : Pattern
-third = items (ch 0xE4C ∷ []) end
-
-abbrev second : Pattern
-second = items (opt dOrI ∷ ch 0xE4C ∷ []) end
-
+-- what is left of k behind its first character
 abbrev pub first : Pattern
 first = items (opt consonant ∷ opt dOrI ∷ ch 0xE4C ∷ []) end
 
@@ -41,14 +36,37 @@ module _ (text : List ℕ) (p : ℕ) where
   pub k-first : holds consonant (getD text p 0) ≡ true → kEnd text p ≡ endBy first fail text (p + 1) p
   k-first h = sym (k-end p) ∙ step (some consonant) (optional k) fail text p p (h, refl) tt tt tt tt
 
-  k-third : holds consonant (getD text p 0) ≡ true → kEnd text p ≡ endBy third fail text (skipped dOrI text (skipped consonant text (p + 1))) p
-  k-third h = k-first h ∙ skip consonant first fail text (p + 1) p tt refl refl ∙ skip dOrI second fail text (skipped consonant text (p + 1)) p tt refl refl
+  -- k by its characters
+  through : (ks : List Known) (outs : List Range) → Path ks outs text p 0 → T (clear ks outs (optional k) fail)
+      → kEnd text p ≡ endBy (left ks outs (optional k)) (left ks outs fail) text (place p (count ks 0)) (other ks (optional k) p 0 p)
+  through ks outs f t = sym (k-end p) ∙ along ks outs (optional k) fail text p 0 p f t
 
-  pub k-yes : (q : ℕ) → holds consonant (getD text p 0) ≡ true → q ≡ skipped dOrI text (skipped consonant text (p + 1)) → getD text q 0 ≡ 0xE4C → q + 1 ≡ kEnd text p
-  k-yes q h e f = sym (k-third h ∙ ap (λ (i : ℕ). endBy third fail text i p) (sym e) ∙ step (exact 0xE4C) third fail text q p f tt tt tt tt ∙ end-end fail text (q + 1) p tt)
+  module _ (h : holds consonant (getD text p 0) ≡ true) where
+    pub k-mark : getD text (p + 1) 0 ≡ 0xE4C → p + 2 ≡ kEnd text p
+    k-mark f = sym (through (some consonant ∷ exact 0xE4C ∷ []) [] ((h, refl), (f, refl)) tt ∙ end-end fail text _ _ tt)
 
-  pub k-no : (q : ℕ) → holds consonant (getD text p 0) ≡ true → q ≡ skipped dOrI text (skipped consonant text (p + 1)) → holds (is 0xE4C) (getD text q 0) ≡ false → p ≡ kEnd text p
-  k-no q h e f = sym (k-third h ∙ ap (λ (i : ℕ). endBy third fail text i p) (sym e) ∙ stay (is 0xE4C) third fail text q p f tt ∙ end-fail fail text q p)
+    pub k-d-mark : holds dOrI (getD text (p + 1) 0) ≡ true → getD text (p + 2) 0 ≡ 0xE4C → p + 3 ≡ kEnd text p
+    k-d-mark g f = sym (through (some consonant ∷ some dOrI ∷ exact 0xE4C ∷ []) [] ((h, refl), ((g, refl), (f, refl))) tt ∙ end-end fail text _ _ tt)
+
+    pub k-d-no : holds dOrI (getD text (p + 1) 0) ≡ true → holds (is 0xE4C) (getD text (p + 2) 0) ≡ false → p ≡ kEnd text p
+    k-d-no g f = sym (through (some consonant ∷ some dOrI ∷ []) (is 0xE4C) ((h, refl), ((g, refl), f)) tt ∙ end-fail _ _ _ _)
+
+    pub k-no : NoneOf (is 0xE4C ∷ dOrI ∷ consonant ∷ []) (getD text (p + 1) 0) → p ≡ kEnd text p
+    k-no f =
+        sym (through (some consonant ∷ []) (all (is 0xE4C ∷ dOrI ∷ consonant ∷ [])) ((h, refl), none-of (is 0xE4C ∷ dOrI ∷ consonant ∷ []) (getD text (p + 1) 0) f) tt ∙ end-fail _ _ _ _)
+
+    pub k-two-mark : holds consonant (getD text (p + 1) 0) ≡ true → getD text (p + 2) 0 ≡ 0xE4C → p + 3 ≡ kEnd text p
+    k-two-mark g f = sym (through (some consonant ∷ some consonant ∷ exact 0xE4C ∷ []) [] ((h, refl), ((g, refl), (f, refl))) tt ∙ end-end fail text _ _ tt)
+
+    pub k-two-no : holds consonant (getD text (p + 1) 0) ≡ true → NoneOf (is 0xE4C ∷ dOrI ∷ []) (getD text (p + 2) 0) → p ≡ kEnd text p
+    k-two-no g f =
+        sym (through (some consonant ∷ some consonant ∷ []) (all (is 0xE4C ∷ dOrI ∷ [])) ((h, refl), ((g, refl), none-of (is 0xE4C ∷ dOrI ∷ []) (getD text (p + 2) 0) f)) tt ∙ end-fail _ _ _ _)
+
+    pub k-all : holds consonant (getD text (p + 1) 0) ≡ true → holds dOrI (getD text (p + 2) 0) ≡ true → getD text (p + 3) 0 ≡ 0xE4C → p + 4 ≡ kEnd text p
+    k-all g i f = sym (through (some consonant ∷ some consonant ∷ some dOrI ∷ exact 0xE4C ∷ []) [] ((h, refl), ((g, refl), ((i, refl), (f, refl)))) tt ∙ end-end fail text _ _ tt)
+
+    pub k-all-no : holds consonant (getD text (p + 1) 0) ≡ true → holds dOrI (getD text (p + 2) 0) ≡ true → holds (is 0xE4C) (getD text (p + 3) 0) ≡ false → p ≡ kEnd text p
+    k-all-no g i f = sym (through (some consonant ∷ some consonant ∷ some dOrI ∷ []) (is 0xE4C) ((h, refl), ((g, refl), ((i, refl), f))) tt ∙ end-fail _ _ _ _)
 
   -- where a character of k satisfies the look-ahead
   abbrev ahead : Pattern

@@ -10,7 +10,7 @@ use crate::letters::is_open_vowel;
 use crate::letters::is_tone;
 ghost use mathlib.Core.Path.{_≡_};
 ghost use mathlib.Core.List.{_++_};
-ghost use Rattle.tcc_rules.specs.Rules.{is, consonant, tone, dOrI};
+ghost use Rattle.tcc_rules.specs.Rules.{is, tone};
 ghost use Rattle.tcc_rules.specs.Inner.{skipped, kEnd, shorter};
 
 pub fn skip_tone(text: &[u32], p: usize) -> usize
@@ -60,25 +60,6 @@ pub fn skip_open_vowel(text: &[u32], p: usize) -> usize
     p
 }
 
-fn skip_consonant(text: &[u32], p: usize) -> usize
-    ensures { λ r. ⌜ r ≡ skipped consonant (now (text .entry)) p ⌝ }
-{
-    if is_consonant(at(text, p)) {
-        return p + 1;
-    }
-    p
-}
-
-// Over one of [ิุู].
-fn skip_d_or_i(text: &[u32], p: usize) -> usize
-    ensures { λ r. ⌜ r ≡ skipped dOrI (now (text .entry)) p ⌝ }
-{
-    if is_d_or_i(at(text, p)) {
-        return p + 1;
-    }
-    p
-}
-
 // Where k ends that starts at p; p where there is none.
 pub fn group_k(text: &[u32], p: usize) -> usize
     ensures { λ r. ⌜ r ≡ kEnd (now (text .entry)) p ⌝ }
@@ -86,10 +67,28 @@ pub fn group_k(text: &[u32], p: usize) -> usize
     if !is_consonant(at(text, p)) {
         return p;
     }
-    let second = skip_consonant(text, p + 1);
-    let last = skip_d_or_i(text, second);
-    if at(text, last) == THANTHAKHAT {
-        return last + 1;
+    let x = at(text, p + 1);
+    if x == THANTHAKHAT {
+        return p + 2;
+    }
+    let y = at(text, p + 2);
+    if is_d_or_i(x) {
+        if y == THANTHAKHAT {
+            return p + 3;
+        }
+        return p;
+    }
+    if !is_consonant(x) {
+        return p;
+    }
+    if y == THANTHAKHAT {
+        return p + 3;
+    }
+    if !is_d_or_i(y) {
+        return p;
+    }
+    if at(text, p + 3) == THANTHAKHAT {
+        return p + 4;
     }
     p
 }

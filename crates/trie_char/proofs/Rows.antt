@@ -7,8 +7,7 @@ use mathlib.Core.List.{List}
 use mathlib.Core.Option.{Option}
 use borrow.Author.Tests.{ltb-false, lt-ltb, le-ltb}
 use lib.Dec.{ltb}
-use lib.ListN.{length, drop, length-drop}
-use lib.Seq.{length-take-le}
+use lib.ListN.{length}
 use Rattle.refusal.specs.declared.Refusal.{Refusal}
 use Rattle.refusal.specs.declared.Refusal.the-variants.{WordTooLong}
 use Rattle.refusal.specs.declared.Answer.{Answer}
@@ -17,9 +16,7 @@ use Rattle.refusal.specs.Answers.{Row, answer}
 use Rattle.refusal.proofs.Order.{refused-first}
 use Rattle.pool_lent.proofs.Rows.{none-of, row-yes, row-kept}
 use Rattle.char_string.specs.Scalars.{firstNonScalar}
-use Rattle.char_string.specs.Blanks.{trimStart, trimEnd, trimOf, trimmedOf}
-use Rattle.char_string.specs.declared.parts.Span.{Span}
-use Rattle.char_string.proofs.Trimming.{end-inside}
+use Rattle.char_string.specs.Blanks.{trimmedOf}
 use Rattle.pool.specs.Meaning.{Words}
 use Rattle.pool_lent.specs.Refusals.{isNone, readRows}
 use Rattle.trie_char.specs.Refusals.{lengthRows, removeRows}
@@ -33,21 +30,6 @@ pub word-of : (word : List ℕ) (m : Option Words) (n k : ℕ) → answer (remov
 word-of word m n k h =
     let r = none-of (removeRows word m) n k h in
     record { legal = ltb-false (firstNonScalar word) (length word) (r .1 .0); known = r .1 .1 .0; short = ltb-false 255 (length (trimmedOf word)) (r .1 .1 .1 .0) }
-
--- trimming leaves what stands between two positions, in order
-pub in-order : (word : List ℕ) (s : Span) → s ≡ trimOf word → s .start ≤ s .end
-in-order word s e =
-    let x : s .start ≡ trimStart word = ap (λ (q : Span). q .start) e in
-    let y : s .end ≡ trimEnd word = ap (λ (q : Span). q .end) e in
-    omega arith
-
--- the length that trimming leaves, by its two positions
-pub kept-is : (word : List ℕ) (s : Span) → s ≡ trimOf word → s .end - s .start ≡ length (trimmedOf word)
-unfolding trimmedOf
-kept-is word s e =
-    let x : s .start ≡ trimStart word = ap (λ (q : Span). q .start) e in
-    let y : s .end ≡ trimEnd word = ap (λ (q : Span). q .end) e in
-    omega (arith, length-take-le (trimEnd word - trimStart word) (drop (trimStart word) word) (omega (arith, end-inside word, length-drop (trimStart word) word)))
 
 module _ (word : List ℕ) (m : Option Words) {a : Answer} (is : a ≡ answer (readRows word m) (length word)) where
   abbrev row : Row

@@ -65,7 +65,8 @@ pub fn add(pool: &mut [u32], word: &[u32]) -> Answer
     let more = missing(&pool[..cells], w);
     let free = nodes - wide(pool[4]);
     if free < more {
-        return Answer::Refused(Refusal::TooFewNodes(more - free));
+        let short = more - free;
+        return Answer::Refused(Refusal::TooFewNodes(short));
     }
     if w.len() == 0 {
         return Answer::Accepted(0);

@@ -1,7 +1,7 @@
 -- The row of table 3-7 that a first byte opens. Assumes nothing.
 use Prim.Native.Nat.{ℕ, suc, _≤_, _<_}
 use native.Mathlib.Omega.{arith}
-use mathlib.Core.Path.{_≡_, refl, sym, _∙_, ap}
+use mathlib.Core.Path.{_≡_, refl, _∙_}
 use mathlib.Core.Bool.{Bool, true, false, cond, _&&_, _||_}
 use mathlib.Core.List.{List, [], _∷_}
 use lib.ListN.{length}
@@ -9,7 +9,7 @@ use lib.Dec.{ltb}
 use borrow.Author.Tests.{le-leb, lt-leb, ltb-true, ltb-false}
 use Rattle.basics.specs.Scans.{within}
 use Rattle.utf8.specs.Utf8.{Range, _‥_, table37, fits, fitsAny, isSequence}
-use Rattle.utf8.specs.Decoding.{packed, opens, leadIn, leadOf, starts, sizeIn, sizeOf}
+use Rattle.utf8.specs.Decoding.{packed, leadIn, leadOf, starts, sizeIn, sizeOf}
 
 below : (lo hi b : ℕ) → b < lo → within lo hi b ≡ false
 below lo hi b h = simp (lt-leb _ _ h)

@@ -1,8 +1,8 @@
 -- The first scalar of bytes that start with a well-formed sequence: its first byte tells the rest. Assumes nothing.
-use Prim.Native.Nat.{ℕ, zero, suc, _+_, _-_, _*_, _%_, _≤_, _<_}
+use Prim.Native.Nat.{ℕ, suc, _+_, _-_, _*_, _%_, _≤_, _<_}
 use native.Mathlib.Omega.{arith}
 use native.Mathlib.Nat.{add-zero}
-use mathlib.Core.Path.{_≡_, refl, sym, _∙_, ap}
+use mathlib.Core.Path.{_≡_, refl, sym, _∙_}
 use mathlib.Core.Bool.{Bool, true, false, cond}
 use mathlib.Core.List.{List, [], _∷_}
 use lib.ListN.{length, getD, take, drop, length-drop}
@@ -10,10 +10,10 @@ use lib.Seq.{getD-drop}
 use lib.Dec.{ltb}
 use borrow.Author.Tests.{ltb-true, ltb-false}
 use Rattle.utf8.specs.declared.Piece.{Piece}
-use Rattle.utf8.specs.Utf8.{Range, _‥_, scalarOf}
+use Rattle.utf8.specs.Utf8.{Range, scalarOf}
 use Rattle.utf8.specs.Decoding.{starts, sizeOf}
 use Rattle.utf8.specs.Passes.{pieceOf}
-use Rattle.utf8.proofs.FirstBytes.{Opens, Closed, Kind, shut, one, two, three, four, kind-of}
+use Rattle.utf8.proofs.FirstBytes.{Opens, Kind, shut, one, two, three, four, kind-of}
 use Rattle.utf8.proofs.Sizes.{third-range, fourth-range, size-inside}
 
 some : (t : Bool) (k : ℕ) → 0 < cond t k 0 → cond t k 0 ≡ k

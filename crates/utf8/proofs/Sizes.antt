@@ -1,18 +1,18 @@
 -- The length of the sequence at the start of bytes, from its first byte's entry and the bytes behind it. Assumes nothing.
-use Prim.Native.Nat.{ℕ, zero, suc, _+_, _-_, _*_, _/_, _%_, _≤_, _<_}
+use Prim.Native.Nat.{ℕ, suc, _+_, _-_, _*_, _/_, _%_, _≤_, _<_}
 use native.Mathlib.Omega.{arith}
 use native.Mathlib.Nat.{add-zero}
 use mathlib.Core.Path.{_≡_, refl, sym, _∙_, ap}
 use mathlib.Core.Bool.{Bool, true, false, cond, _&&_}
 use mathlib.Core.List.{List, [], _∷_}
-use lib.ListN.{length, getD, take, drop, length-drop}
+use lib.ListN.{length, getD, drop, length-drop}
 use lib.Seq.{getD-drop}
 use lib.Dec.{leb, ltb, eqb}
-use borrow.Author.Tests.{lt-ltb, le-ltb, lt-leb, le-leb, leb-true, leb-false, ltb-true, ltb-false}
+use borrow.Author.Tests.{lt-ltb, le-ltb, leb-true, leb-false}
 use Rattle.basics.specs.Scans.{within}
 use Rattle.utf8.specs.Utf8.{Range, _‥_, table37}
-use Rattle.utf8.specs.Decoding.{packed, leadOf, starts, sizeIn, sizeOf}
-use Rattle.utf8.proofs.FirstBytes.{Opens, Closed, Third, e0, e1, ed, ee, Fourth, f0, f1, f4, trail, Kind, shut, one, two, three, four, kind-of}
+use Rattle.utf8.specs.Decoding.{leadOf, starts, sizeIn, sizeOf}
+use Rattle.utf8.proofs.FirstBytes.{Third, e0, e1, ed, ee, Fourth, f0, f1, f4, trail, Kind, shut, one, two, three, four, kind-of}
 
 -- the decoder's tests, one after the other: the size that the first byte asks, its second byte's range, n bytes in all
 unfoldable pub sizeBy : (size lo hi n b c d : ℕ) → ℕ

@@ -1,17 +1,17 @@
 -- Encoding and decoding are each other's inverse (table 3-6 from left to right and back). Assumes nothing.
-use Prim.Native.Nat.{ℕ, zero, suc, _+_, _*_, _/_, _%_, _≤_, _<_}
+use Prim.Native.Nat.{ℕ, suc, _+_, _*_, _/_, _%_, _≤_, _<_}
 use native.Mathlib.Omega.{arith}
 use mathlib.Core.Path.{_≡_, refl, sym, _∙_, ap, subst}
-use mathlib.Core.Bool.{Bool, true, false, cond, _&&_, _||_}
+use mathlib.Core.Bool.{Bool, true, false, _&&_, _||_}
 use mathlib.Core.List.{List, [], _∷_, _++_}
 use lib.ListN.{length}
 use lib.Dec.{T, ltb, leb}
 use borrow.Author.Tests.{lt-ltb, le-ltb, le-leb, ltb-true, ltb-false, leb-true}
-use Rattle.basics.specs.Scans.{within, leading}
+use Rattle.basics.specs.Scans.{within}
 use Rattle.basics.proofs.Scans.{leading-all, leading-yes, leading-nil}
 use Rattle.char_string.specs.Scalars.{isScalar, firstNonScalar}
-use Rattle.utf8.specs.Utf8.{Range, _‥_, fits, isSequence, scalarOf, bytesOf, encode, Utf8, empty, next}
-use Rattle.utf8.proofs.FirstBytes.{Opens, Closed, Third, e0, e1, ed, ee, Fourth, f0, f1, f4, Stray, low, high, trail, Kind, shut, one, two, three, four, kind-of, inside}
+use Rattle.utf8.specs.Utf8.{_‥_, fits, isSequence, scalarOf, bytesOf, encode, Utf8, empty, next}
+use Rattle.utf8.proofs.FirstBytes.{Third, e0, e1, ed, ee, Fourth, f0, f1, f4, low, high, trail, Kind, shut, one, two, three, four, kind-of, inside}
 use Rattle.utf8.proofs.Sizes.{third-range, fourth-range}
 use Rattle.utf8_standard.proofs.Standard.{no, true-is, is-true, not-empty}
 

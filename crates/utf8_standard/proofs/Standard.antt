@@ -5,13 +5,13 @@ use mathlib.Core.Path.{_≡_, refl, sym, _∙_, ap, subst}
 use mathlib.Core.Bool.{Bool, true, false, cond, _&&_}
 use mathlib.Core.List.{List, [], _∷_, _++_, append-assoc}
 use lib.ListN.{length, take, drop, length-append, length-drop, take-append-drop}
-use lib.Seq.{take-add, take-all, take-append-le, drop-append-seam, take-append-seam, length-take-le}
+use lib.Seq.{take-add, take-all, drop-append-seam, take-append-seam, length-take-le}
 use lib.Dec.{T, eqb}
 use borrow.Author.Tests.{eqb-true, eqb-false}
 use Rattle.basics.specs.Scans.{within}
 use Rattle.utf8.specs.Utf8.{Range, fits, isSequence, scalarOf, Utf8, empty, next}
 use Rattle.utf8.specs.Decoding.{starts, sizeOf, Run, runAll, scalarsOf, more, stop}
-use Rattle.utf8.proofs.FirstBytes.{Opens, Closed, Kind, shut, one, two, three, four, kind-of}
+use Rattle.utf8.proofs.FirstBytes.{Opens, Kind, shut, one, two, three, four, kind-of}
 use Rattle.utf8.proofs.Sizes.{size-inside}
 use Rattle.utf8.proofs.Runs.{run-empty, run-broken, run-more}
 

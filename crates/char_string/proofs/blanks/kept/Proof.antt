@@ -1,18 +1,12 @@
 -- Assumes nothing.
--- uses
 use Prim.Native.Nat.{_-_}
 use mathlib.Core.Path.{refl, sym, _∙_, ap}
-use mathlib.Core.Bool.{Bool, not}
-use borrow.Author.Tests.{not-true, not-false}
+use mathlib.Core.Bool.{not}
 use Rattle.basics.proofs.Scans.{Left, left-all, left-less, left-stop, left-none}
 use Rattle.char_string.specs.Blanks.{stays}
--- end uses
 use borrow.Author.Needs.{needs}
 use Rattle.char_string.proofs.blanks.kept.Statement.{statement}
 use Rattle.char_string.proofs.blanks.kept.Tie as tie
-use Rattle.char_string.proofs.blanks.kept.Reads as reads
-use Rattle.char_string.proofs.blanks.kept.Lts as lts
-use Rattle.char_string.proofs.blanks.is_trimmed.Reads as is-trimmed-reads
 
 abbrev Inv-loop : tie.InvT-loop
 Inv-loop word e₀ e = Left stays word e
@@ -20,43 +14,33 @@ Inv-loop word e₀ e = Left stays word e
 abbrev μ-loop : tie.MeasureT-loop
 μ-loop word e₀ e = e
 
--- src/blanks.rt:47:5
 loop-holds : tie.Need-loop-holds Inv-loop μ-loop
 loop-holds c = left-all _ _ _ refl
 
--- src/blanks.rt:48:29
 sub-is-trimmed : tie.Need-sub-is-trimmed Inv-loop μ-loop
 sub-is-trimmed c = search needs
 
--- src/blanks.rt:48:24
 mul-is-trimmed : tie.Need-mul-is-trimmed Inv-loop μ-loop
 mul-is-trimmed c = search needs
 
--- src/blanks.rt:48:24
 shared-slice-read-is-trimmed : tie.Need-shared-slice-read-is-trimmed Inv-loop μ-loop
 shared-slice-read-is-trimmed c = search needs
 
--- src/blanks.rt:48:13
 is-trimmed-requires : tie.Need-is-trimmed-requires Inv-loop μ-loop
 is-trimmed-requires c κs = search needs
 
--- src/blanks.rt:49:13
 returns : tie.Need-returns Inv-loop μ-loop
 returns c = left-stop (c .before .before .before .before .loop .inv) (c .before .before .before .loop-test .taken) (ap not (sym (c .before .is-trimmed .ensures)) ∙ c .if1 .taken)
 
--- src/blanks.rt:51:9
 sub-e : tie.Need-sub-e Inv-loop μ-loop
 sub-e c = search needs
 
--- src/blanks.rt:47:5
 loop-less : tie.Need-loop-less Inv-loop μ-loop
 loop-less c = search needs
 
--- src/blanks.rt:47:5
 loop-again : tie.Need-loop-again Inv-loop μ-loop
 loop-again c = left-less (c .before .before .before .before .loop .inv) (c .before .before .before .loop-test .taken) (ap not (sym (c .before .is-trimmed .ensures)) ∙ c .if1 .left)
 
--- src/blanks.rt:43:1
 returns-2 : tie.Need-returns-2 Inv-loop μ-loop
 returns-2 c = left-none (c .before .loop .inv) (c .loop-test .left)
 

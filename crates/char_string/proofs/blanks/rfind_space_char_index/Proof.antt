@@ -1,16 +1,12 @@
 -- Assumes nothing.
--- uses
 use mathlib.Core.Path.{refl}
 use borrow.Author.Tests.{eq-eqb, ne-eqb}
 use Rattle.basics.proofs.Scans.{Left, left-all, left-less, left-stop, left-none}
 use Rattle.char_string.specs.Blanks.{isSpace}
 use Rattle.char_string.proofs.Trimming.{before-some, before-none}
--- end uses
 use borrow.Author.Needs.{needs}
 use Rattle.char_string.proofs.blanks.rfind_space_char_index.Statement.{statement}
 use Rattle.char_string.proofs.blanks.rfind_space_char_index.Tie as tie
-use Rattle.char_string.proofs.blanks.rfind_space_char_index.Reads as reads
-use Rattle.char_string.proofs.blanks.rfind_space_char_index.Lts as lts
 
 abbrev Inv-loop : tie.InvT-loop
 Inv-loop text i₀ i = Left isSpace text i
@@ -18,43 +14,33 @@ Inv-loop text i₀ i = Left isSpace text i
 abbrev μ-loop : tie.MeasureT-loop
 μ-loop text i₀ i = i
 
--- src/blanks.rt:80:5
 loop-holds : tie.Need-loop-holds Inv-loop μ-loop
 loop-holds c = left-all _ _ _ refl
 
--- src/blanks.rt:81:17
 sub-if1 : tie.Need-sub-if1 Inv-loop μ-loop
 sub-if1 c = search needs
 
--- src/blanks.rt:81:12
 mul-if1 : tie.Need-mul-if1 Inv-loop μ-loop
 mul-if1 c = search needs
 
--- src/blanks.rt:81:12
 shared-slice-read-if1 : tie.Need-shared-slice-read-if1 Inv-loop μ-loop
 shared-slice-read-if1 c = search needs
 
--- src/blanks.rt:82:30
 sub-t8 : tie.Need-sub-t8 Inv-loop μ-loop
 sub-t8 c = search needs
 
--- src/blanks.rt:82:13
 returns : tie.Need-returns Inv-loop μ-loop
 returns c = before-some _ _ (left-stop (c .before .before .before .loop .inv) (c .before .before .loop-test .taken) (eq-eqb _ _ (c .if1 .taken))) (c .before .before .loop-test .taken)
 
--- src/blanks.rt:84:9
 sub-i : tie.Need-sub-i Inv-loop μ-loop
 sub-i c = search needs
 
--- src/blanks.rt:80:5
 loop-less : tie.Need-loop-less Inv-loop μ-loop
 loop-less c = search needs
 
--- src/blanks.rt:80:5
 loop-again : tie.Need-loop-again Inv-loop μ-loop
 loop-again c = left-less (c .before .before .before .loop .inv) (c .before .before .loop-test .taken) (ne-eqb _ _ (c .if1 .left))
 
--- src/blanks.rt:76:1
 returns-2 : tie.Need-returns-2 Inv-loop μ-loop
 returns-2 c = before-none _ _ (left-none (c .before .loop .inv) (c .loop-test .left)) (c .loop-test .left)
 

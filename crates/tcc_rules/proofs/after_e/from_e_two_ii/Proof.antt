@@ -28,45 +28,45 @@ add-skip-tone c = omega (arith, c .before .pre .0)
 skip-tone-requires : tie.Need-skip-tone-requires
 skip-tone-requires c κs = search needs
 
--- src/after_e.rt:118:8
+-- src/after_e.rt:118:16
+add-open : tie.Need-add-open
+add-open c = omega (arith, c .before .before .pre .0)
+
+-- src/after_e.rt:119:8
 at-requires : tie.Need-at-requires
 at-requires c κs = search needs
 
--- src/after_e.rt:119:16
+-- src/after_e.rt:120:16
 add-result : tie.Need-add-result
 add-result c = omega (arith, c .before .before .before .before .pre .0)
 
--- src/after_e.rt:119:9
+-- src/after_e.rt:120:9
 returns : tie.Need-returns
 returns c = e-two-ii-no (c .before .before .before .before .args .text .now) (c .before .before .before .before .args .p) (c .before .before .before .before .pre) _ (c .before .before .skip-tone .ensures) (unlike 0xE22 (c .before .at .ensures) (c .if1 .taken))
 
--- src/after_e.rt:121:17
+-- src/after_e.rt:122:17
 add-at : tie.Need-add-at
 add-at c = omega (arith, c .before .before .before .before .pre .0, c .before .before .skip-tone .ensures, skip-near tone (c .before .before .before .before .args .text .now) (c .before .before .before .before .args .p + 4))
 
--- src/after_e.rt:121:8
+-- src/after_e.rt:122:8
 at-requires-2 : tie.Need-at-requires-2
 at-requires-2 c κs = search needs
 
--- src/after_e.rt:122:16
-add-result-2 : tie.Need-add-result-2
-add-result-2 c = omega (arith, c .before .before .before .before .before .before .pre .0)
-
--- src/after_e.rt:122:9
-returns-2 : tie.Need-returns-2
-returns-2 c = e-two-ii-yo (c .before .before .before .before .before .before .args .text .now) (c .before .before .before .before .before .before .args .p) (c .before .before .before .before .before .before .pre) _ (c .before .before .before .before .skip-tone .ensures) (sym (c .before .before .before .at .ensures) ∙ c .before .before .if1 .left) (unlike 0xE30 (c .before .at2 .ensures) (c .if2 .taken))
-
--- src/after_e.rt:124:19
+-- src/after_e.rt:123:30
 add-group-k : tie.Need-add-group-k
 add-group-k c = omega (arith, c .before .before .before .before .before .before .pre .0, c .before .before .before .before .skip-tone .ensures, skip-near tone (c .before .before .before .before .before .before .args .text .now) (c .before .before .before .before .before .before .args .p + 4))
 
--- src/after_e.rt:124:5
+-- src/after_e.rt:123:9
 group-k-requires : tie.Need-group-k-requires
 group-k-requires c κs = search needs
 
+-- src/after_e.rt:123:9
+returns-2 : tie.Need-returns-2
+returns-2 c = c .group-k .ensures ∙ e-two-ii (c .before .before .before .before .before .before .before .args .text .now) (c .before .before .before .before .before .before .before .args .p) (c .before .before .before .before .before .before .before .pre) _ (c .before .before .before .before .before .skip-tone .ensures) (sym (c .before .before .before .before .at .ensures) ∙ c .before .before .before .if1 .left) (sym (c .before .before .at2 .ensures) ∙ c .before .if2 .taken)
+
 -- src/after_e.rt:113:1
 returns-3 : tie.Need-returns-3
-returns-3 c = c .group-k .ensures ∙ e-two-ii (c .before .before .before .before .before .before .before .args .text .now) (c .before .before .before .before .before .before .before .args .p) (c .before .before .before .before .before .before .before .pre) _ (c .before .before .before .before .before .skip-tone .ensures) (sym (c .before .before .before .before .at .ensures) ∙ c .before .before .before .if1 .left) (sym (c .before .before .at2 .ensures) ∙ c .before .if2 .left)
+returns-3 c = e-two-ii-yo (c .before .before .before .before .before .before .args .text .now) (c .before .before .before .before .before .before .args .p) (c .before .before .before .before .before .before .pre) _ (c .before .before .before .before .skip-tone .ensures) (sym (c .before .before .before .at .ensures) ∙ c .before .before .if1 .left) (unlike 0xE30 (c .before .at2 .ensures) (c .if2 .left))
 
 pub from-e-two-ii-spec : {M : Type 1} → statement M
 from-e-two-ii-spec =
@@ -74,13 +74,13 @@ from-e-two-ii-spec =
     (tie.spec
     add-skip-tone
     skip-tone-requires
+    add-open
     at-requires
     add-result
     returns
     add-at
     at-requires-2
-    add-result-2
-    returns-2
     add-group-k
     group-k-requires
+    returns-2
     returns-3)

@@ -74,8 +74,8 @@ sub-free : tie.Need-sub-free
 sub-free c = let f = used-fits (c .before .before .before .before .before .before .before .before .before .before .before .before .args .pool .now) (c .before .before .before .before .before .before .before .before .before .before .before .before .args .word .now) (c .before .before .before .before .before .before .before .before .check-word .ensures) (c .before .before .before .before .before .before .enum-told .given .1) _ (c .before .before .before .before .capacity .ensures) _ (c .before .before .before .before .before .trimmed .ensures .0) in omega (arith, f, c .wide .ensures)
 
 -- src/change.rt:67:53
-sub-t18 : tie.Need-sub-t18
-sub-t18 c = omega (arith, c .if1 .taken)
+sub-short : tie.Need-sub-short
+sub-short c = omega (arith, c .if1 .taken)
 
 -- src/change.rt:67:9
 same-length-2 : tie.Need-same-length-2
@@ -151,7 +151,7 @@ add-spec =
     slice-read-wide
     wide-requires
     sub-free
-    sub-t18
+    sub-short
     same-length-2
     returns-2
     same-length-3

@@ -2,7 +2,8 @@
 -- uses
 use native.Mathlib.Omega.{arith}
 use Rattle.pool.specs.Meaning.{meaning}
-use Rattle.trie_char.proofs.Rows.{word-read, word-long, word-short, in-order, kept-is}
+use Rattle.char_string.proofs.Trimming.{fits, length-is}
+use Rattle.trie_char.proofs.Rows.{word-read, word-long, word-short}
 -- end uses
 use borrow.Author.Needs.{needs}
 use Rattle.trie_char.proofs.words.check_word.Statement.{statement}
@@ -30,11 +31,11 @@ trim-requires c κs = search needs
 
 -- src/pools.rt:64:24
 sub-kept : tie.Need-sub-kept
-sub-kept c = let f = in-order (c .before .before .before .before .before .before .before .before .args .word .now) _ (c .before .trim .ensures) in omega (arith, f)
+sub-kept c = let f = fits (c .before .before .before .before .before .before .before .before .args .word .now) _ (c .before .trim .ensures) in omega (arith, f .order)
 
 -- src/pools.rt:66:17
 returns : tie.Need-returns
-returns c = word-long (c .before .before .before .before .before .before .before .before .before .args .word .now) (meaning (c .before .before .before .before .before .before .before .before .before .args .pool .now)) (c .before .before .before .before .before .before .check .ensures) _ (c .before .before .before .before .first2 .given .1) (kept-is (c .before .before .before .before .before .before .before .before .before .args .word .now) _ (c .before .before .trim .ensures)) (c .if1 .taken)
+returns c = word-long (c .before .before .before .before .before .before .before .before .before .args .word .now) (meaning (c .before .before .before .before .before .before .before .before .before .args .pool .now)) (c .before .before .before .before .before .before .check .ensures) _ (c .before .before .before .before .first2 .given .1) (length-is (c .before .before .before .before .before .before .before .before .before .args .word .now) _ (c .before .before .trim .ensures)) (c .if1 .taken)
 
 -- src/pools.rt:56:1
 returns-2 : tie.Need-returns-2
@@ -42,7 +43,7 @@ returns-2 c = word-read (c .before .before .before .before .before .before .args
 
 -- src/pools.rt:56:1
 returns-3 : tie.Need-returns-3
-returns-3 c = word-short (c .before .before .before .before .before .before .before .before .before .args .word .now) (meaning (c .before .before .before .before .before .before .before .before .before .args .pool .now)) (c .before .before .before .before .before .before .check .ensures) _ (c .before .before .before .before .first2 .given .1) (kept-is (c .before .before .before .before .before .before .before .before .before .args .word .now) _ (c .before .before .trim .ensures)) (c .if1 .left)
+returns-3 c = word-short (c .before .before .before .before .before .before .before .before .before .args .word .now) (meaning (c .before .before .before .before .before .before .before .before .before .args .pool .now)) (c .before .before .before .before .before .before .check .ensures) _ (c .before .before .before .before .first2 .given .1) (length-is (c .before .before .before .before .before .before .before .before .before .args .word .now) _ (c .before .before .trim .ensures)) (c .if1 .left)
 
 pub check-word-spec : {M : Type 1} → statement M
 check-word-spec =
