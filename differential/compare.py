@@ -15,12 +15,11 @@ BATCH = 400000
 
 
 def batches(count, seed, ops):
-    """Cases of one operation, as many as a program takes at once. Lines for which no program stands are left out."""
+    """Cases of one operation, as many as a program takes at once."""
     waiting, sizes = collections.defaultdict(list), collections.Counter()
-    for name, line in generate.cases(generate.MADE + generate.REAL, count, seed):
+    groups = [group for group in generate.MADE + generate.REAL if group.op in ops]
+    for name, line in generate.cases(groups, count, seed):
         op = sides.op(line)
-        if op not in ops:
-            continue
         if waiting[op] and BATCH < sizes[op] + len(line) + 1:
             yield waiting.pop(op)
             sizes[op] = 0

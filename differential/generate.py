@@ -1,6 +1,6 @@
 """Cases for a differential run: vector lines, the same for the same seed.
 
-A group is a class with the weight that it has in a run, and a method `line` that makes the group's line number i.
+A group is a class with the operation of its lines, the weight that it has in a run, and a method `line` that makes its line number i.
 An exhaustive group has a size: its lines are numbered from 0 and each is made once. The others draw their lines.
 """
 import random
@@ -189,7 +189,7 @@ def with_spaces(rng, text):
 
 class ShortClusters:
     """Every text of at most four characters, one of each class."""
-    weight, size = 20, texts_up_to(CLASSES, 4)
+    op, weight, size = "clusters", 20, texts_up_to(CLASSES, 4)
 
     def line(self, rng, i):
         return lines.clusters(numbered(CLASSES, 4, i))
@@ -198,7 +198,7 @@ class ShortClusters:
 class LookaheadClusters:
     """Every text that starts as the look-ahead alternatives do, with five more characters of the classes they name."""
     alphabet = "\u0e01\u0e22\u0e35\u0e34\u0e48\u0e30\u0e40\u0e4c"
-    weight, size = 5, texts_up_to(alphabet, 5)
+    op, weight, size = "clusters", 5, texts_up_to(alphabet, 5)
 
     def line(self, rng, i):
         return lines.clusters("\u0e40\u0e01" + numbered(self.alphabet, 5, i))
@@ -206,7 +206,7 @@ class LookaheadClusters:
 
 class AllThaiClusters:
     """Every character of the Thai block and of the edges, in every place of a matched text."""
-    weight, size = 10, None
+    op, weight, size = "clusters", 10, None
 
     def line(self, rng, i):
         text = matched(rng, rng.choice(ALTERNATIVES))
@@ -215,7 +215,7 @@ class AllThaiClusters:
 
 
 class RandomClusters:
-    weight, size = 10, None
+    op, weight, size = "clusters", 10, None
 
     def line(self, rng, i):
         text = some_text(rng, some_length(rng))
@@ -225,7 +225,7 @@ class RandomClusters:
 class ShortScripts:
     """Every script of four adds and removals of three words that share their first characters, looked at after each."""
     words = ["\u0e01", "\u0e01\u0e02", "\u0e01\u0e02\u0e04"]
-    weight, size = 2, (2 * len(words)) ** 4
+    op, weight, size = "dict", 2, (2 * len(words)) ** 4
 
     def line(self, rng, i):
         steps = [("f", "")]
@@ -237,7 +237,7 @@ class ShortScripts:
 
 class RandomScripts:
     """Adds and removals in random order, with blanks at the words' edges and inside, and words of up to 255 characters."""
-    weight, size = 10, None
+    op, weight, size = "dict", 10, None
 
     def word(self, rng, alphabet):
         kind = rng.random()
@@ -265,7 +265,7 @@ class RandomScripts:
 
 class Prefixes:
     """Words that a text starts with, words that part from it, and others."""
-    weight, size = 8, None
+    op, weight, size = "prefix", 8, None
 
     def line(self, rng, i):
         text = some_text(rng, some_length(rng) if rng.random() < 0.9 else rng.randint(250, 260))
@@ -280,7 +280,7 @@ class ShortCuts:
     """Every text of at most five characters over three, with every dictionary of at most two words of at most three."""
     alphabet = "\u0e01\u0e02\u0e32"
     held = at_most_two(all_texts(alphabet, 3)[1:])
-    weight, size = 14, len(held) * texts_up_to(alphabet, 5)
+    op, weight, size = "cut", 14, len(held) * texts_up_to(alphabet, 5)
 
     def line(self, rng, i):
         i, k = divmod(i, len(self.held))
@@ -290,7 +290,7 @@ class ShortCuts:
 class ShortNonThai:
     """Every text of at most four characters for the rules of text that is not Thai, with a few dictionaries."""
     held = [[], ["\u0e01"], ["\u0e01\u0e32"], ["a"], ["a1", "1,"], ["\u0e51", "-"], ["\u0e01 a", "a\r\n\u0e01", "1"]]
-    weight, size = 8, len(held) * texts_up_to(NON_THAI, 4)
+    op, weight, size = "cut", 8, len(held) * texts_up_to(NON_THAI, 4)
 
     def line(self, rng, i):
         i, k = divmod(i, len(self.held))
@@ -300,7 +300,7 @@ class ShortNonThai:
 class ShortClassCuts:
     """Every text of at most three characters, one of each class, with dictionaries of words that end inside a cluster and at its end."""
     held = [[], ["\u0e01"], ["\u0e01\u0e01", "\u0e23"], ["\u0e40\u0e01", "\u0e01\u0e32", "\u0e22"], ["\u0e01\u0e31", "\u0e40\u0e01\u0e34", "\u0e4c"], [" ", "a", "\u0e01 "]]
-    weight, size = 5, len(held) * texts_up_to(CLASSES, 3)
+    op, weight, size = "cut", 5, len(held) * texts_up_to(CLASSES, 3)
 
     def line(self, rng, i):
         i, k = divmod(i, len(self.held))
@@ -308,7 +308,7 @@ class ShortClassCuts:
 
 
 class RandomCuts:
-    weight, size = 12, None
+    op, weight, size = "cut", 12, None
 
     def line(self, rng, i):
         text = some_text(rng, some_length(rng))
@@ -320,7 +320,7 @@ class RandomCuts:
 
 class SafeCuts:
     """Safe mode around its boundaries, with spaces in and beside the sampled places."""
-    weight, size = 8, None
+    op, weight, size = "cut", 8, None
 
     def line(self, rng, i):
         text = with_spaces(rng, some_text(rng, rng.choice(LENGTHS)))
@@ -329,7 +329,7 @@ class SafeCuts:
 
 class DenseCuts:
     """Many edges: runs of a character with words of many lengths, around the limit of 50, whole or broken."""
-    weight, size = 6, None
+    op, weight, size = "cut", 6, None
 
     def line(self, rng, i):
         c = rng.choice("\u0e01\u0e01\u0e40a ")
@@ -345,7 +345,7 @@ class DenseCuts:
 
 class LongWords:
     """Words of 253 to 255 characters, in texts where they stand whole, cut short or one after the other."""
-    weight, size = 2, None
+    op, weight, size = "cut", 2, None
 
     def line(self, rng, i):
         alphabet = rng.choice(ALPHABETS[:6])
@@ -356,7 +356,7 @@ class LongWords:
 
 
 class RealClusters:
-    weight, size = 5, None
+    op, weight, size = "clusters", 5, None
 
     def line(self, rng, i):
         text = rng.choice(real.texts())
@@ -365,7 +365,7 @@ class RealClusters:
 
 class RealCuts:
     """Real text, whole, damaged or joined to longer ones, with all the real words that stand in it."""
-    weight, size = 5, None
+    op, weight, size = "cut", 5, None
 
     def line(self, rng, i):
         text = rng.choice(real.texts())

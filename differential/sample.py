@@ -1,7 +1,7 @@
-"""Writes stdin and stdout of the test programs: differential/sample.py VECTORS
+"""Adds a sample of the Rust's answers to stdin and stdout of the test programs: differential/sample.py
 
-First the lines of VECTORS, a file of vector lines with the answers of an independent model, refusals among them; then
-made cases with the Rust's answers, which differential/setup has built. No real text and no real words are in it.
+The scripts in tests/ write these files; the sample stands behind their lines, and is the same each time. The Rust is
+what differential/setup has built. No real text and no real words are in it.
 """
 import os
 import sys
@@ -41,14 +41,19 @@ def sampled():
         yield from fitting[:: max(1, len(fitting) // count)][:count]
 
 
+def standing(program):
+    """The lines of a test program, with their answers."""
+    sides_of = [open(os.path.join(sides.ROOT, "crates", program, name), encoding="ascii").read().splitlines() for name in ("stdin", "stdout")]
+    return [(line.split("\t"), answer) for line, answer in zip(*sides_of, strict=True)]
+
+
 def main():
     lines = list(sampled())
     answers = sides.rust(lines)
     for program in sides.listed():
         ops = [op for op in sides.PROGRAMS if sides.PROGRAMS[op] == program]
-        made = vectors.read(sys.argv[1], ops)
-        made += [(line.split("\t"), answer) for line, answer in zip(lines, answers) if sides.op(line) in ops]
-        vectors.write(program, made)
+        made = [(line.split("\t"), answer) for line, answer in zip(lines, answers) if sides.op(line) in ops]
+        vectors.write(program, standing(program) + made)
 
 
 main()
