@@ -10,8 +10,8 @@ import generate
 import shrink
 import sides
 
-# What one call of a program is given; it reads at most half a mebibyte.
-BATCH = 400000
+# What one call of a program is given; it reads at most a quarter of a mebibyte.
+BATCH = 200000
 
 
 def batches(count, seed, ops):

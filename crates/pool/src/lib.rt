@@ -2,6 +2,12 @@
 ghost use mathlib.Core.Path.{_≡_};
 ghost use Prim.Native.Nat.{_≤_};
 
+// The most nodes that a pool may have.
+pub const MAX_NODES: usize = 1048576;
+
+// The most characters of a word, and so the most levels below the root.
+pub const MAX_WORD: usize = 255;
+
 // A cell as a number.
 pub fn wide(x: u32) -> usize
     ensures { λ r. ⌜ r ≡ x ⌝ }

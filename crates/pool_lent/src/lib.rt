@@ -1,6 +1,7 @@
 // A pool as it is lent: which of its cells are read and written, whether it is a dictionary, and the refusals that every operation on a text gives.
 // For our own crates.
 use char_string::check_text;
+use pool::MAX_NODES;
 use pool_read::well_formed;
 use refusal::Answer;
 use refusal::Refusal;
@@ -11,9 +12,6 @@ ghost use Rattle.refusal.specs.Answers.{answer};
 ghost use Rattle.pool.specs.Rules.{isDictionary};
 ghost use Rattle.pool.specs.Meaning.{meaning};
 ghost use Rattle.pool_lent.specs.Refusals.{readRows};
-
-// The most nodes that a pool may have.
-pub const MAX_NODES: usize = 1048576;
 
 // The nodes that a pool of so many cells has room for.
 pub fn capacity(cells: usize) -> usize

@@ -1,6 +1,8 @@
 // The rules of a well-formed pool, decided in one pass.
 use char_string::is_scalar;
 use char_string::is_trimmed;
+use pool::MAX_NODES;
+use pool::MAX_WORD;
 use pool::wide;
 ghost use mathlib.Core.Path.{_≡_};
 ghost use mathlib.Core.Bool.{false};
@@ -11,12 +13,6 @@ ghost use Rattle.pool.specs.Cells.{scalarAt};
 ghost use Rattle.pool.specs.Sound.{Shaped, Rising, ends};
 ghost use Rattle.pool.specs.Rules.{wellFormed};
 ghost use Rattle.pool_read.specs.Checks.{Decides, Inner, Each, Nodes};
-
-// The most nodes that a pool may have.
-pub const MAX_NODES: usize = 1048576;
-
-// The most levels below the root: the most characters of a word.
-const MAX_LEVELS: usize = 255;
 
 // Whether a node that is not the root may have this scalar, number of children, mark and fifth cell.
 fn inner_ok(c: u32, k: u32, m: u32, z: u32) -> bool
@@ -131,7 +127,7 @@ fn shallow(p: &[u32], n: usize) -> bool
 {
     let mut e: usize = 1;
     let mut d: usize = 0;
-    while d < MAX_LEVELS {
+    while d < MAX_WORD {
         if n <= e {
             return true;
         }

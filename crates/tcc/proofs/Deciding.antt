@@ -9,9 +9,8 @@ use lib.Dec.{ltb}
 use borrow.Author.Tests.{ltb-false, lt-ltb, le-ltb}
 use Rattle.refusal.specs.declared.Refusal.{Refusal}
 use Rattle.refusal.specs.declared.Refusal.the-variants.{TooManyScalars, NotAScalar, OutputTooShort}
-use Rattle.refusal.specs.declared.Answer.{Answer}
 use Rattle.refusal.specs.declared.Answer.the-variants.{Accepted, Refused}
-use Rattle.refusal.specs.Answers.{Row, answer}
+use Rattle.refusal.specs.Answers.{answer, numbers}
 use Rattle.refusal.proofs.Order.{not-both, refused-first, accepted-first}
 use Rattle.char_string.specs.Scalars.{textRows, firstNonScalar, checked}
 use Rattle.tcc_rules.specs.Clusters.{clusterEnds}
@@ -48,3 +47,7 @@ short text room {n} {k} h e i = ap (λ (j : ℕ). Refused (OutputTooShort j)) e 
 pub fitting : (text : List ℕ) (room : ℕ) {n k : ℕ} → checked text ≡ Accepted n → k ≡ length (clusterEnds text) → k ≤ room
     → Accepted k ≡ answer (clusterRows text room) (length (clusterEnds text))
 fitting text room {n} {k} h e i = ap Accepted e ∙ sym (accepted text room (length (clusterEnds text)) h ∙ simp (le-ltb room (length (clusterEnds text)) (omega arith)))
+
+-- 01: Clusters: 2, 3, 6
+pub order : (text : List ℕ) (room : ℕ) → numbers (clusterRows text room) ≡ 2 ∷ 3 ∷ 6 ∷ []
+order text room = refl

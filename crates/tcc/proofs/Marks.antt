@@ -3,13 +3,13 @@ use Prim.Native.Nat.{ℕ, zero, suc, _+_, _-_, _≤_, _<_}
 use native.Mathlib.Omega.{arith}
 use native.Mathlib.Nat.{add-zero, zero-add, add-suc, suc-add}
 use mathlib.Core.Path.{_≡_, refl, sym, _∙_, ap}
-use mathlib.Core.Bool.{Bool, true, false, cond, _||_}
+use mathlib.Core.Bool.{Bool, true, false, _||_}
 use mathlib.Core.List.{List, [], _∷_, _++_}
 use lib.ListN.{length, getD, set, drop, replicate, length-append, length-drop, length-set, length-replicate, getD-replicate, List·getD-append}
 use lib.Seq.{getD-set-same, getD-set-other, getD-drop, getD-append-add, ext-getD, drop-at}
 use lib.Dec.{ltb, eqb}
 use borrow.Author.Tests.{ltb-true, ltb-false, eqb-true, eqb-false, ne-eqb}
-use Rattle.tcc_rules.specs.Clusters.{clusterEnd, clusterEnds}
+use Rattle.tcc_rules.specs.Clusters.{clusterEnd}
 use Rattle.tcc_rules.proofs.Bounds.{Cluster}
 use Rattle.tcc_rules.proofs.Ends.{rest, rest-all, rest-next}
 use Rattle.tcc_rules.proofs.Rising.{Rise, rest-rises}

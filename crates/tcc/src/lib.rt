@@ -2,7 +2,7 @@
 use char_string::check_text;
 use refusal::Answer;
 use refusal::Refusal;
-use tcc_rules::cluster_end;
+use tcc_match::cluster_end;
 ghost use mathlib.Core.Path.{_≡_};
 ghost use mathlib.Core.List.{_++_};
 ghost use Prim.Native.Nat.{_≤_, _<_, _+_};

@@ -1,7 +1,7 @@
 -- A cluster has a character or more, and ends within the text. Assumes nothing.
 use Prim.Native.Nat.{ℕ, zero, suc, _+_, _-_, _≤_, _<_}
 use native.Mathlib.Omega.{arith}
-use mathlib.Core.Path.{_≡_, refl, sym, _∙_, ap}
+use mathlib.Core.Path.{_≡_, refl, _∙_}
 use mathlib.Core.Bool.{Bool, true, false, cond, _&&_}
 use mathlib.Core.List.{List}
 use lib.ListN.{length, getD, take, length-take}
@@ -10,7 +10,7 @@ use borrow.Author.Tests.{ltb-true}
 use Rattle.tcc_rules.specs.Patterns.{Range, holds, holdsAt, Pattern, end, fail, then, either, Match, none, upto, orElse, match, isMatch, firstOf}
 use Rattle.tcc_rules.specs.Rules.{alternatives, lookahead}
 use Rattle.tcc_rules.specs.Clusters.{ended, clusterEnd}
-use Rattle.tcc_rules.proofs.Known.{T-left, T-right, not-both, and-left}
+use Rattle.tcc_rules.proofs.Known.{T-left, T-right, and-left}
 
 -- each way through the pattern takes so many characters
 abbrev takes : ℕ → Pattern → Bool

@@ -8,7 +8,7 @@ use lib.ListN.{length}
 use lib.Dec.{ltb}
 use borrow.Author.Tests.{ltb-true, ltb-false, lt-ltb, le-ltb}
 use Rattle.tcc_rules.specs.Clusters.{clusterEnd, endsFrom, clusterEnds}
-use Rattle.tcc_rules.proofs.Bounds.{Cluster, cluster}
+use Rattle.tcc_rules.proofs.Bounds.{cluster}
 
 over : (most : ℕ) (text : List ℕ) (p : ℕ) → length text ≤ p → endsFrom most text p ≡ []
 unfolding endsFrom

@@ -1,12 +1,12 @@
 -- What is known of a character decides which classes it is in. Assumes nothing.
-use Prim.Native.Nat.{ℕ, zero, suc, _+_, _≤_, _<_}
+use Prim.Native.Nat.{ℕ, _≤_, _<_}
 use native.Mathlib.Omega.{arith}
 use mathlib.Core.Path.{_≡_, refl, sym, _∙_, ap}
-use mathlib.Core.Bool.{Bool, true, false, cond, not, _&&_, _||_}
-use mathlib.Core.List.{List, [], _∷_, _++_}
-use lib.ListN.{length, getD, take, List·getD-eq-default}
-use lib.Dec.{T, ltb, leb, eqb}
-use borrow.Author.Tests.{ltb-true, ltb-false, leb-true, le-leb, lt-leb, lt-ltb, le-ltb, eq-eqb}
+use mathlib.Core.Bool.{Bool, true, false, not, _&&_, _||_}
+use mathlib.Core.List.{List, [], _∷_}
+use lib.ListN.{length, getD, List·getD-eq-default}
+use lib.Dec.{T, ltb, leb}
+use borrow.Author.Tests.{ltb-true, ltb-false, leb-true, le-leb, lt-ltb, le-ltb}
 use Rattle.basics.specs.Scans.{within}
 use Rattle.tcc_rules.specs.Patterns.{Range, holds, holdsAt}
 use Rattle.tcc_rules.specs.Inner.{Known, exact, among, Fact}

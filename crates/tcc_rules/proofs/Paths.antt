@@ -1,15 +1,15 @@
 -- What is left of the alternatives behind a row of known characters. Assumes nothing.
-use Prim.Native.Nat.{ℕ, zero, suc, _+_, _-_, _≤_, _<_}
+use Prim.Native.Nat.{ℕ, zero, suc, _+_}
 use native.Mathlib.Omega.{arith}
-use mathlib.Core.Path.{_≡_, refl, sym, _∙_, ap}
-use mathlib.Core.Bool.{Bool, true, false, cond, not, _&&_}
+use mathlib.Core.Path.{_≡_, refl, _∙_, ap}
+use mathlib.Core.Bool.{Bool, false, cond, not, _&&_}
 use mathlib.Core.List.{List, [], _∷_, _++_}
-use lib.ListN.{length, getD}
+use lib.ListN.{getD}
 use lib.Dec.{T}
 use Rattle.tcc_rules.specs.Patterns.{Range, holds, Pattern, firstOf}
 use Rattle.tcc_rules.specs.Rules.{alternatives, lookahead}
 use Rattle.tcc_rules.specs.Clusters.{clusterEnd}
-use Rattle.tcc_rules.specs.Inner.{Known, Fact, place, Known-from, Begins}
+use Rattle.tcc_rules.specs.Inner.{Known, Fact, place, KnownFrom, Begins}
 use Rattle.tcc_rules.proofs.Known.{T-left, T-right, real}
 use Rattle.tcc_rules.proofs.Steps.{stops, next, asked, prune, endBy, step, stay}
 
@@ -56,7 +56,7 @@ along (k ∷ ks) outs a l text p i e f t =
     ∙ along ks outs (next k a) (next k l) text p (suc i) (cond (stops a) (place p i) e) (f .1) tr
 
 -- the row of what is known goes on
-joined : (ks more : List Known) (outs : List Range) (text : List ℕ) (p i : ℕ) → Known-from i ks text p → Path more outs text p (count ks i) → Path (ks ++ more) outs text p i
+joined : (ks more : List Known) (outs : List Range) (text : List ℕ) (p i : ℕ) → KnownFrom i ks text p → Path more outs text p (count ks i) → Path (ks ++ more) outs text p i
 joined [] more outs text p i f g = g
 joined (k ∷ ks) more outs text p i f g = (f .0, joined ks more outs text p (suc i) (f .1) g)
 

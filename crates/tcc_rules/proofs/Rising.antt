@@ -1,10 +1,10 @@
 -- 01: the ends are rising, the last equal to n; none for empty text. Assumes nothing.
 use Prim.Native.Nat.{ℕ, _+_, _≤_, _<_}
 use native.Mathlib.Omega.{arith}
-use mathlib.Core.Path.{_≡_, refl, sym, _∙_, ap}
+use mathlib.Core.Path.{_≡_, refl, _∙_, ap}
 use mathlib.Core.List.{List, [], _∷_}
 use lib.ListN.{length}
-use Rattle.tcc_rules.specs.Clusters.{clusterEnd, endsFrom, clusterEnds}
+use Rattle.tcc_rules.specs.Clusters.{endsFrom, clusterEnds}
 use Rattle.tcc_rules.proofs.Bounds.{cluster}
 use Rattle.tcc_rules.proofs.Ends.{rest, rest-all, rest-next, rest-over, from-start, from-place}
 

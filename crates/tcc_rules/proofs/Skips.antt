@@ -1,13 +1,13 @@
 -- Optional characters. Assumes nothing.
 use Prim.Native.Nat.{ℕ, _+_, _≤_, _<_}
 use native.Mathlib.Omega.{arith}
-use mathlib.Core.Path.{_≡_, refl, sym, _∙_, ap}
+use mathlib.Core.Path.{_≡_, refl, _∙_, ap}
 use mathlib.Core.Bool.{Bool, true, false, cond, not, _&&_, _||_}
 use mathlib.Core.List.{List}
 use lib.ListN.{length, getD}
 use lib.Dec.{T}
 use Rattle.tcc_rules.specs.Patterns.{Range, holds, holdsAt, Pattern}
-use Rattle.tcc_rules.specs.Inner.{some, Fact, skipped}
+use Rattle.tcc_rules.specs.Inner.{some, skipped}
 use Rattle.tcc_rules.proofs.Known.{T-left, T-right, there, at-inside, at-not}
 use Rattle.tcc_rules.proofs.Steps.{stops, next, asked, prune, endBy, end-sure, step, stay}
 

@@ -1,10 +1,10 @@
 -- Clusters that start with a consonant. Assumes nothing.
-use Prim.Native.Nat.{ℕ, _+_, _<_}
+use Prim.Native.Nat.{ℕ, _+_}
 use native.Mathlib.Omega.{arith}
 use mathlib.Core.Path.{_≡_, refl, sym, _∙_, ap}
 use mathlib.Core.Bool.{Bool, true, false}
 use mathlib.Core.List.{List, [], _∷_, _++_}
-use lib.ListN.{length, getD}
+use lib.ListN.{getD}
 use Rattle.tcc_rules.specs.Patterns.{Range, holds, Pattern, end, fail, then, either, items, opt, optional}
 use Rattle.tcc_rules.specs.Rules.{is, upTo, consonant, tone, dOrI, c, ch, k}
 use Rattle.tcc_rules.specs.Clusters.{clusterEnd}

@@ -10,7 +10,7 @@ use Rattle.tcc_rules.specs.Rules.{is, consonant, tone, leading, ch, k}
 use Rattle.tcc_rules.specs.Clusters.{clusterEnd}
 use Rattle.tcc_rules.specs.Inner.{Known, exact, among, some, Begins, skipped, kEnd, shorter}
 use Rattle.tcc_rules.proofs.Classes.{NoneOf, all, none-of}
-use Rattle.tcc_rules.proofs.Steps.{endBy, end-fail, end-end, stay}
+use Rattle.tcc_rules.proofs.Steps.{endBy, end-fail, end-end}
 use Rattle.tcc_rules.proofs.Skips.{skip}
 use Rattle.tcc_rules.proofs.Tails.{first, k-end, k-first, k-shorter}
 use Rattle.tcc_rules.proofs.Paths.{along, arrive}

@@ -1,10 +1,9 @@
 -- What is left of a pattern once a character is known: a step over it, or a stay before it. Assumes nothing.
-use Prim.Native.Nat.{ℕ, zero, suc, _+_, _-_, _≤_, _<_}
+use Prim.Native.Nat.{ℕ, _+_, _≤_}
 use native.Mathlib.Omega.{arith}
-use native.Mathlib.Numerals.{add-one}
-use mathlib.Core.Path.{_≡_, refl, sym, _∙_, ap, subst}
+use mathlib.Core.Path.{_≡_, refl, sym, _∙_, ap}
 use mathlib.Core.Bool.{Bool, true, false, cond, not, _&&_, _||_}
-use mathlib.Core.List.{List, [], _∷_, _++_}
+use mathlib.Core.List.{List}
 use lib.ListN.{length, getD, take, length-take, List·getD-eq-default}
 use lib.Seq.{getD-take}
 use lib.Dec.{T, ltb}
@@ -12,7 +11,7 @@ use borrow.Author.Tests.{ltb-true, ltb-false}
 use Rattle.tcc_rules.specs.Patterns.{Range, holds, holdsAt, Pattern, end, fail, then, either, Match, none, upto, orElse, match, isMatch}
 use Rattle.tcc_rules.specs.Clusters.{ended}
 use Rattle.tcc_rules.specs.Inner.{Known, Fact}
-use Rattle.tcc_rules.proofs.Known.{T-left, T-right, T-or, T-true, T-not, not-both, covered, covered-no, real, settled, gives, at-known, at-outside, at-not}
+use Rattle.tcc_rules.proofs.Known.{T-left, T-right, T-or, T-not, not-both, covered, covered-no, real, settled, gives, at-known, at-outside, at-not}
 
 -- ---- matches
 

@@ -4,10 +4,10 @@ use native.Mathlib.Omega.{arith}
 use mathlib.Core.Path.{_≡_, refl, sym, _∙_, ap}
 use mathlib.Core.Bool.{Bool, true, false, cond}
 use mathlib.Core.List.{List, [], _∷_, _++_}
-use lib.ListN.{length, getD, take}
-use lib.Dec.{T, ltb}
+use lib.ListN.{getD, take}
+use lib.Dec.{T}
 use borrow.Author.Tests.{lt-ltb, le-ltb}
-use Rattle.tcc_rules.specs.Patterns.{Range, holds, Pattern, end, fail, Match, none, upto, match, isMatch, items, one, opt, optional}
+use Rattle.tcc_rules.specs.Patterns.{Range, holds, Pattern, end, fail, Match, none, upto, match, items, one, opt, optional}
 use Rattle.tcc_rules.specs.Rules.{is, consonant, leading, dOrI, ch, k}
 use Rattle.tcc_rules.specs.Clusters.{ended}
 use Rattle.tcc_rules.specs.Inner.{Known, exact, some, place, endOr, kEnd, shorter}

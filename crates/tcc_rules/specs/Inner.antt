@@ -1,7 +1,7 @@
 -- What the contracts of the matcher's inner functions say. No public contract needs this.
 use Prim.Native.Nat.{ℕ, zero, suc, _+_, _-_, _<_}
 use mathlib.Core.Path.{_≡_}
-use mathlib.Core.Bool.{Bool, true, false, cond}
+use mathlib.Core.Bool.{true, false, cond}
 use mathlib.Core.List.{List, [], _∷_}
 use lib.ListN.{length, getD}
 use lib.Dec.{ltb}
@@ -26,13 +26,13 @@ place p zero = p
 place p (suc i) = p + suc i
 
 -- so much is known of the characters from the i-th behind p on
-abbrev pub Known-from : ℕ → List Known → List ℕ → ℕ → Type 0
-Known-from i [] text p = Unit
-Known-from i (f ∷ fs) text p = Fact f (getD text (place p i) 0) × Known-from (suc i) fs text p
+abbrev pub KnownFrom : ℕ → List Known → List ℕ → ℕ → Type 0
+KnownFrom i [] text p = Unit
+KnownFrom i (f ∷ fs) text p = Fact f (getD text (place p i) 0) × KnownFrom (suc i) fs text p
 
 -- p is a place of the text, and so much is known of the characters there
 abbrev pub Begins : List Known → List ℕ → ℕ → Type 0
-Begins fs text p = (p < length text) × Known-from 0 fs text p
+Begins fs text p = (p < length text) × KnownFrom 0 fs text p
 
 -- behind a character of the class at p, or p where there is none
 unfoldable pub skipped : List Range → List ℕ → ℕ → ℕ

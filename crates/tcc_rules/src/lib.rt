@@ -1,9 +1,32 @@
-// Thai character clusters, after tcc_rules.rs: the matcher of the alternatives, by the first characters of a cluster.
-mod after_consonant;
-mod after_e;
-mod after_vowel;
+// The rules of Thai character clusters, after tcc_rules.rs: the characters and classes that the alternatives name, and the group k.
 mod group;
 mod letters;
-mod matcher;
 
-pub use matcher::cluster_end;
+pub use group::group_k;
+pub use group::shorter_k;
+pub use group::skip_final_vowel;
+pub use group::skip_open_vowel;
+pub use group::skip_sara_a;
+pub use group::skip_sara_aa;
+pub use group::skip_tone;
+pub use letters::MAITAIKHU;
+pub use letters::O_ANG;
+pub use letters::RO_RUA;
+pub use letters::SARA_A;
+pub use letters::SARA_AA;
+pub use letters::SARA_AE;
+pub use letters::SARA_E;
+pub use letters::SARA_I;
+pub use letters::SARA_II;
+pub use letters::SARA_O;
+pub use letters::SARA_UEE;
+pub use letters::SPACE;
+pub use letters::THANTHAKHAT;
+pub use letters::YO_YAK;
+pub use letters::at;
+pub use letters::is_closed;
+pub use letters::is_consonant;
+pub use letters::is_d_or_i;
+pub use letters::is_sara_ai;
+pub use letters::is_tone;
+pub use letters::is_vowel;

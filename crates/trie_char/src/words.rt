@@ -1,5 +1,6 @@
 // The refusals that add and remove share.
 use char_string::trim;
+use pool::MAX_WORD;
 use pool_lent::check;
 use refusal::Answer;
 use refusal::Refusal;
@@ -8,9 +9,6 @@ ghost use lib.ListN.{length};
 ghost use Rattle.refusal.specs.Answers.{answer};
 ghost use Rattle.pool.specs.Meaning.{meaning};
 ghost use Rattle.trie_char.specs.Refusals.{removeRows};
-
-// The most characters of a word.
-const MAX_WORD: usize = 255;
 
 // Refusals 2, 3, 4 and 7, accepted with the word's length.
 pub fn check_word(pool: &[u32], word: &[u32]) -> Answer

@@ -1,4 +1,5 @@
 // Replays the test vectors of `trie_char`: a line with the answer for each line of standard input.
+use pool::wide;
 use refusal::Answer;
 use refusal::Refusal;
 use vector_lines::behind;
@@ -9,173 +10,221 @@ use vector_lines::is;
 use vector_lines::lent;
 use vector_lines::part_at;
 use vector_lines::print;
+use vector_lines::print_cells;
 use vector_lines::print_number;
 use vector_lines::print_numbers;
 use vector_lines::print_refusal;
 use vector_lines::read_cells;
 use vector_lines::read_input;
 use vector_lines::tail;
-use vector_words::hold;
-use vector_words::read_word;
 
-const INPUT: usize = 524288;
+const INPUT: usize = 262144;
 
-const POOL: usize = 131072;
+const POOL: usize = 65536;
 
-// More than a text may have, so that a longer one can be given.
-const CELLS: usize = 70000;
+const CELLS: usize = 100000;
 
-const LENGTHS: usize = 256;
+const OUT: usize = 256;
 
 fn main() {
     let mut input = [0u8; INPUT];
     let mut pool = [0u32; POOL];
-    let mut text = [0u32; CELLS];
-    let mut lengths = [0u32; LENGTHS];
+    let mut cells = [0u32; CELLS];
+    let mut out = [0u32; OUT];
     let n = read_input(&mut input);
-    replay(&input[..n], &mut pool, &mut text, &mut lengths);
+    replay(&input[..n], &mut pool, &mut cells, &mut out);
 }
 
-fn replay(input: &[u8], pool: &mut [u32], text: &mut [u32], lengths: &mut [u32]) {
+fn replay(input: &[u8], pool: &mut [u32], cells: &mut [u32], out: &mut [u32]) {
     let mut at = 0;
     while at < input.len() {
-        answer(part_at(input, at, b'\n'), pool, text, lengths);
+        answer(part_at(input, at, b'\n'), pool, cells, out);
         print(b"\n");
         at = behind(input, at, b'\n');
     }
 }
 
-fn answer(line: &[u8], pool: &mut [u32], text: &mut [u32], lengths: &mut [u32]) {
+fn answer(line: &[u8], pool: &mut [u32], cells: &mut [u32], out: &mut [u32]) {
     let op = field(line, 0);
     if is(op, b"dict") {
-        dict(line, pool, text, lengths);
+        dict(line, pool, cells, out);
         return;
     }
     if is(op, b"prefix") {
-        prefix(line, pool, text, lengths);
+        prefix(line, pool, cells, out);
+        return;
+    }
+    if is(op, b"pool") {
+        given(line, pool);
         return;
     }
     print(b"?");
 }
 
-// prefix words, scalars, out cells => ok lengths
-fn prefix(line: &[u8], pool: &mut [u32], text: &mut [u32], lengths: &mut [u32]) {
-    let cells = hold(field(line, 1), text, pool);
-    let n = read_cells(field(line, 2), text);
-    let room = lent(field(line, 3), lengths.len());
-    let answer = trie_char::prefix_lengths(&pool[0..cells], &text[..n], &mut lengths[0..room]);
-    match answer {
-        Answer::Accepted(count) => {
-            print(b"ok ");
-            print_numbers(first(lengths, count), b',');
-        }
-        Answer::Refused(r) => print_refusal(r),
+// Cells that no dictionary has.
+fn smear(pool: &mut [u32]) {
+    let mut k = 0;
+    while k < pool.len() {
+        pool[k] = 4294967295;
+        k += 1;
     }
 }
 
 // dict pool cells, script => ok answers
-fn dict(line: &[u8], pool: &mut [u32], text: &mut [u32], lengths: &mut [u32]) {
-    let cells = lent(field(line, 1), pool.len());
+fn dict(line: &[u8], pool: &mut [u32], cells: &mut [u32], out: &mut [u32]) {
+    let n = lent(field(line, 1), pool.len());
+    smear(pool);
     print(b"ok ");
-    script(field(line, 2), &mut pool[0..cells], text, lengths);
+    script(field(line, 2), &mut pool[0..n], cells, out);
 }
 
-fn script(steps: &[u8], pool: &mut [u32], text: &mut [u32], lengths: &mut [u32]) {
+fn script(steps: &[u8], pool: &mut [u32], cells: &mut [u32], out: &mut [u32]) {
     let mut at = 0;
     while at < steps.len() {
         if 0 < at {
             print(b";");
         }
-        step(part_at(steps, at, b';'), pool, text, lengths);
+        step(part_at(steps, at, b';'), pool, cells, out);
         at = behind(steps, at, b';');
     }
 }
 
-fn step(step: &[u8], pool: &mut [u32], text: &mut [u32], lengths: &mut [u32]) {
-    let letter = head(step);
-    if letter == b'f' {
-        print_report(trie_char::fresh(pool));
+fn step(text: &[u8], pool: &mut [u32], cells: &mut [u32], out: &mut [u32]) {
+    let op = head(text);
+    if op == b'f' {
+        let answer = trie_char::fresh(pool);
+        told(answer);
         return;
     }
-    if letter == b'#' {
-        print_report(trie_char::amount_of_words(pool));
+    if op == b'#' {
+        let answer = trie_char::amount_of_words(pool);
+        told(answer);
         return;
     }
-    if letter == b'n' {
-        print_nodes(pool);
+    if op == b'n' {
+        in_use(pool);
         return;
     }
-    let n = read_word(tail(step), text);
-    word_step(letter, &text[..n], pool, lengths);
+    if op == b'c' {
+        print_cells(pool);
+        return;
+    }
+    let n = read_cells(tail(text), cells);
+    word_step(op, pool, first(cells, n), out);
 }
 
-// The steps with a word or a text.
-fn word_step(letter: u8, word: &[u32], pool: &mut [u32], lengths: &mut [u32]) {
-    if letter == b'+' {
-        print_report(trie_char::add(pool, word));
+fn word_step(op: u8, pool: &mut [u32], word: &[u32], out: &mut [u32]) {
+    if op == b'+' {
+        let answer = trie_char::add(pool, word);
+        told(answer);
         return;
     }
-    if letter == b'-' {
-        print_report(trie_char::remove(pool, word));
+    if op == b'-' {
+        let answer = trie_char::remove(pool, word);
+        told(answer);
         return;
     }
-    if letter == b'?' {
-        print_held(trie_char::contain(pool, word));
+    if op == b'?' {
+        held(pool, word);
         return;
     }
-    if letter == b'p' {
-        print_lengths(pool, word, lengths);
+    if op == b'p' {
+        lengths(pool, word, out);
         return;
     }
     print(b"?");
 }
 
-fn print_report(a: Answer) {
-    match a {
+// A report, or a refusal as a script tells it.
+fn told(answer: Answer) {
+    match answer {
         Answer::Accepted(n) => print_number(n),
-        Answer::Refused(r) => print_refused(r),
+        Answer::Refused(r) => refused(r),
     }
 }
 
-// Yes or no, and the class of the word, which is always 0.
-fn print_held(a: Answer) {
-    match a {
-        Answer::Accepted(n) => {
-            print_number(n);
-            print(b".0");
-        }
-        Answer::Refused(r) => print_refused(r),
-    }
-}
-
-fn print_lengths(pool: &[u32], text: &[u32], lengths: &mut [u32]) {
-    let answer = trie_char::prefix_lengths(pool, text, lengths);
-    match answer {
-        Answer::Accepted(count) => print_numbers(first(lengths, count), b'.'),
-        Answer::Refused(r) => print_refused(r),
-    }
-}
-
-// The nodes in use, which a dictionary keeps in its root.
-fn print_nodes(pool: &[u32]) {
-    let answer = trie_char::amount_of_words(pool);
-    match answer {
-        Answer::Accepted(_) => print_numbers(root_nodes(pool), b'.'),
-        Answer::Refused(r) => print_refused(r),
-    }
-}
-
-fn root_nodes(pool: &[u32]) -> &[u32] {
-    if 5 <= pool.len() {
-        return &pool[4..5];
-    }
-    &pool[0..0]
-}
-
-// A refused step: `!number.detail`
-fn print_refused(r: Refusal) {
+fn refused(r: Refusal) {
     print(b"!");
     print_number(refusal::number(r) as usize);
     print(b".");
     print_number(refusal::detail(r));
+}
+
+// Whether the word is held, and its class.
+fn held(pool: &[u32], word: &[u32]) {
+    let answer = trie_char::contain(pool, word);
+    match answer {
+        Answer::Accepted(n) => {
+            print_number(n);
+            print(b".0");
+        }
+        Answer::Refused(r) => refused(r),
+    }
+}
+
+fn lengths(pool: &[u32], text: &[u32], out: &mut [u32]) {
+    let answer = trie_char::prefix_lengths(pool, text, out);
+    match answer {
+        Answer::Accepted(n) => print_numbers(first(out, n), b'.'),
+        Answer::Refused(r) => refused(r),
+    }
+}
+
+// The nodes in use, a cell of the root.
+fn in_use(pool: &[u32]) {
+    let answer = trie_char::amount_of_words(pool);
+    match answer {
+        Answer::Accepted(_) => {
+            if 4 < pool.len() {
+                print_number(wide(pool[4]));
+            }
+        }
+        Answer::Refused(r) => refused(r),
+    }
+}
+
+// prefix words, scalars, out cells => ok lengths
+fn prefix(line: &[u8], pool: &mut [u32], cells: &mut [u32], out: &mut [u32]) {
+    smear(pool);
+    trie_char::fresh(pool);
+    words(field(line, 1), pool, cells);
+    let n = read_cells(field(line, 2), cells);
+    let room = lent(field(line, 3), out.len());
+    starts(pool, first(cells, n), &mut out[0..room]);
+}
+
+fn words(list: &[u8], pool: &mut [u32], cells: &mut [u32]) {
+    if is(list, b"-") {
+        return;
+    }
+    let mut at = 0;
+    while at < list.len() {
+        let n = read_cells(part_at(part_at(list, at, b','), 0, b':'), cells);
+        trie_char::add(pool, first(cells, n));
+        at = behind(list, at, b',');
+    }
+}
+
+fn starts(pool: &[u32], text: &[u32], out: &mut [u32]) {
+    let answer = trie_char::prefix_lengths(pool, text, out);
+    match answer {
+        Answer::Accepted(n) => {
+            print(b"ok ");
+            print_numbers(first(out, n), b',');
+        }
+        Answer::Refused(r) => print_refusal(r),
+    }
+}
+
+// pool cells => ok words, or a refusal
+fn given(line: &[u8], pool: &mut [u32]) {
+    let n = read_cells(field(line, 1), pool);
+    let answer = trie_char::amount_of_words(first(pool, n));
+    match answer {
+        Answer::Accepted(words) => {
+            print(b"ok ");
+            print_number(words);
+        }
+        Answer::Refused(r) => print_refusal(r),
+    }
 }

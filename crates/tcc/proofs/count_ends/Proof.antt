@@ -1,16 +1,10 @@
 -- Assumes nothing.
--- uses
 use Prim.Native.Nat.{_-_}
 use native.Mathlib.Omega.{arith}
 use lib.ListN.{length}
 use Rattle.tcc.proofs.Passes.{Counted, matched, counted-none, counted-next, counted-all}
--- end uses
-use borrow.Author.Needs.{needs}
 use Rattle.tcc.proofs.count_ends.Statement.{statement}
 use Rattle.tcc.proofs.count_ends.Tie as tie
-use Rattle.tcc.proofs.count_ends.Reads as reads
-use Rattle.tcc.proofs.count_ends.Lts as lts
-use Rattle.tcc_rules.proofs.cluster_end.Reads as cluster-end-reads
 
 abbrev Inv-loop : tie.InvT-loop
 Inv-loop text p₀ n₀ p n = Counted text p n
@@ -18,27 +12,21 @@ Inv-loop text p₀ n₀ p n = Counted text p n
 abbrev μ-loop : tie.MeasureT-loop
 μ-loop text p₀ n₀ p n = length text - p
 
--- src/lib.rt:20:5
 loop-holds : tie.Need-loop-holds Inv-loop μ-loop
 loop-holds c = counted-none _
 
--- src/lib.rt:21:9
 cluster-end-requires : tie.Need-cluster-end-requires Inv-loop μ-loop
 cluster-end-requires c κs = c .loop-test .taken
 
--- src/lib.rt:22:9
 add-n : tie.Need-add-n Inv-loop μ-loop
 add-n c = omega (arith, c .before .before .loop .inv .few, c .before .before .loop .inv .inside)
 
--- src/lib.rt:20:5
 loop-less : tie.Need-loop-less Inv-loop μ-loop
 loop-less c = omega (arith, matched (c .before .loop-test .taken) (c .cluster-end .ensures) .past, c .before .loop-test .taken)
 
--- src/lib.rt:20:5
 loop-again : tie.Need-loop-again Inv-loop μ-loop
 loop-again c = counted-next (c .before .before .loop .inv) (c .before .loop-test .taken) (c .cluster-end .ensures)
 
--- src/lib.rt:15:1
 returns : tie.Need-returns Inv-loop μ-loop
 returns c = counted-all (c .before .loop .inv) (c .loop-test .left)
 

@@ -1,17 +1,11 @@
 -- Assumes nothing.
--- uses
 use Prim.Native.Nat.{_-_}
 use native.Mathlib.Omega.{arith}
 use lib.ListN.{length}
 use Rattle.tcc.proofs.Passes.{matched}
 use Rattle.tcc.proofs.Marks.{Marked, marked-none, marked-next, marked-all}
--- end uses
-use borrow.Author.Needs.{needs}
 use Rattle.tcc.proofs.mark_ends.Statement.{statement}
 use Rattle.tcc.proofs.mark_ends.Tie as tie
-use Rattle.tcc.proofs.mark_ends.Reads as reads
-use Rattle.tcc.proofs.mark_ends.Lts as lts
-use Rattle.tcc_rules.proofs.cluster_end.Reads as cluster-end-reads
 
 abbrev Inv-loop : tie.InvT-loop
 Inv-loop text row₀ p₀ row p = Marked text row₀ row p
@@ -19,35 +13,27 @@ Inv-loop text row₀ p₀ row p = Marked text row₀ row p
 abbrev μ-loop : tie.MeasureT-loop
 μ-loop text row₀ p₀ row p = length text - p
 
--- src/lib.rt:79:5
 loop-holds : tie.Need-loop-holds Inv-loop μ-loop
 loop-holds c = marked-none (c .before .before .pre .0) (c .before .before .pre .1)
 
--- src/lib.rt:80:9
 cluster-end-requires : tie.Need-cluster-end-requires Inv-loop μ-loop
 cluster-end-requires c κs = c .loop-test .taken
 
--- src/lib.rt:81:9
 mul-row : tie.Need-mul-row Inv-loop μ-loop
 mul-row c = omega (arith, c .before .before .loop .inv .long, matched (c .before .loop-test .taken) (c .cluster-end .ensures) .inside, c .before .before .before .before .before .pre .0)
 
--- src/lib.rt:81:9
 slice-write-row : tie.Need-slice-write-row Inv-loop μ-loop
 slice-write-row c = omega (arith, c .before .before .loop .inv .long, matched (c .before .loop-test .taken) (c .cluster-end .ensures) .inside, c .before .before .before .before .before .pre .0)
 
--- src/lib.rt:79:5
 loop-less : tie.Need-loop-less Inv-loop μ-loop
 loop-less c = omega (arith, matched (c .before .loop-test .taken) (c .cluster-end .ensures) .past, c .before .loop-test .taken)
 
--- src/lib.rt:79:5
 loop-again : tie.Need-loop-again Inv-loop μ-loop
 loop-again c = marked-next (c .before .before .before .before .before .pre .0) (c .before .before .loop .inv) (c .before .loop-test .taken) (c .cluster-end .ensures)
 
--- src/lib.rt:74:1
 same-length : tie.Need-same-length Inv-loop μ-loop
 same-length c = c .before .loop .inv .long
 
--- src/lib.rt:74:1
 returns : tie.Need-returns Inv-loop μ-loop
 returns c = marked-all (c .before .before .before .before .pre .0) (c .before .loop .inv) (c .loop-test .left)
 

@@ -1,16 +1,10 @@
 -- Assumes nothing.
--- uses
 use Prim.Native.Nat.{_-_}
 use native.Mathlib.Omega.{arith}
 use lib.ListN.{length}
 use Rattle.tcc.proofs.Passes.{Written, matched, counted-all, written-none, written-room, written-next, written-all}
--- end uses
-use borrow.Author.Needs.{needs}
 use Rattle.tcc.proofs.put_ends.Statement.{statement}
 use Rattle.tcc.proofs.put_ends.Tie as tie
-use Rattle.tcc.proofs.put_ends.Reads as reads
-use Rattle.tcc.proofs.put_ends.Lts as lts
-use Rattle.tcc_rules.proofs.cluster_end.Reads as cluster-end-reads
 
 abbrev Inv-loop : tie.InvT-loop
 Inv-loop text out₀ p₀ n₀ out p n = Written text out₀ out p n
@@ -18,43 +12,33 @@ Inv-loop text out₀ p₀ n₀ out p n = Written text out₀ out p n
 abbrev μ-loop : tie.MeasureT-loop
 μ-loop text out₀ p₀ n₀ out p n = length text - p
 
--- src/lib.rt:34:5
 loop-holds : tie.Need-loop-holds Inv-loop μ-loop
 loop-holds c = written-none _ _
 
--- src/lib.rt:35:9
 cluster-end-requires : tie.Need-cluster-end-requires Inv-loop μ-loop
 cluster-end-requires c κs = c .loop-test .taken
 
--- src/lib.rt:36:18
 cast-out : tie.Need-cast-out Inv-loop μ-loop
 cast-out c = omega (arith, matched (c .before .loop-test .taken) (c .cluster-end .ensures) .inside, c .before .before .before .before .before .pre .0)
 
--- src/lib.rt:36:9
 mul-out : tie.Need-mul-out Inv-loop μ-loop
 mul-out c = omega (arith, written-room (c .before .before .loop .inv) (c .before .loop-test .taken), c .before .before .loop .inv .long, c .before .before .before .before .before .pre .1)
 
--- src/lib.rt:36:9
 slice-write-out : tie.Need-slice-write-out Inv-loop μ-loop
 slice-write-out c = omega (arith, written-room (c .before .before .loop .inv) (c .before .loop-test .taken), c .before .before .loop .inv .long, c .before .before .before .before .before .pre .1)
 
--- src/lib.rt:37:9
 add-n : tie.Need-add-n Inv-loop μ-loop
 add-n c = omega (arith, c .before .before .loop .inv .counted .few, c .before .before .loop .inv .counted .inside)
 
--- src/lib.rt:34:5
 loop-less : tie.Need-loop-less Inv-loop μ-loop
 loop-less c = omega (arith, matched (c .before .loop-test .taken) (c .cluster-end .ensures) .past, c .before .loop-test .taken)
 
--- src/lib.rt:34:5
 loop-again : tie.Need-loop-again Inv-loop μ-loop
 loop-again c = written-next (c .before .before .before .before .before .pre .1) (c .before .before .loop .inv) (c .before .loop-test .taken) (c .cluster-end .ensures)
 
--- src/lib.rt:27:1
 same-length : tie.Need-same-length Inv-loop μ-loop
 same-length c = c .before .loop .inv .long
 
--- src/lib.rt:27:1
 returns : tie.Need-returns Inv-loop μ-loop
 returns c = (counted-all (c .before .loop .inv .counted) (c .loop-test .left), written-all (c .before .loop .inv) (c .loop-test .left))
 

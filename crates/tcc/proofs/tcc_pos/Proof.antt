@@ -1,6 +1,4 @@
 -- Assumes nothing.
--- uses
-use Prim.Native.Nat.{_≤_}
 use native.Mathlib.Omega.{arith}
 use mathlib.Core.Path.{refl, sym, _∙_, ap}
 use lib.ListN.{length}
@@ -9,61 +7,43 @@ use Rattle.refusal.specs.Answers.{output}
 use Rattle.tcc_rules.specs.Clusters.{clusterEnds}
 use Rattle.tcc_rules.proofs.Rising.{few}
 use Rattle.tcc.proofs.Deciding.{right, refused, short, fitting}
--- end uses
 use borrow.Author.Needs.{needs}
 use Rattle.tcc.proofs.tcc_pos.Statement.{statement}
 use Rattle.tcc.proofs.tcc_pos.Tie as tie
-use Rattle.tcc.proofs.tcc_pos.Reads as reads
-use Rattle.tcc.proofs.tcc_pos.Lts as lts
-use Rattle.char_string.proofs.check_text.Reads as check-text-reads
-use Rattle.tcc.proofs.count_ends.Reads as count-ends-reads
-use Rattle.tcc.proofs.put_ends.Reads as put-ends-reads
 
--- src/lib.rt:48:9
 check-text-requires : tie.Need-check-text-requires
 check-text-requires c κs = search needs
 
--- src/lib.rt:49:26
 enum-known-checked : tie.Need-enum-known-checked
 enum-known-checked c = search needs
 
--- src/lib.rt:50:9
 enum-told : tie.Need-enum-told
 enum-told c = search needs
 
--- src/lib.rt:50:9
 returns : tie.Need-returns
 returns c = (c .enum-told .given .1 ∙ sym (refused (c .before .before .before .before .before .args .text .now) (length (c .before .before .before .before .before .args .out .now)) (length (clusterEnds (c .before .before .before .before .before .args .text .now))) (sym (c .before .before .check-text .ensures) ∙ c .enum-told .given .1)), sym (ap (λ (a : Answer). output a (clusterEnds (c .before .before .before .before .before .args .text .now)) (c .before .before .before .before .before .args .out .now)) (c .enum-told .given .1)))
 
--- src/lib.rt:53:33
 put-ends-requires : tie.Need-put-ends-requires
 put-ends-requires c κs = (right (c .before .before .before .before .before .before .before .before .args .text .now) (sym (c .before .before .before .before .before .check-text .ensures) ∙ c .before .before .before .checked .given .1) .small, omega (arith, right (c .before .before .before .before .before .before .before .before .args .text .now) (sym (c .before .before .before .before .before .check-text .ensures) ∙ c .before .before .before .checked .given .1) .whole, few (c .before .before .before .before .before .before .before .before .args .text .now), c .before .if1 .taken))
 
--- src/lib.rt:53:9
 same-length : tie.Need-same-length
 same-length c = search needs
 
--- src/lib.rt:53:9
 returns-2 : tie.Need-returns-2
 returns-2 c = (fitting (c .before .before .before .before .before .before .before .before .before .before .before .args .text .now) (length (c .before .before .before .before .before .before .before .before .before .before .before .args .out .now)) (sym (c .before .before .before .before .before .before .before .before .check-text .ensures) ∙ c .before .before .before .before .before .before .checked .given .1) (c .before .before .put-ends .ensures .0) (omega (arith, c .before .before .put-ends .ensures .0, right (c .before .before .before .before .before .before .before .before .before .before .before .args .text .now) (sym (c .before .before .before .before .before .before .before .before .check-text .ensures) ∙ c .before .before .before .before .before .before .checked .given .1) .whole, few (c .before .before .before .before .before .before .before .before .before .before .before .args .text .now), c .before .before .before .before .if1 .taken)), c .before .before .put-ends .ensures .1)
 
--- src/lib.rt:55:9
 count-ends-requires : tie.Need-count-ends-requires
 count-ends-requires c κs = search needs
 
--- src/lib.rt:57:9
 returns-3 : tie.Need-returns-3
 returns-3 c = (short (c .before .before .before .before .before .before .before .before .before .args .text .now) (length (c .before .before .before .before .before .before .before .before .before .args .out .now)) (sym (c .before .before .before .before .before .before .check-text .ensures) ∙ c .before .before .before .before .checked .given .1) (c .before .count-ends .ensures) (c .if2 .taken), refl)
 
--- src/lib.rt:59:22
 put-ends-requires-2 : tie.Need-put-ends-requires-2
 put-ends-requires-2 c κs = (right (c .before .before .before .before .before .before .before .before .before .before .args .text .now) (sym (c .before .before .before .before .before .before .before .check-text .ensures) ∙ c .before .before .before .before .before .checked .given .1) .small, omega (arith, c .before .before .count-ends .ensures, c .before .if2 .left))
 
--- src/lib.rt:44:1
 same-length-2 : tie.Need-same-length-2
 same-length-2 c = search needs
 
--- src/lib.rt:44:1
 returns-4 : tie.Need-returns-4
 returns-4 c = (fitting (c .before .before .before .before .before .before .before .before .before .before .before .before .before .args .text .now) (length (c .before .before .before .before .before .before .before .before .before .before .before .before .before .args .out .now)) (sym (c .before .before .before .before .before .before .before .before .before .before .check-text .ensures) ∙ c .before .before .before .before .before .before .before .before .checked .given .1) (c .before .before .put-ends2 .ensures .0) (omega (arith, c .before .before .put-ends2 .ensures .0, c .before .before .before .before .before .count-ends .ensures, c .before .before .before .before .if2 .left)), c .before .before .put-ends2 .ensures .1)
 

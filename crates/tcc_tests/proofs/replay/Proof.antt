@@ -7,10 +7,10 @@ use Rattle.tcc_tests.proofs.replay.Statement.{statement}
 use Rattle.tcc_tests.proofs.replay.Tie as tie
 
 abbrev Inv-loop : tie.InvT-loop
-Inv-loop input text₀ ends₀ at₀ t5 text ends at = (length text ≡ length text₀) × (length ends ≡ length ends₀)
+Inv-loop input text₀ out₀ at₀ t5 text out at = (length text ≡ length text₀) × (length out ≡ length out₀)
 
 abbrev μ-loop : tie.MeasureT-loop
-μ-loop input text₀ ends₀ at₀ t5 text ends at = length input - at
+μ-loop input text₀ out₀ at₀ t5 text out at = length input - at
 
 loop-holds : tie.Need-loop-holds Inv-loop μ-loop
 loop-holds c = search needs

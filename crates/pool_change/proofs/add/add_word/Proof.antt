@@ -1,16 +1,11 @@
 -- Assumes nothing.
--- uses
 use Prim.Native.Nat.{_-_}
 use native.Mathlib.Omega.{arith}
 use lib.ListN.{length, length-set}
 use Rattle.pool_change.proofs.Adding.{Inv, begin, enters, turn, done, inside-end}
--- end uses
 use borrow.Author.Needs.{needs}
 use Rattle.pool_change.proofs.add.add_word.Statement.{statement}
 use Rattle.pool_change.proofs.add.add_word.Tie as tie
-use Rattle.pool_change.proofs.add.add_word.Reads as reads
-use Rattle.pool_change.proofs.add.add_word.Lts as lts
-use Rattle.pool_change.proofs.add.enter.Reads as enter-reads
 
 abbrev Inv-loop : tie.InvT-loop
 Inv-loop p₀ w i₀ t₀ p i t = Inv p₀ w p i t

@@ -1,17 +1,10 @@
 -- Assumes nothing.
--- uses
 use Prim.Native.Nat.{_-_}
 use native.Mathlib.Omega.{arith}
 use Rattle.pool_change.proofs.Adding.{block-end, grew-past, plants-past, grew-other, plants-other, stayed-here}
--- end uses
 use borrow.Author.Needs.{needs}
 use Rattle.pool_change.proofs.add.enter.Statement.{statement}
 use Rattle.pool_change.proofs.add.enter.Tie as tie
-use Rattle.pool_change.proofs.add.enter.Reads as reads
-use Rattle.pool_change.proofs.add.enter.Lts as lts
-use Rattle.pool_change.proofs.add.plant.Reads as plant-reads
-use Rattle.pool_read.proofs.seek.Reads as seek-reads
-use Rattle.pool.proofs.wide.Reads as wide-reads
 
 seek-requires : tie.Need-seek-requires
 seek-requires c κs = search needs

@@ -1,21 +1,13 @@
 -- Assumes nothing.
--- uses
 use mathlib.Core.Path.{refl, sym, subst, _∙_}
 use Prim.Native.Nat.{ℕ, _+_, _-_, _*_}
 use native.Mathlib.Omega.{arith}
 use lib.ListN.{getD, set, length-set}
 use Rattle.pool_change.specs.Planting.{Planted}
 use Rattle.pool_change.proofs.Planted.{where-is, bumps, planted, count-small}
--- end uses
 use borrow.Author.Needs.{needs}
 use Rattle.pool_change.proofs.add.plant.Statement.{statement}
 use Rattle.pool_change.proofs.add.plant.Tie as tie
-use Rattle.pool_change.proofs.add.plant.Reads as reads
-use Rattle.pool_change.proofs.add.plant.Lts as lts
-use Rattle.pool_change.proofs.add.bump.Reads as bump-reads
-use Rattle.pool.proofs.narrow.Reads as narrow-reads
-use Rattle.pool_change.proofs.add.put_leaf.Reads as put-leaf-reads
-use Rattle.pool_change.proofs.add.shift.Reads as shift-reads
 
 mul-a : tie.Need-mul-a
 mul-a c = let w = where-is _ _ _ _ _ (c .before .pre) in omega arith

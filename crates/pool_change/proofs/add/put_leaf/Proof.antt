@@ -1,20 +1,15 @@
 -- Assumes nothing.
--- uses
 use mathlib.Core.Path.{_≡_, _∙_}
 use mathlib.Core.List.{List}
-use Prim.Native.Nat.{ℕ, _+_, _-_, _≤_, _<_}
+use Prim.Native.Nat.{ℕ, _+_, _-_, _≤_}
 use native.Mathlib.Omega.{arith}
 use lib.ListN.{length, getD, set, length-set}
 use lib.Seq.{getD-set-same, getD-set-other}
 use Rattle.pool_change.specs.Planting.{Put}
--- end uses
 use borrow.Author.Needs.{needs}
 use Rattle.pool_change.proofs.add.put_leaf.Statement.{statement}
 use Rattle.pool_change.proofs.add.put_leaf.Tie as tie
-use Rattle.pool_change.proofs.add.put_leaf.Reads as reads
-use Rattle.pool_change.proofs.add.put_leaf.Lts as lts
 
--- <<
 abbrev four : List ℕ → ℕ → ℕ → ℕ → List ℕ
 four s a x f = set (set (set (set s a x) (a + 1) f) (a + 2) 0) (a + 3) 0
 
@@ -34,8 +29,6 @@ module _ (s : List ℕ) (a x f : ℕ) (fit : a + 4 ≤ length s) where
       other : (k : ℕ) → (k ≡ a → ⊥) → (k ≡ a + 1 → ⊥) → (k ≡ a + 2 → ⊥) → (k ≡ a + 3 → ⊥) → getD (four s a x f) k 0 ≡ getD s k 0
       other k n₀ n₁ n₂ n₃ = getD-set-other (set (set (set s a x) (a + 1) f) (a + 2) 0) (a + 3) k 0 0 n₃ ∙ getD-set-other (set (set s a x) (a + 1) f) (a + 2) k 0 0 n₂
           ∙ getD-set-other (set s a x) (a + 1) k f 0 n₁ ∙ getD-set-other s a k x 0 n₀
-
--- >>
 
 mul-p : tie.Need-mul-p
 mul-p c = search needs

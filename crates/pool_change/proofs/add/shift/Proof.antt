@@ -1,5 +1,4 @@
 -- Assumes nothing.
--- uses
 use mathlib.Core.Path.{_≡_, refl, sym, ap, _∙_}
 use mathlib.Core.List.{List}
 use mathlib.Core.Logic.{⊎-elim}
@@ -9,14 +8,10 @@ use native.Mathlib.Nat.{eq-or-lt-of-le}
 use lib.ListN.{length, getD, set, length-set}
 use lib.Seq.{getD-set-same, getD-set-other}
 use Rattle.pool_change.specs.Planting.{Shifted}
--- end uses
 use borrow.Author.Needs.{needs}
 use Rattle.pool_change.proofs.add.shift.Statement.{statement}
 use Rattle.pool_change.proofs.add.shift.Tie as tie
-use Rattle.pool_change.proofs.add.shift.Reads as reads
-use Rattle.pool_change.proofs.add.shift.Lts as lts
 
--- <<
 record Inv (s₀ s : List ℕ) (low high k : ℕ) : Type 0 where
   from : low ≤ k
   upto : k ≤ high
@@ -41,8 +36,6 @@ turn s₀ s low high k fit v h = record {
 
 done : (s₀ s : List ℕ) (low high k : ℕ) → Inv s₀ s low high k → k ≤ low → Shifted s₀ s low high
 done s₀ s low high k v h = record { front = λ i lt. v .front i (omega (arith, v .from)); moved = λ i le lt. v .moved i (omega arith) lt; back = v .back }
-
--- >>
 
 abbrev Inv-loop : tie.InvT-loop
 Inv-loop p₀ low high k₀ p k = Inv p₀ p low high k

@@ -1,10 +1,8 @@
 -- Assumes nothing.
--- uses
 use Prim.Native.Nat.{ℕ, _+_, _-_, _<_}
 use native.Mathlib.Omega.{arith}
 use lib.ListN.{length}
 use Rattle.pool_change.proofs.Taking.{readable, cleared, lost, deeper, prunes, removed, length-tail, inside-remove}
--- end uses
 use borrow.Author.Needs.{needs}
 use borrow.Fn.Kinds.{In}
 use borrow.Fn.PlainCycle.{Measures, is, falls, and}

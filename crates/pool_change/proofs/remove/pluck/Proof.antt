@@ -1,21 +1,13 @@
 -- Assumes nothing.
--- uses
 use mathlib.Core.Path.{sym, subst, _∙_}
 use Prim.Native.Nat.{ℕ, _+_, _-_, _*_}
 use native.Mathlib.Omega.{arith}
 use lib.ListN.{getD, set, length-set}
 use Rattle.pool_change.specs.Plucking.{Plucked}
 use Rattle.pool_change.proofs.Plucked.{where-is, lowers, plucked, count-some}
--- end uses
 use borrow.Author.Needs.{needs}
 use Rattle.pool_change.proofs.remove.pluck.Statement.{statement}
 use Rattle.pool_change.proofs.remove.pluck.Tie as tie
-use Rattle.pool_change.proofs.remove.pluck.Reads as reads
-use Rattle.pool_change.proofs.remove.pluck.Lts as lts
-use Rattle.pool_change.proofs.remove.lower.Reads as lower-reads
-use Rattle.pool.proofs.narrow.Reads as narrow-reads
-use Rattle.pool_change.proofs.remove.unshift.Reads as unshift-reads
-use Rattle.pool_change.proofs.remove.wipe.Reads as wipe-reads
 
 mul-a : tie.Need-mul-a
 mul-a c = search needs

@@ -1,16 +1,10 @@
 -- Assumes nothing.
--- uses
 use Prim.Native.Nat.{_-_}
 use native.Mathlib.Omega.{arith}
 use Rattle.pool_change.proofs.Taking.{inside-prune, stays-count, stays-mark, plucks, pruned}
--- end uses
 use borrow.Author.Needs.{needs}
 use Rattle.pool_change.proofs.remove.prune.Statement.{statement}
 use Rattle.pool_change.proofs.remove.prune.Tie as tie
-use Rattle.pool_change.proofs.remove.prune.Reads as reads
-use Rattle.pool_change.proofs.remove.prune.Lts as lts
-use Rattle.pool_change.proofs.remove.pluck.Reads as pluck-reads
-use Rattle.pool.proofs.wide.Reads as wide-reads
 
 mul-if1 : tie.Need-mul-if1
 mul-if1 c = let i = inside-prune _ _ _ (c .before .pre) in omega arith

@@ -1,5 +1,4 @@
 -- Assumes nothing.
--- uses
 use mathlib.Core.Path.{_≡_, refl, sym, ap, _∙_}
 use mathlib.Core.List.{List}
 use Prim.Native.Nat.{ℕ, _+_, _-_, _≤_, _<_}
@@ -8,14 +7,10 @@ use native.Mathlib.Decide.{decLt}
 use lib.ListN.{length, getD, set, length-set}
 use lib.Seq.{getD-set-same, getD-set-other}
 use Rattle.pool_change.specs.Plucking.{Unshifted}
--- end uses
 use borrow.Author.Needs.{needs}
 use Rattle.pool_change.proofs.remove.unshift.Statement.{statement}
 use Rattle.pool_change.proofs.remove.unshift.Tie as tie
-use Rattle.pool_change.proofs.remove.unshift.Reads as reads
-use Rattle.pool_change.proofs.remove.unshift.Lts as lts
 
--- <<
 record Inv (s₀ s : List ℕ) (low high k : ℕ) : Type 0 where
   from : low ≤ k
   long : length s ≡ length s₀
@@ -46,8 +41,6 @@ done s₀ s low high k v h = record { front = v .front; moved = λ i le lt. v .m
     pick : (i : ℕ) → low ≤ i → high ≤ i + 8 → Dec (i < k) → getD s i 0 ≡ getD s₀ i 0
     pick i le u (yes q) = absurd (omega (arith, v .bound i le q))
     pick i le u (no q) = v .back i (omega arith)
-
--- >>
 
 abbrev Inv-loop : tie.InvT-loop
 Inv-loop p₀ low high k₀ p k = Inv p₀ p low high k

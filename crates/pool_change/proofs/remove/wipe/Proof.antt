@@ -1,5 +1,4 @@
 -- Assumes nothing.
--- uses
 use mathlib.Core.Path.{_≡_, refl, ap, _∙_}
 use mathlib.Core.List.{List}
 use Prim.Native.Nat.{ℕ, _+_, _-_, _≤_, _<_}
@@ -8,14 +7,10 @@ use native.Mathlib.Decide.{decLt}
 use lib.ListN.{length, getD, set, length-set}
 use lib.Seq.{getD-set-same, getD-set-other}
 use Rattle.pool_change.specs.Plucking.{Wiped}
--- end uses
 use borrow.Author.Needs.{needs}
 use Rattle.pool_change.proofs.remove.wipe.Statement.{statement}
 use Rattle.pool_change.proofs.remove.wipe.Tie as tie
-use Rattle.pool_change.proofs.remove.wipe.Reads as reads
-use Rattle.pool_change.proofs.remove.wipe.Lts as lts
 
--- <<
 record Inv (s₀ s : List ℕ) (low k : ℕ) : Type 0 where
   from : low ≤ k
   long : length s ≡ length s₀
@@ -38,8 +33,6 @@ turn s₀ s low k fit v = record {
 
 done : (s₀ s : List ℕ) (low high k : ℕ) → Inv s₀ s low k → low ≤ high → high ≤ k → k ≤ high → Wiped s₀ s low high
 done s₀ s low high k v o h u = record { front = v .front; mid = λ i le lt. v .mid i le (omega arith); back = λ i le. v .back i (omega arith) }
-
--- >>
 
 abbrev Inv-loop : tie.InvT-loop
 Inv-loop p₀ low high k₀ p k = Inv p₀ p low k × (k ≤ high)

@@ -1,5 +1,4 @@
 -- Assumes nothing.
--- uses
 use mathlib.Core.Path.{_≡_, ap, _∙_}
 use mathlib.Core.List.{List}
 use Prim.Native.Nat.{ℕ, _+_, _-_, _≤_, _<_}
@@ -7,14 +6,10 @@ use native.Mathlib.Omega.{arith}
 use native.Mathlib.Decide.{decLt}
 use lib.ListN.{length, getD, List·getD-eq-default}
 use Rattle.pool_read.proofs.Decide.{denied, granted}
--- end uses
 use borrow.Author.Needs.{needs}
 use Rattle.pool_read.proofs.rules.blank.Statement.{statement}
 use Rattle.pool_read.proofs.rules.blank.Tie as tie
-use Rattle.pool_read.proofs.rules.blank.Reads as reads
-use Rattle.pool_read.proofs.rules.blank.Lts as lts
 
--- <<
 more : (p : List ℕ) (k i : ℕ) → ((a : ℕ) → k ≤ a → a < i → getD p a 0 ≡ 0) → getD p i 0 ≡ 0 → (a : ℕ) → k ≤ a → a < i + 1 → getD p a 0 ≡ 0
 more p k i f e a l h = pick (decLt a i)
   where
@@ -28,8 +23,6 @@ all p k i f h a l = pick (decLt a i)
     pick : Dec (a < i) → getD p a 0 ≡ 0
     pick (yes q) = f a l q
     pick (no q) = let z : length p ≤ a = omega arith in List·getD-eq-default p 0 z
-
--- >>
 
 abbrev Inv-loop : tie.InvT-loop
 Inv-loop p k i₀ i = (k ≤ i) × ((a : ℕ) → k ≤ a → a < i → getD p a 0 ≡ 0)

@@ -1,5 +1,4 @@
 -- Assumes nothing.
--- uses
 use mathlib.Core.Path.{sym, _∙_}
 use Prim.Native.Nat.{_-_}
 use native.Mathlib.Omega.{arith}
@@ -8,15 +7,9 @@ use Rattle.pool.specs.Cells.{scalarAt, countAt, markAt}
 use Rattle.pool_read.proofs.Decide.{denied, granted}
 use Rattle.pool.proofs.Shape.{first-is, count-is}
 use Rattle.pool_read.proofs.Whole.{each-join}
--- end uses
 use borrow.Author.Needs.{needs}
 use Rattle.pool_read.proofs.rules.each_ok.Statement.{statement}
 use Rattle.pool_read.proofs.rules.each_ok.Tie as tie
-use Rattle.pool_read.proofs.rules.each_ok.Reads as reads
-use Rattle.pool_read.proofs.rules.each_ok.Lts as lts
-use Rattle.pool_read.proofs.rules.inner_ok.Reads as inner-ok-reads
-use Rattle.pool_read.proofs.rules.rising.Reads as rising-reads
-use Rattle.pool.proofs.wide.Reads as wide-reads
 
 mul-a : tie.Need-mul-a
 mul-a c = search needs

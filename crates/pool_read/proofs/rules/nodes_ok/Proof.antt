@@ -1,19 +1,13 @@
 -- Assumes nothing.
--- uses
 use Prim.Native.Nat.{_-_}
 use native.Mathlib.Omega.{arith}
 use borrow.Author.Tests.{not-true, not-false}
 use Rattle.pool_read.proofs.Decide.{denied}
 use Rattle.pool.proofs.Shape.{count-is}
 use Rattle.pool_read.proofs.Whole.{Inv, begin, turn, refuse, done}
--- end uses
 use borrow.Author.Needs.{needs}
 use Rattle.pool_read.proofs.rules.nodes_ok.Statement.{statement}
 use Rattle.pool_read.proofs.rules.nodes_ok.Tie as tie
-use Rattle.pool_read.proofs.rules.nodes_ok.Reads as reads
-use Rattle.pool_read.proofs.rules.nodes_ok.Lts as lts
-use Rattle.pool_read.proofs.rules.each_ok.Reads as each-ok-reads
-use Rattle.pool.proofs.wide.Reads as wide-reads
 
 abbrev Inv-loop : tie.InvT-loop
 Inv-loop p n i₀ s₀ i s = Inv p n i s

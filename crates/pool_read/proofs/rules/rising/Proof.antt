@@ -1,16 +1,12 @@
 -- Assumes nothing.
--- uses
 use Prim.Native.Nat.{_-_, _≤_, _<_}
 use native.Mathlib.Omega.{arith}
 use Rattle.pool.specs.Sound.{Rising}
 use Rattle.pool_read.proofs.Decide.{denied, granted}
 use Rattle.pool_read.proofs.Whole.{rising-none, rising-more, rising-not}
--- end uses
 use borrow.Author.Needs.{needs}
 use Rattle.pool_read.proofs.rules.rising.Statement.{statement}
 use Rattle.pool_read.proofs.rules.rising.Tie as tie
-use Rattle.pool_read.proofs.rules.rising.Reads as reads
-use Rattle.pool_read.proofs.rules.rising.Lts as lts
 
 abbrev Inv-loop : tie.InvT-loop
 Inv-loop p s e k₀ k = (s < k) × (k ≤ e) × Rising p s k

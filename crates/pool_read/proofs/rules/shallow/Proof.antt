@@ -1,17 +1,12 @@
 -- Assumes nothing.
--- uses
 use mathlib.Core.Path.{_∙_}
 use Prim.Native.Nat.{_-_}
 use native.Mathlib.Omega.{arith}
 use Rattle.pool_read.proofs.Decide.{granted}
 use Rattle.pool_read.proofs.Whole.{Levels, level-on, level-done, stay, ends-start}
--- end uses
 use borrow.Author.Needs.{needs}
 use Rattle.pool_read.proofs.rules.shallow.Statement.{statement}
 use Rattle.pool_read.proofs.rules.shallow.Tie as tie
-use Rattle.pool_read.proofs.rules.shallow.Reads as reads
-use Rattle.pool_read.proofs.rules.shallow.Lts as lts
-use Rattle.pool.proofs.wide.Reads as wide-reads
 
 abbrev Inv-loop : tie.InvT-loop
 Inv-loop p n e₀ d₀ e d = Levels p n e d

@@ -1,5 +1,4 @@
 -- Assumes nothing.
--- uses
 use mathlib.Core.Path.{_≡_, sym, _∙_}
 use mathlib.Core.Bool.{false}
 use Prim.Native.Nat.{ℕ, _+_, _-_, _<_}
@@ -8,13 +7,9 @@ use Rattle.char_string.specs.Blanks.{isTrimmed}
 use Rattle.pool.specs.Cells.{scalarAt}
 use Rattle.pool_read.proofs.Decide.{denied, granted}
 use Rattle.pool_read.proofs.Whole.{starts-more, starts-not}
--- end uses
 use borrow.Author.Needs.{needs}
 use Rattle.pool_read.proofs.rules.starts_ok.Statement.{statement}
 use Rattle.pool_read.proofs.rules.starts_ok.Tie as tie
-use Rattle.pool_read.proofs.rules.starts_ok.Reads as reads
-use Rattle.pool_read.proofs.rules.starts_ok.Lts as lts
-use Rattle.char_string.proofs.is_trimmed.Reads as is-trimmed-reads
 
 abbrev Inv-loop : tie.InvT-loop
 Inv-loop p k i₀ i = (0 < i) × ((j : ℕ) → 0 < j → j < i → isTrimmed (scalarAt p j) ≡ false)
@@ -22,43 +17,33 @@ Inv-loop p k i₀ i = (0 < i) × ((j : ℕ) → 0 < j → j < i → isTrimmed (s
 abbrev μ-loop : tie.MeasureT-loop
 μ-loop p k i₀ i = k + 1 - i
 
--- src/rules.rt:117:5
 loop-holds : tie.Need-loop-holds Inv-loop μ-loop
 loop-holds c = (omega arith, λ j a b. absurd (omega arith))
 
--- src/rules.rt:118:25
 mul-is-trimmed : tie.Need-mul-is-trimmed Inv-loop μ-loop
 mul-is-trimmed c = search needs
 
--- src/rules.rt:118:23
 mul-is-trimmed-2 : tie.Need-mul-is-trimmed-2 Inv-loop μ-loop
 mul-is-trimmed-2 c = search needs
 
--- src/rules.rt:118:23
 shared-slice-read-is-trimmed : tie.Need-shared-slice-read-is-trimmed Inv-loop μ-loop
 shared-slice-read-is-trimmed c = search needs
 
--- src/rules.rt:118:12
 is-trimmed-requires : tie.Need-is-trimmed-requires Inv-loop μ-loop
 is-trimmed-requires c κs = search needs
 
--- src/rules.rt:119:13
 returns : tie.Need-returns Inv-loop μ-loop
 returns c = denied (starts-not (c .before .before .before .before .before .before .args .p .now) (c .before .before .before .before .before .before .args .k) (c .before .before .before .before .loop .i) (sym (c .before .is-trimmed .ensures) ∙ c .if1 .taken) (c .before .before .before .before .loop .inv .0) (c .before .before .before .loop-test .taken))
 
--- src/rules.rt:121:9
 add-i : tie.Need-add-i Inv-loop μ-loop
 add-i c = search needs
 
--- src/rules.rt:117:5
 loop-less : tie.Need-loop-less Inv-loop μ-loop
 loop-less c = omega (arith, c .before .before .before .loop-test .taken)
 
--- src/rules.rt:117:5
 loop-again : tie.Need-loop-again Inv-loop μ-loop
 loop-again c = (omega arith, starts-more (c .before .before .before .before .before .before .args .p .now) (c .before .before .before .before .loop .i) (c .before .before .before .before .loop .inv .1) (sym (c .before .is-trimmed .ensures) ∙ c .if1 .left))
 
--- src/rules.rt:112:1
 returns-2 : tie.Need-returns-2 Inv-loop μ-loop
 returns-2 c = granted (λ j a b. c .before .loop .inv .1 j a (omega (arith, c .loop-test .left)))
 

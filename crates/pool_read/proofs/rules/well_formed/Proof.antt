@@ -1,107 +1,76 @@
 -- Assumes nothing.
--- uses
 use mathlib.Core.Path.{sym}
 use native.Mathlib.Omega.{arith}
 use borrow.Author.Tests.{not-true, not-false}
 use Rattle.pool_read.proofs.Decide.{refused, accepted}
 use Rattle.pool_read.proofs.Whole.{at-n, of-n, root-of, mark-of, nodes-of, sound-of, starts-fit, starts-at, starts-from}
--- end uses
 use borrow.Author.Needs.{needs}
 use Rattle.pool_read.proofs.rules.well_formed.Statement.{statement}
 use Rattle.pool_read.proofs.rules.well_formed.Tie as tie
-use Rattle.pool_read.proofs.rules.well_formed.Reads as reads
-use Rattle.pool_read.proofs.rules.well_formed.Lts as lts
-use Rattle.pool.proofs.wide.Reads as wide-reads
-use Rattle.pool_read.proofs.rules.blank.Reads as blank-reads
-use Rattle.pool_read.proofs.rules.nodes_ok.Reads as nodes-ok-reads
-use Rattle.pool_read.proofs.rules.shallow.Reads as shallow-reads
-use Rattle.pool_read.proofs.rules.starts_ok.Reads as starts-ok-reads
 
--- src/rules.rt:162:9
 returns : tie.Need-returns
 returns c = refused _ (λ h. omega (arith, h .fits, h .shaped .some))
 
--- src/rules.rt:164:18
 shared-slice-read-wide : tie.Need-shared-slice-read-wide
 shared-slice-read-wide c = search needs
 
--- src/rules.rt:164:9
 wide-requires : tie.Need-wide-requires
 wide-requires c κs = search needs
 
--- src/rules.rt:166:9
 returns-2 : tie.Need-returns-2
 returns-2 c = refused _ (λ d. let h = at-n _ _ (c .before .wide .ensures) d in omega (arith, h .shaped .some, c .if2 .taken))
 
--- src/rules.rt:169:9
 returns-3 : tie.Need-returns-3
 returns-3 c = refused _ (λ d. let h = at-n _ _ (c .before .before .wide .ensures) d in omega (arith, h .small, c .if3 .taken))
 
--- src/rules.rt:172:9
 returns-4 : tie.Need-returns-4
 returns-4 c = refused _ (λ d. let h = at-n _ _ (c .before .before .before .wide .ensures) d in omega (arith, h .fits, c .if4 .taken))
 
--- src/rules.rt:174:8
 shared-slice-read-if5 : tie.Need-shared-slice-read-if5
 shared-slice-read-if5 c = search needs
 
--- src/rules.rt:175:9
 returns-5 : tie.Need-returns-5
 returns-5 c = refused _ (λ d. c .if5 .taken (root-of _ _ d))
 
--- src/rules.rt:177:8
 shared-slice-read-if6 : tie.Need-shared-slice-read-if6
 shared-slice-read-if6 c = search needs
 
--- src/rules.rt:178:9
 returns-6 : tie.Need-returns-6
 returns-6 c = refused _ (λ d. c .if6 .taken (mark-of _ _ d))
 
--- src/rules.rt:180:18
 mul-blank : tie.Need-mul-blank
 mul-blank c = search needs
 
--- src/rules.rt:180:9
 blank-requires : tie.Need-blank-requires
 blank-requires c κs = search needs
 
--- src/rules.rt:181:9
 returns-7 : tie.Need-returns-7
 returns-7 c = refused _ (λ d. let h = at-n _ _ (c .before .before .before .before .before .before .before .before .before .wide .ensures) d in c .before .blank .ensures .no′ (not-true _ (c .if7 .taken)) (h .spare .blank))
 
--- src/rules.rt:183:9
 nodes-ok-requires : tie.Need-nodes-ok-requires
 nodes-ok-requires c κs = search needs
 
--- src/rules.rt:184:9
 returns-8 : tie.Need-returns-8
 returns-8 c = refused _ (λ d. let h = at-n _ _ (c .before .before .before .before .before .before .before .before .before .before .before .wide .ensures) d in c .before .nodes-ok .ensures .no′ (not-true _ (c .if8 .taken)) (nodes-of _ _ h))
 
--- src/rules.rt:186:27
 shared-slice-read-wide-2 : tie.Need-shared-slice-read-wide-2
 shared-slice-read-wide-2 c = search needs
 
--- src/rules.rt:186:22
 wide-requires-2 : tie.Need-wide-requires-2
 wide-requires-2 c κs = search needs
 
--- src/rules.rt:186:9
 starts-ok-requires : tie.Need-starts-ok-requires
 starts-ok-requires c κs = starts-fit (c .before .before .before .before .before .before .before .before .before .before .before .before .before .before .before .before .before .args .p .now) _ _ (c .before .before .before .nodes-ok .ensures .yes′ (not-false _ (c .before .before .if8 .left))) (omega (arith, c .before .before .before .before .before .before .before .before .before .before .if4 .left)) (c .wide2 .ensures)
 
--- src/rules.rt:187:9
 returns-9 : tie.Need-returns-9
 returns-9 c = refused _ (λ d. c .before .starts-ok .ensures .no′ (not-true _ (c .if9 .taken)) (starts-from (c .before .before .before .before .before .before .before .before .before .before .before .before .before .before .before .before .before .before .before .args .p .now) _ (c .before .before .wide2 .ensures) (d .start)))
 
--- src/rules.rt:189:9
 shallow-requires : tie.Need-shallow-requires
 shallow-requires c κs = (c .before .before .before .before .before .nodes-ok .ensures .yes′ (not-false _ (c .before .before .before .before .if8 .left)) .shaped, omega (arith, c .before .before .before .before .before .before .before .before .before .before .before .before .if4 .left))
 
--- src/rules.rt:190:9
 returns-10 : tie.Need-returns-10
 returns-10 c = refused _ (λ d. let h = at-n _ _ (c .before .before .before .before .before .before .before .before .before .before .before .before .before .before .before .before .before .wide .ensures) d in c .before .shallow .ensures .no′ (not-true _ (c .if10 .taken)) (h .shallow))
 
--- src/rules.rt:158:1
 returns-11 : tie.Need-returns-11
 returns-11 c = accepted _ (of-n _ _ (c .before .before .before .before .before .before .before .before .before .before .before .before .before .before .before .before .before .wide .ensures) (sound-of _ _ (c .before .before .before .before .before .before .before .nodes-ok .ensures .yes′ (not-false _ (c .before .before .before .before .before .before .if8 .left))) (omega (arith, c .before .before .before .before .before .before .before .before .before .before .before .before .before .before .if4 .left)) (omega (arith, c .before .before .before .before .before .before .before .before .before .before .before .before .before .before .before .if3 .left)) (c .before .before .before .before .before .before .before .before .before .before .before .before .if5 .left) (c .before .before .before .before .before .before .before .before .before .before .if6 .left) (sym (c .before .before .before .before .before .before .before .before .before .before .before .before .before .before .before .before .before .wide .ensures)) (c .before .before .before .before .before .before .before .before .before .blank .ensures .yes′ (not-false _ (c .before .before .before .before .before .before .before .before .if7 .left))) (starts-at (c .before .before .before .before .before .before .before .before .before .before .before .before .before .before .before .before .before .before .before .before .before .args .p .now) _ (c .before .before .before .before .wide2 .ensures) (c .before .before .before .starts-ok .ensures .yes′ (not-false _ (c .before .before .if9 .left)))) (c .before .shallow .ensures .yes′ (not-false _ (c .if10 .left)))))
 

@@ -1,16 +1,11 @@
 -- Assumes nothing.
--- uses
 use Prim.Native.Nat.{_-_}
 use mathlib.Core.Path.{refl}
 use native.Mathlib.Omega.{arith}
 use Rattle.pool_read.proofs.Finding.{Tallied, tallied-all, tallied-more, tallied-on}
--- end uses
 use borrow.Author.Needs.{needs}
 use Rattle.pool_read.proofs.search.count_words.Statement.{statement}
 use Rattle.pool_read.proofs.search.count_words.Tie as tie
-use Rattle.pool_read.proofs.search.count_words.Reads as reads
-use Rattle.pool_read.proofs.search.count_words.Lts as lts
-use Rattle.pool.proofs.wide.Reads as wide-reads
 
 abbrev Inv-loop : tie.InvT-loop
 Inv-loop p n words₀ i₀ words i = Tallied p n words i
@@ -18,59 +13,45 @@ Inv-loop p n words₀ i₀ words i = Tallied p n words i
 abbrev μ-loop : tie.MeasureT-loop
 μ-loop p n words₀ i₀ words i = n - i
 
--- src/search.rt:150:18
 shared-slice-read-wide : tie.Need-shared-slice-read-wide Inv-loop μ-loop
 shared-slice-read-wide c = search needs
 
--- src/search.rt:150:9
 wide-requires : tie.Need-wide-requires Inv-loop μ-loop
 wide-requires c κs = search needs
 
--- src/search.rt:153:5
 loop-holds : tie.Need-loop-holds Inv-loop μ-loop
 loop-holds c = record { upto = omega arith; few = omega arith; is = refl }
 
--- src/search.rt:154:22
 mul-mark : tie.Need-mul-mark Inv-loop μ-loop
 mul-mark c = search needs
 
--- src/search.rt:154:22
 add-mark : tie.Need-add-mark Inv-loop μ-loop
 add-mark c = search needs
 
--- src/search.rt:154:20
 mul-mark-2 : tie.Need-mul-mark-2 Inv-loop μ-loop
 mul-mark-2 c = search needs
 
--- src/search.rt:154:20
 shared-slice-read-mark : tie.Need-shared-slice-read-mark Inv-loop μ-loop
 shared-slice-read-mark c = search needs
 
--- src/search.rt:155:9
 add-i : tie.Need-add-i Inv-loop μ-loop
 add-i c = search needs
 
--- src/search.rt:157:13
 add-words : tie.Need-add-words Inv-loop μ-loop
 add-words c = let v = c .before .before .before .loop .inv in omega (arith, v .few, v .upto)
 
--- src/search.rt:153:5
 loop-less : tie.Need-loop-less Inv-loop μ-loop
 loop-less c = omega (arith, c .before .before .loop-test .taken)
 
--- src/search.rt:153:5
 loop-again : tie.Need-loop-again Inv-loop μ-loop
 loop-again c = tallied-more (c .before .before .before .loop .inv) (c .before .before .loop-test .taken) (c .if1 .taken)
 
--- src/search.rt:153:5
 loop-less-2 : tie.Need-loop-less-2 Inv-loop μ-loop
 loop-less-2 c = omega (arith, c .before .before .loop-test .taken)
 
--- src/search.rt:153:5
 loop-again-2 : tie.Need-loop-again-2 Inv-loop μ-loop
 loop-again-2 c = tallied-on (c .before .before .before .loop .inv) (c .before .before .loop-test .taken) (c .if1 .left)
 
--- src/search.rt:146:1
 returns : tie.Need-returns Inv-loop μ-loop
 returns c = tallied-all (c .before .loop .inv) (c .loop-test .left) (c .before .before .wide .ensures)
 

@@ -1,31 +1,22 @@
 -- Assumes nothing.
--- uses
 use mathlib.Core.Path.{_≡_, sym}
 use mathlib.Core.List.{List}
-use Prim.Native.Nat.{ℕ, _+_, _-_, _*_, _≤_, _<_}
+use Prim.Native.Nat.{ℕ, _+_, _-_, _*_, _≤_}
 use native.Mathlib.Omega.{arith}
 use lib.ListN.{length, getD}
 use Rattle.pool.specs.Cells.{firstAt, countAt, scalarAt}
 use Rattle.pool.specs.Sound.{Readable}
 use Rattle.pool.proofs.Shape.{within, first-is, count-is}
 use Rattle.pool_read.proofs.Finding.{past, other, found}
--- end uses
 use borrow.Author.Needs.{needs}
 use Rattle.pool_read.proofs.search.find_child.Statement.{statement}
 use Rattle.pool_read.proofs.search.find_child.Tie as tie
-use Rattle.pool_read.proofs.search.find_child.Reads as reads
-use Rattle.pool_read.proofs.search.find_child.Lts as lts
-use Rattle.pool_read.proofs.search.seek.Reads as seek-reads
-use Rattle.pool.proofs.wide.Reads as wide-reads
 
--- <<
 ends-within : (p : List ℕ) (b f n : ℕ) → Readable p b → f ≡ getD p (8 * b + 1) 0 → n ≡ getD p (8 * b + 2) 0 → (f + n ≡ firstAt p b + countAt p b) × (8 * (f + n) ≤ length p)
 ends-within p b f n h u v =
     let a = first-is p b in
     let c = count-is p b in
     (omega arith, omega (arith, within p (h .nodes) (h .shaped) b (h .inside), h .fits))
-
--- >>
 
 seek-requires : tie.Need-seek-requires
 seek-requires c κs = search needs

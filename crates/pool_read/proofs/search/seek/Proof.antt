@@ -1,5 +1,4 @@
 -- Assumes nothing.
--- uses
 use mathlib.Core.Path.{_≡_, sym, subst}
 use mathlib.Core.List.{List}
 use Prim.Native.Nat.{ℕ, _+_, _-_, _*_, _≤_, _<_}
@@ -10,15 +9,10 @@ use Rattle.pool.specs.Cells.{firstAt, countAt, scalarAt}
 use Rattle.pool.specs.Sound.{Readable}
 use Rattle.pool_read.specs.Search.{Sought}
 use Rattle.pool.proofs.Shape.{within}
--- end uses
 use borrow.Author.Needs.{needs}
 use Rattle.pool_read.proofs.search.seek.Statement.{statement}
 use Rattle.pool_read.proofs.search.seek.Tie as tie
-use Rattle.pool_read.proofs.search.seek.Reads as reads
-use Rattle.pool_read.proofs.search.seek.Lts as lts
-use Rattle.pool.proofs.wide.Reads as wide-reads
 
--- <<
 record Inv (p : List ℕ) (b x e k : ℕ) : Type 0 where
   end : e ≡ firstAt p b + countAt p b
   fits : 8 * e ≤ length p
@@ -56,8 +50,6 @@ found p b x e k v h l = record { from = v .from; upto = omega (arith, v .end); b
 
 done : (p : List ℕ) (b x e k : ℕ) → Inv p b x e k → e ≤ k → Sought p b x k
 done p b x e k v h = record { from = v .from; upto = omega (arith, v .end, v .upto); below = v .below; stop = λ q. absurd (omega (arith, v .end)) }
-
--- >>
 
 abbrev Inv-loop : tie.InvT-loop
 Inv-loop p b x k₀ e k = Inv p b x e k

@@ -1,118 +1,84 @@
 -- Assumes nothing.
--- uses
-use Prim.Native.Nat.{_+_}
 use native.Mathlib.Omega.{arith}
-use mathlib.Core.Path.{refl, sym, _∙_}
-use mathlib.Core.List.{List, [], _∷_, _++_}
-use lib.ListN.{getD}
+use mathlib.Core.Path.{sym, _∙_}
 use borrow.Author.Tests.{not-true, not-false}
-use Rattle.tcc_rules.specs.Rules.{is, upTo, consonant, tone, dOrI}
+use Rattle.tcc_rules.specs.Rules.{consonant, dOrI}
 use Rattle.tcc_rules.proofs.Classes.{seen, unlike}
 use Rattle.tcc_rules.proofs.Skips.{class-there}
 use Rattle.tcc_rules.proofs.Tails.{k-none, k-mark, k-d-mark, k-d-no, k-no, k-two-mark, k-two-no, k-all, k-all-no}
--- end uses
 use borrow.Author.Needs.{needs}
 use Rattle.tcc_rules.proofs.group.group_k.Statement.{statement}
 use Rattle.tcc_rules.proofs.group.group_k.Tie as tie
-use Rattle.tcc_rules.proofs.group.group_k.Reads as reads
-use Rattle.tcc_rules.proofs.group.group_k.Lts as lts
-use Rattle.tcc_rules.proofs.letters.at.Reads as at-reads
-use Rattle.tcc_rules.proofs.letters.is_consonant.Reads as is-consonant-reads
-use Rattle.tcc_rules.proofs.letters.is_d_or_i.Reads as is-d-or-i-reads
 
--- src/group.rt:67:22
 at-requires : tie.Need-at-requires
 at-requires c κs = search needs
 
--- src/group.rt:67:9
 is-consonant-requires : tie.Need-is-consonant-requires
 is-consonant-requires c κs = search needs
 
--- src/group.rt:68:9
 returns : tie.Need-returns
 returns c = k-none (c .before .before .before .before .args .text .now) (c .before .before .before .before .args .p) (seen consonant (c .before .before .at .ensures) (c .before .is-consonant .ensures) (not-true _ (c .if1 .taken)))
 
--- src/group.rt:70:22
 add-at : tie.Need-add-at
 add-at c = omega (arith, class-there consonant (c .before .before .before .before .args .text .now) (c .before .before .before .before .args .p) tt (seen consonant (c .before .before .at .ensures) (c .before .is-consonant .ensures) (not-false _ (c .if1 .left))))
 
--- src/group.rt:70:9
 at-requires-2 : tie.Need-at-requires-2
 at-requires-2 c κs = search needs
 
--- src/group.rt:72:16
 add-result : tie.Need-add-result
 add-result c = omega (arith, class-there consonant (c .before .before .before .before .before .before .args .text .now) (c .before .before .before .before .before .before .args .p) tt (seen consonant (c .before .before .before .before .at .ensures) (c .before .before .before .is-consonant .ensures) (not-false _ (c .before .before .if1 .left))))
 
--- src/group.rt:72:9
 returns-2 : tie.Need-returns-2
 returns-2 c = k-mark (c .before .before .before .before .before .before .args .text .now) (c .before .before .before .before .before .before .args .p) (seen consonant (c .before .before .before .before .at .ensures) (c .before .before .before .is-consonant .ensures) (not-false _ (c .before .before .if1 .left))) (sym (c .before .at2 .ensures) ∙ c .if2 .taken)
 
--- src/group.rt:74:22
 add-at-2 : tie.Need-add-at-2
 add-at-2 c = omega (arith, class-there consonant (c .before .before .before .before .before .before .args .text .now) (c .before .before .before .before .before .before .args .p) tt (seen consonant (c .before .before .before .before .at .ensures) (c .before .before .before .is-consonant .ensures) (not-false _ (c .before .before .if1 .left))))
 
--- src/group.rt:74:9
 at-requires-3 : tie.Need-at-requires-3
 at-requires-3 c κs = search needs
 
--- src/group.rt:75:8
 is-d-or-i-requires : tie.Need-is-d-or-i-requires
 is-d-or-i-requires c κs = search needs
 
--- src/group.rt:77:20
 add-result-2 : tie.Need-add-result-2
 add-result-2 c = omega (arith, class-there consonant (c .before .before .before .before .before .before .before .before .before .before .args .text .now) (c .before .before .before .before .before .before .before .before .before .before .args .p) tt (seen consonant (c .before .before .before .before .before .before .before .before .at .ensures) (c .before .before .before .before .before .before .before .is-consonant .ensures) (not-false _ (c .before .before .before .before .before .before .if1 .left))))
 
--- src/group.rt:77:13
 returns-3 : tie.Need-returns-3
 returns-3 c = k-d-mark (c .before .before .before .before .before .before .before .before .before .before .args .text .now) (c .before .before .before .before .before .before .before .before .before .before .args .p) (seen consonant (c .before .before .before .before .before .before .before .before .at .ensures) (c .before .before .before .before .before .before .before .is-consonant .ensures) (not-false _ (c .before .before .before .before .before .before .if1 .left))) (seen dOrI (c .before .before .before .before .before .at2 .ensures) (c .before .before .is-d-or-i .ensures) (c .before .if3 .taken)) (sym (c .before .before .before .at3 .ensures) ∙ c .if4 .taken)
 
--- src/group.rt:79:9
 returns-4 : tie.Need-returns-4
 returns-4 c = k-d-no (c .before .before .before .before .before .before .before .before .before .before .args .text .now) (c .before .before .before .before .before .before .before .before .before .before .args .p) (seen consonant (c .before .before .before .before .before .before .before .before .at .ensures) (c .before .before .before .before .before .before .before .is-consonant .ensures) (not-false _ (c .before .before .before .before .before .before .if1 .left))) (seen dOrI (c .before .before .before .before .before .at2 .ensures) (c .before .before .is-d-or-i .ensures) (c .before .if3 .taken)) (unlike 0xE4C (c .before .before .before .at3 .ensures) (c .if4 .left))
 
--- src/group.rt:81:9
 is-consonant-requires-2 : tie.Need-is-consonant-requires-2
 is-consonant-requires-2 c κs = search needs
 
--- src/group.rt:82:9
 returns-5 : tie.Need-returns-5
 returns-5 c = k-no (c .before .before .before .before .before .before .before .before .before .before .before .args .text .now) (c .before .before .before .before .before .before .before .before .before .before .before .args .p) (seen consonant (c .before .before .before .before .before .before .before .before .before .at .ensures) (c .before .before .before .before .before .before .before .before .is-consonant .ensures) (not-false _ (c .before .before .before .before .before .before .before .if1 .left))) ((unlike 0xE4C (c .before .before .before .before .before .before .at2 .ensures) (c .before .before .before .before .before .if2 .left)), ((seen dOrI (c .before .before .before .before .before .before .at2 .ensures) (c .before .before .before .is-d-or-i .ensures) (c .before .before .if3 .left)), ((seen consonant (c .before .before .before .before .before .before .at2 .ensures) (c .before .is-consonant2 .ensures) (not-true _ (c .if5 .taken))), tt)))
 
--- src/group.rt:85:16
 add-result-3 : tie.Need-add-result-3
 add-result-3 c = omega (arith, class-there consonant (c .before .before .before .before .before .before .before .before .before .before .before .before .args .text .now) (c .before .before .before .before .before .before .before .before .before .before .before .before .args .p) tt (seen consonant (c .before .before .before .before .before .before .before .before .before .before .at .ensures) (c .before .before .before .before .before .before .before .before .before .is-consonant .ensures) (not-false _ (c .before .before .before .before .before .before .before .before .if1 .left))))
 
--- src/group.rt:85:9
 returns-6 : tie.Need-returns-6
 returns-6 c = k-two-mark (c .before .before .before .before .before .before .before .before .before .before .before .before .args .text .now) (c .before .before .before .before .before .before .before .before .before .before .before .before .args .p) (seen consonant (c .before .before .before .before .before .before .before .before .before .before .at .ensures) (c .before .before .before .before .before .before .before .before .before .is-consonant .ensures) (not-false _ (c .before .before .before .before .before .before .before .before .if1 .left))) (seen consonant (c .before .before .before .before .before .before .before .at2 .ensures) (c .before .before .is-consonant2 .ensures) (not-false _ (c .before .if5 .left))) (sym (c .before .before .before .before .before .at3 .ensures) ∙ c .if6 .taken)
 
--- src/group.rt:87:9
 is-d-or-i-requires-2 : tie.Need-is-d-or-i-requires-2
 is-d-or-i-requires-2 c κs = search needs
 
--- src/group.rt:88:9
 returns-7 : tie.Need-returns-7
 returns-7 c = k-two-no (c .before .before .before .before .before .before .before .before .before .before .before .before .before .before .args .text .now) (c .before .before .before .before .before .before .before .before .before .before .before .before .before .before .args .p) (seen consonant (c .before .before .before .before .before .before .before .before .before .before .before .before .at .ensures) (c .before .before .before .before .before .before .before .before .before .before .before .is-consonant .ensures) (not-false _ (c .before .before .before .before .before .before .before .before .before .before .if1 .left))) (seen consonant (c .before .before .before .before .before .before .before .before .before .at2 .ensures) (c .before .before .before .before .is-consonant2 .ensures) (not-false _ (c .before .before .before .if5 .left))) ((unlike 0xE4C (c .before .before .before .before .before .before .before .at3 .ensures) (c .before .before .if6 .left)), ((seen dOrI (c .before .before .before .before .before .before .before .at3 .ensures) (c .before .is-d-or-i2 .ensures) (not-true _ (c .if7 .taken))), tt))
 
--- src/group.rt:90:17
 add-at-3 : tie.Need-add-at-3
 add-at-3 c = omega (arith, class-there consonant (c .before .before .before .before .before .before .before .before .before .before .before .before .before .before .args .text .now) (c .before .before .before .before .before .before .before .before .before .before .before .before .before .before .args .p) tt (seen consonant (c .before .before .before .before .before .before .before .before .before .before .before .before .at .ensures) (c .before .before .before .before .before .before .before .before .before .before .before .is-consonant .ensures) (not-false _ (c .before .before .before .before .before .before .before .before .before .before .if1 .left))))
 
--- src/group.rt:90:8
 at-requires-4 : tie.Need-at-requires-4
 at-requires-4 c κs = search needs
 
--- src/group.rt:91:16
 add-result-4 : tie.Need-add-result-4
 add-result-4 c = omega (arith, class-there consonant (c .before .before .before .before .before .before .before .before .before .before .before .before .before .before .before .before .args .text .now) (c .before .before .before .before .before .before .before .before .before .before .before .before .before .before .before .before .args .p) tt (seen consonant (c .before .before .before .before .before .before .before .before .before .before .before .before .before .before .at .ensures) (c .before .before .before .before .before .before .before .before .before .before .before .before .before .is-consonant .ensures) (not-false _ (c .before .before .before .before .before .before .before .before .before .before .before .before .if1 .left))))
 
--- src/group.rt:91:9
 returns-8 : tie.Need-returns-8
 returns-8 c = k-all (c .before .before .before .before .before .before .before .before .before .before .before .before .before .before .before .before .args .text .now) (c .before .before .before .before .before .before .before .before .before .before .before .before .before .before .before .before .args .p) (seen consonant (c .before .before .before .before .before .before .before .before .before .before .before .before .before .before .at .ensures) (c .before .before .before .before .before .before .before .before .before .before .before .before .before .is-consonant .ensures) (not-false _ (c .before .before .before .before .before .before .before .before .before .before .before .before .if1 .left))) (seen consonant (c .before .before .before .before .before .before .before .before .before .before .before .at2 .ensures) (c .before .before .before .before .before .before .is-consonant2 .ensures) (not-false _ (c .before .before .before .before .before .if5 .left))) (seen dOrI (c .before .before .before .before .before .before .before .before .before .at3 .ensures) (c .before .before .before .is-d-or-i2 .ensures) (not-false _ (c .before .before .if7 .left))) (sym (c .before .at4 .ensures) ∙ c .if8 .taken)
 
--- src/group.rt:64:1
 returns-9 : tie.Need-returns-9
 returns-9 c = k-all-no (c .before .before .before .before .before .before .before .before .before .before .before .before .before .before .before .before .args .text .now) (c .before .before .before .before .before .before .before .before .before .before .before .before .before .before .before .before .args .p) (seen consonant (c .before .before .before .before .before .before .before .before .before .before .before .before .before .before .at .ensures) (c .before .before .before .before .before .before .before .before .before .before .before .before .before .is-consonant .ensures) (not-false _ (c .before .before .before .before .before .before .before .before .before .before .before .before .if1 .left))) (seen consonant (c .before .before .before .before .before .before .before .before .before .before .before .at2 .ensures) (c .before .before .before .before .before .before .is-consonant2 .ensures) (not-false _ (c .before .before .before .before .before .if5 .left))) (seen dOrI (c .before .before .before .before .before .before .before .before .before .at3 .ensures) (c .before .before .before .is-d-or-i2 .ensures) (not-false _ (c .before .before .if7 .left))) (unlike 0xE4C (c .before .at4 .ensures) (c .if8 .left))
 

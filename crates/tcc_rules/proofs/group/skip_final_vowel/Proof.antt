@@ -1,36 +1,25 @@
 -- Assumes nothing.
--- uses
 use native.Mathlib.Omega.{arith}
 use mathlib.Core.List.{_++_}
-use Rattle.tcc_rules.specs.Rules.{is, consonant, tone, dOrI}
+use Rattle.tcc_rules.specs.Rules.{is}
 use Rattle.tcc_rules.proofs.Classes.{seen}
 use Rattle.tcc_rules.proofs.Skips.{class-there, skip-yes, skip-no}
--- end uses
 use borrow.Author.Needs.{needs}
 use Rattle.tcc_rules.proofs.group.skip_final_vowel.Statement.{statement}
 use Rattle.tcc_rules.proofs.group.skip_final_vowel.Tie as tie
-use Rattle.tcc_rules.proofs.group.skip_final_vowel.Reads as reads
-use Rattle.tcc_rules.proofs.group.skip_final_vowel.Lts as lts
-use Rattle.tcc_rules.proofs.letters.at.Reads as at-reads
-use Rattle.tcc_rules.proofs.letters.is_final_vowel.Reads as is-final-vowel-reads
 
--- src/group.rt:47:23
 at-requires : tie.Need-at-requires
 at-requires c κs = search needs
 
--- src/group.rt:47:8
 is-final-vowel-requires : tie.Need-is-final-vowel-requires
 is-final-vowel-requires c κs = search needs
 
--- src/group.rt:48:16
 add-result : tie.Need-add-result
 add-result c = omega (arith, class-there (is 0xE38 ++ is 0xE34 ++ is 0xE30) (c .before .before .before .before .args .text .now) (c .before .before .before .before .args .p) tt (seen (is 0xE38 ++ is 0xE34 ++ is 0xE30) (c .before .before .at .ensures) (c .before .is-final-vowel .ensures) (c .if1 .taken)))
 
--- src/group.rt:48:9
 returns : tie.Need-returns
 returns c = skip-yes (is 0xE38 ++ is 0xE34 ++ is 0xE30) _ _ tt (seen (is 0xE38 ++ is 0xE34 ++ is 0xE30) (c .before .before .at .ensures) (c .before .is-final-vowel .ensures) (c .if1 .taken))
 
--- src/group.rt:44:1
 returns-2 : tie.Need-returns-2
 returns-2 c = skip-no (is 0xE38 ++ is 0xE34 ++ is 0xE30) _ _ (seen (is 0xE38 ++ is 0xE34 ++ is 0xE30) (c .before .before .at .ensures) (c .before .is-final-vowel .ensures) (c .if1 .left))
 

@@ -1,36 +1,25 @@
 -- Assumes nothing.
--- uses
 use native.Mathlib.Omega.{arith}
 use mathlib.Core.List.{_++_}
-use Rattle.tcc_rules.specs.Rules.{is, consonant, tone, dOrI}
+use Rattle.tcc_rules.specs.Rules.{is}
 use Rattle.tcc_rules.proofs.Classes.{seen}
 use Rattle.tcc_rules.proofs.Skips.{class-there, skip-yes, skip-no}
--- end uses
 use borrow.Author.Needs.{needs}
 use Rattle.tcc_rules.proofs.group.skip_open_vowel.Statement.{statement}
 use Rattle.tcc_rules.proofs.group.skip_open_vowel.Tie as tie
-use Rattle.tcc_rules.proofs.group.skip_open_vowel.Reads as reads
-use Rattle.tcc_rules.proofs.group.skip_open_vowel.Lts as lts
-use Rattle.tcc_rules.proofs.letters.at.Reads as at-reads
-use Rattle.tcc_rules.proofs.letters.is_open_vowel.Reads as is-open-vowel-reads
 
--- src/group.rt:57:22
 at-requires : tie.Need-at-requires
 at-requires c κs = search needs
 
--- src/group.rt:57:8
 is-open-vowel-requires : tie.Need-is-open-vowel-requires
 is-open-vowel-requires c κs = search needs
 
--- src/group.rt:58:16
 add-result : tie.Need-add-result
 add-result c = omega (arith, class-there (is 0xE30 ++ is 0xE32 ++ is 0xE33) (c .before .before .before .before .args .text .now) (c .before .before .before .before .args .p) tt (seen (is 0xE30 ++ is 0xE32 ++ is 0xE33) (c .before .before .at .ensures) (c .before .is-open-vowel .ensures) (c .if1 .taken)))
 
--- src/group.rt:58:9
 returns : tie.Need-returns
 returns c = skip-yes (is 0xE30 ++ is 0xE32 ++ is 0xE33) _ _ tt (seen (is 0xE30 ++ is 0xE32 ++ is 0xE33) (c .before .before .at .ensures) (c .before .is-open-vowel .ensures) (c .if1 .taken))
 
--- src/group.rt:54:1
 returns-2 : tie.Need-returns-2
 returns-2 c = skip-no (is 0xE30 ++ is 0xE32 ++ is 0xE33) _ _ (seen (is 0xE30 ++ is 0xE32 ++ is 0xE33) (c .before .before .at .ensures) (c .before .is-open-vowel .ensures) (c .if1 .left))
 

@@ -1,31 +1,22 @@
 -- Assumes nothing.
--- uses
 use native.Mathlib.Omega.{arith}
 use mathlib.Core.Path.{sym, _∙_}
 use Rattle.tcc_rules.specs.Rules.{is}
 use Rattle.tcc_rules.proofs.Classes.{is-yes, unlike}
 use Rattle.tcc_rules.proofs.Skips.{class-there, skip-yes, skip-no}
--- end uses
 use borrow.Author.Needs.{needs}
 use Rattle.tcc_rules.proofs.group.skip_sara_aa.Statement.{statement}
 use Rattle.tcc_rules.proofs.group.skip_sara_aa.Tie as tie
-use Rattle.tcc_rules.proofs.group.skip_sara_aa.Reads as reads
-use Rattle.tcc_rules.proofs.group.skip_sara_aa.Lts as lts
-use Rattle.tcc_rules.proofs.letters.at.Reads as at-reads
 
--- src/group.rt:37:8
 at-requires : tie.Need-at-requires
 at-requires c κs = search needs
 
--- src/group.rt:38:16
 add-result : tie.Need-add-result
 add-result c = omega (arith, class-there (is 0xE32) (c .before .before .before .args .text .now) (c .before .before .before .args .p) tt (is-yes _ 0xE32 (sym (c .before .at .ensures) ∙ c .if1 .taken)))
 
--- src/group.rt:38:9
 returns : tie.Need-returns
 returns c = skip-yes (is 0xE32) _ _ tt (is-yes _ 0xE32 (sym (c .before .at .ensures) ∙ c .if1 .taken))
 
--- src/group.rt:34:1
 returns-2 : tie.Need-returns-2
 returns-2 c = skip-no (is 0xE32) _ _ (unlike 0xE32 (c .before .at .ensures) (c .if1 .left))
 

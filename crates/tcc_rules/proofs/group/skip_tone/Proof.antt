@@ -1,36 +1,24 @@
 -- Assumes nothing.
--- uses
 use native.Mathlib.Omega.{arith}
-use mathlib.Core.List.{_++_}
-use Rattle.tcc_rules.specs.Rules.{is, consonant, tone, dOrI}
+use Rattle.tcc_rules.specs.Rules.{tone}
 use Rattle.tcc_rules.proofs.Classes.{seen}
 use Rattle.tcc_rules.proofs.Skips.{class-there, skip-yes, skip-no}
--- end uses
 use borrow.Author.Needs.{needs}
 use Rattle.tcc_rules.proofs.group.skip_tone.Statement.{statement}
 use Rattle.tcc_rules.proofs.group.skip_tone.Tie as tie
-use Rattle.tcc_rules.proofs.group.skip_tone.Reads as reads
-use Rattle.tcc_rules.proofs.group.skip_tone.Lts as lts
-use Rattle.tcc_rules.proofs.letters.at.Reads as at-reads
-use Rattle.tcc_rules.proofs.letters.is_tone.Reads as is-tone-reads
 
--- src/group.rt:19:16
 at-requires : tie.Need-at-requires
 at-requires c κs = search needs
 
--- src/group.rt:19:8
 is-tone-requires : tie.Need-is-tone-requires
 is-tone-requires c κs = search needs
 
--- src/group.rt:20:16
 add-result : tie.Need-add-result
 add-result c = omega (arith, class-there tone (c .before .before .before .before .args .text .now) (c .before .before .before .before .args .p) tt (seen tone (c .before .before .at .ensures) (c .before .is-tone .ensures) (c .if1 .taken)))
 
--- src/group.rt:20:9
 returns : tie.Need-returns
 returns c = skip-yes tone _ _ tt (seen tone (c .before .before .at .ensures) (c .before .is-tone .ensures) (c .if1 .taken))
 
--- src/group.rt:16:1
 returns-2 : tie.Need-returns-2
 returns-2 c = skip-no tone _ _ (seen tone (c .before .before .at .ensures) (c .before .is-tone .ensures) (c .if1 .left))
 

@@ -1,19 +1,12 @@
 -- Assumes nothing.
--- uses
 use Rattle.tcc_rules.specs.Rules.{is}
 use Rattle.tcc_rules.proofs.Classes.{is-first, is-later, is-last}
--- end uses
-use borrow.Author.Needs.{needs}
 use Rattle.tcc_rules.proofs.letters.is_closed.Statement.{statement}
 use Rattle.tcc_rules.proofs.letters.is_closed.Tie as tie
-use Rattle.tcc_rules.proofs.letters.is_closed.Reads as reads
-use Rattle.tcc_rules.proofs.letters.is_closed.Lts as lts
 
--- src/letters.rt:79:9
 returns : tie.Need-returns
 returns c = is-first _ 0xE31 (is 0xE37) (c .if1 .taken)
 
--- src/letters.rt:75:1
 returns-2 : tie.Need-returns-2
 returns-2 c = is-later (c .before .args .x) 0xE31 (is 0xE37) _ (c .if1 .left) (is-last (c .before .args .x) 0xE37)
 

@@ -1,23 +1,15 @@
 -- Assumes nothing.
--- uses
 use Rattle.tcc_rules.specs.Rules.{d}
 use Rattle.tcc_rules.proofs.Classes.{is-first, is-later, low, high}
--- end uses
-use borrow.Author.Needs.{needs}
 use Rattle.tcc_rules.proofs.letters.is_d_or_i.Statement.{statement}
 use Rattle.tcc_rules.proofs.letters.is_d_or_i.Tie as tie
-use Rattle.tcc_rules.proofs.letters.is_d_or_i.Reads as reads
-use Rattle.tcc_rules.proofs.letters.is_d_or_i.Lts as lts
 
--- src/letters.rt:89:9
 returns : tie.Need-returns
 returns c = is-first _ 0xE34 d (c .if1 .taken)
 
--- src/letters.rt:92:9
 returns-2 : tie.Need-returns-2
 returns-2 c = is-later _ 0xE34 d _ (c .before .if1 .left) (low _ 0xE38 0xE39 (c .if2 .taken))
 
--- src/letters.rt:85:1
 returns-3 : tie.Need-returns-3
 returns-3 c = is-later _ 0xE34 d _ (c .before .if1 .left) (high _ 0xE38 0xE39 (c .if2 .left))
 

@@ -1,18 +1,11 @@
 -- Assumes nothing.
--- uses
 use Rattle.tcc_rules.proofs.Classes.{low, high}
--- end uses
-use borrow.Author.Needs.{needs}
 use Rattle.tcc_rules.proofs.letters.is_sara_ai.Statement.{statement}
 use Rattle.tcc_rules.proofs.letters.is_sara_ai.Tie as tie
-use Rattle.tcc_rules.proofs.letters.is_sara_ai.Reads as reads
-use Rattle.tcc_rules.proofs.letters.is_sara_ai.Lts as lts
 
--- src/letters.rt:59:9
 returns : tie.Need-returns
 returns c = low _ 0xE43 0xE44 (c .if1 .taken)
 
--- src/letters.rt:55:1
 returns-2 : tie.Need-returns-2
 returns-2 c = high _ 0xE43 0xE44 (c .if1 .left)
 

@@ -1,89 +1,63 @@
 -- Assumes nothing.
--- uses
 use mathlib.Core.Path.{refl, sym}
 use borrow.Author.Tests.{not-true, not-false}
 use Rattle.pool_lent.proofs.Parts.{inside, long, readable}
 use Rattle.trie_char.proofs.Changing.{known, remove-absent, removes, remove-done, remove-refused}
--- end uses
 use borrow.Author.Needs.{needs}
 use Rattle.trie_char.proofs.change.remove.Statement.{statement}
 use Rattle.trie_char.proofs.change.remove.Tie as tie
-use Rattle.trie_char.proofs.change.remove.Reads as reads
-use Rattle.trie_char.proofs.change.remove.Lts as lts
-use Rattle.char_string.proofs.trimmed.Reads as trimmed-reads
-use Rattle.pool_change.proofs.remove_word.Reads as remove-word-reads
-use Rattle.pool_read.proofs.is_held.Reads as is-held-reads
-use Rattle.pool_lent.proofs.capacity.Reads as capacity-reads
-use Rattle.trie_char.proofs.words.check_word.Reads as check-word-reads
 
--- src/change.rt:85:9
 check-word-requires : tie.Need-check-word-requires
 check-word-requires c κs = search needs
 
--- src/change.rt:87:25
 enum-known-first : tie.Need-enum-known-first
 enum-known-first c = search needs
 
--- src/change.rt:88:13
 same-length : tie.Need-same-length
 same-length c = refl
 
--- src/change.rt:88:13
 returns : tie.Need-returns
 returns c = (remove-refused (c .before .before .before .before .before .before .before .args .pool .now) (c .before .before .before .before .before .before .before .args .word .now) (c .before .before .before .check-word .ensures) (c .before .first .given .1) _, refl)
 
 enum-told : tie.Need-enum-told
 enum-told c = search needs
 
--- src/change.rt:92:9
 trimmed-requires : tie.Need-trimmed-requires
 trimmed-requires c κs = search needs
 
--- src/change.rt:93:21
 capacity-requires : tie.Need-capacity-requires
 capacity-requires c κs = search needs
 
--- src/change.rt:93:17
 mul-cells : tie.Need-mul-cells
 mul-cells c = search needs
 
--- src/change.rt:94:17
 slice-reshare-prefix-is-held : tie.Need-slice-reshare-prefix-is-held
 slice-reshare-prefix-is-held c = inside (c .before .before .before .before .before .before .before .before .args .pool .now) _ (c .capacity .ensures)
 
--- src/change.rt:94:17
 slice-aggregate-is-held : tie.Need-slice-aggregate-is-held
 slice-aggregate-is-held c = sym (long (c .before .before .before .before .before .before .before .before .before .args .pool .now) _ (c .before .capacity .ensures))
 
--- src/change.rt:94:9
 is-held-requires : tie.Need-is-held-requires
 is-held-requires c κs = readable (c .before .before .before .before .before .before .before .before .before .args .pool .now) _ (c .before .capacity .ensures) (known (c .before .before .before .before .before .before .before .before .before .args .pool .now) (c .before .before .before .before .before .before .before .before .before .args .word .now) (c .before .before .before .before .before .check-word .ensures) (c .before .before .before .enum-told .given .1) _ (c .before .capacity .ensures) _ (c .before .before .trimmed .ensures .0))
 
--- src/change.rt:95:9
 same-length-2 : tie.Need-same-length-2
 same-length-2 c = refl
 
--- src/change.rt:95:9
 returns-2 : tie.Need-returns-2
 returns-2 c = remove-absent (c .before .before .before .before .before .before .before .before .before .before .before .args .pool .now) (c .before .before .before .before .before .before .before .before .before .before .before .args .word .now) (c .before .before .before .before .before .before .before .check-word .ensures) (c .before .before .before .before .before .enum-told .given .1) _ (c .before .before .before .capacity .ensures) _ (c .before .before .before .before .trimmed .ensures .0) _ (c .before .is-held .ensures) (not-true _ (c .if1 .taken))
 
--- src/change.rt:97:17
 slice-relend-prefix-remove-word : tie.Need-slice-relend-prefix-remove-word
 slice-relend-prefix-remove-word c = inside (c .before .before .before .before .before .before .before .before .before .before .before .args .pool .now) _ (c .before .before .before .capacity .ensures)
 
--- src/change.rt:97:17
 slice-aggregate-remove-word : tie.Need-slice-aggregate-remove-word
 slice-aggregate-remove-word c = sym (long (c .before .before .before .before .before .before .before .before .before .before .before .before .args .pool .now) _ (c .before .before .before .before .capacity .ensures))
 
--- src/change.rt:97:5
 remove-word-requires : tie.Need-remove-word-requires
 remove-word-requires c κs = removes (c .before .before .before .before .before .before .before .before .before .before .before .before .args .pool .now) (c .before .before .before .before .before .before .before .before .before .before .before .before .args .word .now) (c .before .before .before .before .before .before .before .before .check-word .ensures) (c .before .before .before .before .before .before .enum-told .given .1) _ (c .before .before .before .before .capacity .ensures) _ (c .before .before .before .before .before .trimmed .ensures .0)
 
--- src/change.rt:80:1
 same-length-3 : tie.Need-same-length-3
 same-length-3 c = search needs
 
--- src/change.rt:80:1
 returns-3 : tie.Need-returns-3
 returns-3 c = remove-done (c .before .before .before .before .before .before .before .before .before .before .before .before .before .before .before .args .pool .now) (c .before .before .before .before .before .before .before .before .before .before .before .before .before .before .before .args .word .now) (c .before .before .before .before .before .before .before .before .before .before .before .check-word .ensures) (c .before .before .before .before .before .before .before .before .before .enum-told .given .1) _ (c .before .before .before .before .before .before .before .capacity .ensures) _ (c .before .before .before .before .before .before .before .before .trimmed .ensures .0) _ (c .before .before .before .before .before .is-held .ensures) (not-false _ (c .before .before .before .before .if1 .left)) _ (c .before .before .remove-word .kept .0) (c .before .before .remove-word .ensures)
 

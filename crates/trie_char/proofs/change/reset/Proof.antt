@@ -1,16 +1,12 @@
 -- Assumes nothing.
--- uses
 use mathlib.Core.Path.{refl}
 use Prim.Native.Nat.{_-_}
 use native.Mathlib.Omega.{arith}
 use lib.ListN.{length, length-set}
 use Rattle.trie_char.proofs.Freshness.{Cleared, cleared-more, cleared-all}
--- end uses
 use borrow.Author.Needs.{needs}
 use Rattle.trie_char.proofs.change.reset.Statement.{statement}
 use Rattle.trie_char.proofs.change.reset.Tie as tie
-use Rattle.trie_char.proofs.change.reset.Reads as reads
-use Rattle.trie_char.proofs.change.reset.Lts as lts
 
 abbrev Inv-loop : tie.InvT-loop
 Inv-loop cells₀ k₀ cells k = Cleared cells₀ cells k
@@ -18,43 +14,33 @@ Inv-loop cells₀ k₀ cells k = Cleared cells₀ cells k
 abbrev μ-loop : tie.MeasureT-loop
 μ-loop cells₀ k₀ cells k = length cells - k
 
--- src/change.rt:27:5
 loop-holds : tie.Need-loop-holds Inv-loop μ-loop
 loop-holds c = record { long = refl; front = λ i l. absurd (omega arith); some = c .pre }
 
--- src/change.rt:28:9
 mul-cells : tie.Need-mul-cells Inv-loop μ-loop
 mul-cells c = search needs
 
--- src/change.rt:28:9
 slice-write-cells : tie.Need-slice-write-cells Inv-loop μ-loop
 slice-write-cells c = search needs
 
--- src/change.rt:29:9
 add-k : tie.Need-add-k Inv-loop μ-loop
 add-k c = search needs
 
--- src/change.rt:27:5
 loop-less : tie.Need-loop-less Inv-loop μ-loop
 loop-less c = simp length-set (omega (arith, c .loop-test .taken))
 
--- src/change.rt:27:5
 loop-again : tie.Need-loop-again Inv-loop μ-loop
 loop-again c = cleared-more _ _ _ (c .before .loop .inv) (c .loop-test .taken)
 
--- src/change.rt:31:5
 slice-write-cells-2 : tie.Need-slice-write-cells-2 Inv-loop μ-loop
 slice-write-cells-2 c = search needs
 
--- src/change.rt:32:5
 slice-write-cells-3 : tie.Need-slice-write-cells-3 Inv-loop μ-loop
 slice-write-cells-3 c = simp length-set (omega (arith, c .before .loop .inv .some))
 
--- src/change.rt:22:1
 same-length : tie.Need-same-length Inv-loop μ-loop
 same-length c = simp length-set (c .before .loop .inv .long)
 
--- src/change.rt:22:1
 returns : tie.Need-returns Inv-loop μ-loop
 returns c = cleared-all _ _ _ (c .before .loop .inv) (c .loop-test .left)
 

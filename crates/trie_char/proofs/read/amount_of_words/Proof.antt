@@ -1,44 +1,30 @@
 -- Assumes nothing.
--- uses
 use mathlib.Core.Path.{sym}
 use borrow.Author.Tests.{not-true, not-false}
 use Rattle.pool_lent.proofs.Parts.{long}
 use Rattle.trie_char.proofs.Reading.{amount-refused, counts, amount-is}
--- end uses
 use borrow.Author.Needs.{needs}
 use Rattle.trie_char.proofs.read.amount_of_words.Statement.{statement}
 use Rattle.trie_char.proofs.read.amount_of_words.Tie as tie
-use Rattle.trie_char.proofs.read.amount_of_words.Reads as reads
-use Rattle.trie_char.proofs.read.amount_of_words.Lts as lts
-use Rattle.pool_read.proofs.count_words.Reads as count-words-reads
-use Rattle.pool_lent.proofs.capacity.Reads as capacity-reads
-use Rattle.pool_lent.proofs.is_dictionary.Reads as is-dictionary-reads
 
--- src/read.rt:60:9
 is-dictionary-requires : tie.Need-is-dictionary-requires
 is-dictionary-requires c κs = search needs
 
--- src/read.rt:61:9
 returns : tie.Need-returns
 returns c = amount-refused (c .before .before .before .args .pool .now) _ (c .before .is-dictionary .ensures) (not-true _ (c .if1 .taken)) _
 
--- src/read.rt:63:21
 capacity-requires : tie.Need-capacity-requires
 capacity-requires c κs = search needs
 
--- src/read.rt:63:17
 mul-cells : tie.Need-mul-cells
 mul-cells c = search needs
 
--- src/read.rt:64:34
 slice-aggregate-count-words : tie.Need-slice-aggregate-count-words
 slice-aggregate-count-words c = sym (long (c .before .before .before .before .before .args .pool .now) _ (c .before .capacity .ensures))
 
--- src/read.rt:64:22
 count-words-requires : tie.Need-count-words-requires
 count-words-requires c κs = counts (c .before .before .before .before .before .args .pool .now) _ (c .before .before .before .is-dictionary .ensures) (not-false _ (c .before .before .if1 .left)) _ (c .before .capacity .ensures)
 
--- src/read.rt:57:1
 returns-2 : tie.Need-returns-2
 returns-2 c = amount-is (c .before .before .before .before .before .before .args .pool .now) _ (c .before .before .before .before .is-dictionary .ensures) (not-false _ (c .before .before .before .if1 .left)) _ (c .before .before .capacity .ensures) _ (c .count-words .ensures)
 

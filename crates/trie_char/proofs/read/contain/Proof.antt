@@ -1,55 +1,38 @@
 -- Assumes nothing.
--- uses
 use mathlib.Core.Path.{sym}
 use Rattle.pool_lent.proofs.Parts.{long, readable}
 use Rattle.trie_char.proofs.Reading.{known, contain-yes, contain-no, contain-refused}
--- end uses
 use borrow.Author.Needs.{needs}
 use Rattle.trie_char.proofs.read.contain.Statement.{statement}
 use Rattle.trie_char.proofs.read.contain.Tie as tie
-use Rattle.trie_char.proofs.read.contain.Reads as reads
-use Rattle.trie_char.proofs.read.contain.Lts as lts
-use Rattle.pool_read.proofs.is_held.Reads as is-held-reads
-use Rattle.pool_lent.proofs.capacity.Reads as capacity-reads
-use Rattle.pool_lent.proofs.check.Reads as check-reads
 
--- src/read.rt:22:9
 check-requires : tie.Need-check-requires
 check-requires c κs = search needs
 
--- src/read.rt:24:25
 enum-known-first : tie.Need-enum-known-first
 enum-known-first c = search needs
 
--- src/read.rt:26:38
 enum-told : tie.Need-enum-told
 enum-told c = search needs
 
--- src/read.rt:26:29
 capacity-requires : tie.Need-capacity-requires
 capacity-requires c κs = search needs
 
--- src/read.rt:26:25
 mul-cells : tie.Need-mul-cells
 mul-cells c = search needs
 
--- src/read.rt:27:24
 slice-aggregate-is-held : tie.Need-slice-aggregate-is-held
 slice-aggregate-is-held c = sym (long (c .before .before .before .before .before .before .before .args .pool .now) _ (c .before .capacity .ensures))
 
--- src/read.rt:27:16
 is-held-requires : tie.Need-is-held-requires
 is-held-requires c κs = readable (c .before .before .before .before .before .before .before .args .pool .now) _ (c .before .capacity .ensures) (known (c .before .before .before .before .before .before .before .args .pool .now) (c .before .before .before .before .before .before .before .args .word .now) (c .before .before .before .before .check .ensures) (c .before .before .enum-told .given .1))
 
--- src/read.rt:28:17
 returns : tie.Need-returns
 returns c = contain-yes (c .before .before .before .before .before .before .before .before .before .args .pool .now) (c .before .before .before .before .before .before .before .before .before .args .word .now) (c .before .before .before .before .before .before .check .ensures) (c .before .before .before .before .enum-told .given .1) _ (c .before .before .before .capacity .ensures) _ (c .before .is-held .ensures) (c .if1 .taken)
 
--- src/read.rt:19:1
 returns-2 : tie.Need-returns-2
 returns-2 c = contain-refused (c .before .before .before .before .before .before .args .pool .now) (c .before .before .before .before .before .before .args .word .now) (c .before .before .before .check .ensures) (c .before .first .given .1) _
 
--- src/read.rt:19:1
 returns-3 : tie.Need-returns-3
 returns-3 c = contain-no (c .before .before .before .before .before .before .before .before .before .args .pool .now) (c .before .before .before .before .before .before .before .before .before .args .word .now) (c .before .before .before .before .before .before .check .ensures) (c .before .before .before .before .enum-told .given .1) _ (c .before .before .before .capacity .ensures) _ (c .before .is-held .ensures) (c .if1 .left)
 

@@ -1,68 +1,47 @@
 -- Assumes nothing.
--- uses
 use mathlib.Core.Path.{refl, sym}
 use Rattle.pool_lent.proofs.Parts.{long, readable}
 use Rattle.trie_char.proofs.Reading.{known, asks, prefix-short, prefix-done, prefix-refused}
--- end uses
 use borrow.Author.Needs.{needs}
 use Rattle.trie_char.proofs.read.prefix_lengths.Statement.{statement}
 use Rattle.trie_char.proofs.read.prefix_lengths.Tie as tie
-use Rattle.trie_char.proofs.read.prefix_lengths.Reads as reads
-use Rattle.trie_char.proofs.read.prefix_lengths.Lts as lts
-use Rattle.pool_read.proofs.prefix_count.Reads as prefix-count-reads
-use Rattle.pool_read.proofs.prefix_lengths.Reads as prefix-lengths-reads
-use Rattle.pool_lent.proofs.capacity.Reads as capacity-reads
-use Rattle.pool_lent.proofs.check.Reads as check-reads
 
--- src/read.rt:41:9
 check-requires : tie.Need-check-requires
 check-requires c κs = search needs
 
--- src/read.rt:43:25
 enum-known-first : tie.Need-enum-known-first
 enum-known-first c = search needs
 
--- src/read.rt:45:38
 enum-told : tie.Need-enum-told
 enum-told c = search needs
 
--- src/read.rt:45:29
 capacity-requires : tie.Need-capacity-requires
 capacity-requires c κs = search needs
 
--- src/read.rt:45:25
 mul-cells : tie.Need-mul-cells
 mul-cells c = search needs
 
--- src/read.rt:46:34
 slice-aggregate-prefix-count : tie.Need-slice-aggregate-prefix-count
 slice-aggregate-prefix-count c = sym (long (c .before .before .before .before .before .before .before .before .args .pool .now) _ (c .before .capacity .ensures))
 
--- src/read.rt:46:17
 prefix-count-requires : tie.Need-prefix-count-requires
 prefix-count-requires c κs = readable (c .before .before .before .before .before .before .before .before .args .pool .now) _ (c .before .capacity .ensures) (known (c .before .before .before .before .before .before .before .before .args .pool .now) (c .before .before .before .before .before .before .before .before .args .text .now) (c .before .before .before .before .check .ensures) (c .before .before .enum-told .given .1))
 
--- src/read.rt:48:17
 returns : tie.Need-returns
 returns c = (prefix-short (c .before .before .before .before .before .before .before .before .before .before .args .pool .now) (c .before .before .before .before .before .before .before .before .before .before .args .text .now) (c .before .before .before .before .before .before .check .ensures) (c .before .before .before .before .enum-told .given .1) _ (c .before .before .before .capacity .ensures) (c .before .before .before .before .before .before .before .before .before .before .args .out .now) _ (c .before .prefix-count .ensures) _ (c .if1 .taken), refl)
 
--- src/read.rt:50:47
 slice-aggregate-prefix-lengths : tie.Need-slice-aggregate-prefix-lengths
 slice-aggregate-prefix-lengths c = sym (long (c .before .before .before .before .before .before .before .before .before .before .before .args .pool .now) _ (c .before .before .before .before .capacity .ensures))
 
--- src/read.rt:50:17
 prefix-lengths-requires : tie.Need-prefix-lengths-requires
 prefix-lengths-requires c κs = asks (c .before .before .before .before .before .before .before .before .before .before .before .before .args .pool .now) (c .before .before .before .before .before .before .before .before .before .before .before .before .args .text .now) (c .before .before .before .before .before .before .before .before .check .ensures) (c .before .before .before .before .before .before .enum-told .given .1) _ (c .before .before .before .before .before .capacity .ensures) (c .before .before .before .before .before .before .before .before .before .before .before .before .args .out .now) _ (c .before .before .before .prefix-count .ensures) (c .before .before .if1 .left)
 
--- src/read.rt:36:1
 returns-2 : tie.Need-returns-2
 returns-2 c = (prefix-refused (c .before .before .before .before .before .before .before .args .pool .now) (c .before .before .before .before .before .before .before .args .text .now) (c .before .before .before .check .ensures) (c .before .first .given .1) (c .before .before .before .before .before .before .before .args .out .now) _, refl)
 
--- src/read.rt:36:1
 same-length : tie.Need-same-length
 same-length c = search needs
 
--- src/read.rt:36:1
 returns-3 : tie.Need-returns-3
 returns-3 c = prefix-done (c .before .before .before .before .before .before .before .before .before .before .before .before .before .before .before .args .pool .now) (c .before .before .before .before .before .before .before .before .before .before .before .before .before .before .before .args .text .now) (c .before .before .before .before .before .before .before .before .before .before .before .check .ensures) (c .before .before .before .before .before .before .before .before .before .enum-told .given .1) _ (c .before .before .before .before .before .before .before .before .capacity .ensures) (c .before .before .before .before .before .before .before .before .before .before .before .before .before .before .before .args .out .now) _ (c .before .before .before .before .before .before .prefix-count .ensures) (c .before .before .before .before .before .if1 .left) _ _ (c .before .before .prefix-lengths .ensures)
 

@@ -1,0 +1,7 @@
+pub mod Positions
+pub mod NonThai
+pub mod Words
+pub mod Search
+pub mod NonDictionary
+pub mod Cutting
+pub mod Cases

@@ -1,0 +1,58 @@
+-- Assumes nothing.
+use native.Mathlib.Omega.{arith}
+use mathlib.Core.Path.{sym, _∙_}
+use Rattle.tcc_rules.specs.Rules.{consonant}
+use Rattle.tcc_rules.proofs.Classes.{seen, unlike}
+use Rattle.tcc_rules.proofs.StartsE.{i-tone-yo, i-tone, i-tone-no}
+use borrow.Author.Needs.{needs}
+use Rattle.tcc_match.proofs.after_e.from_e_i_tone.Statement.{statement}
+use Rattle.tcc_match.proofs.after_e.from_e_i_tone.Tie as tie
+
+add-at : tie.Need-add-at
+add-at c = omega (arith, c .before .pre .0)
+
+at-requires : tie.Need-at-requires
+at-requires c κs = search needs
+
+add-shorter-k : tie.Need-add-shorter-k
+add-shorter-k c = omega (arith, c .before .before .before .pre .0)
+
+shorter-k-requires : tie.Need-shorter-k-requires
+shorter-k-requires c κs = search needs
+
+returns : tie.Need-returns
+returns c = c .shorter-k .ensures ∙ i-tone-yo (c .before .before .before .before .args .text .now) (c .before .before .before .before .args .p) (c .before .before .before .before .pre) (sym (c .before .before .at .ensures) ∙ c .before .if1 .taken)
+
+is-consonant-requires : tie.Need-is-consonant-requires
+is-consonant-requires c κs = search needs
+
+add-group-k : tie.Need-add-group-k
+add-group-k c = omega (arith, c .before .before .before .before .before .pre .0)
+
+group-k-requires : tie.Need-group-k-requires
+group-k-requires c κs = search needs
+
+returns-2 : tie.Need-returns-2
+returns-2 c = c .group-k .ensures ∙ i-tone (c .before .before .before .before .before .before .args .text .now) (c .before .before .before .before .before .before .args .p) (c .before .before .before .before .before .before .pre) (seen consonant (c .before .before .before .before .at .ensures) (c .before .before .is-consonant .ensures) (c .before .if2 .taken)) (unlike 0xE22 (c .before .before .before .before .at .ensures) (c .before .before .before .if1 .left))
+
+add-result : tie.Need-add-result
+add-result c = omega (arith, c .before .before .before .before .before .pre .0)
+
+returns-3 : tie.Need-returns-3
+returns-3 c = i-tone-no (c .before .before .before .before .before .args .text .now) (c .before .before .before .before .before .args .p) (c .before .before .before .before .before .pre) (seen consonant (c .before .before .before .at .ensures) (c .before .is-consonant .ensures) (c .if2 .left))
+
+pub from-e-i-tone-spec : {M : Type 1} → statement M
+from-e-i-tone-spec =
+    tie.close
+    (tie.spec
+    add-at
+    at-requires
+    add-shorter-k
+    shorter-k-requires
+    returns
+    is-consonant-requires
+    add-group-k
+    group-k-requires
+    returns-2
+    add-result
+    returns-3)

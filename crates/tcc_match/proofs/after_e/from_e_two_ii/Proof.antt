@@ -1,0 +1,64 @@
+-- Assumes nothing.
+use Prim.Native.Nat.{_+_}
+use native.Mathlib.Omega.{arith}
+use mathlib.Core.Path.{sym, _∙_}
+use Rattle.tcc_rules.specs.Rules.{tone}
+use Rattle.tcc_rules.proofs.Classes.{unlike}
+use Rattle.tcc_rules.proofs.Skips.{skip-near}
+use Rattle.tcc_rules.proofs.StartsE.{e-two-ii, e-two-ii-no, e-two-ii-yo}
+use borrow.Author.Needs.{needs}
+use Rattle.tcc_match.proofs.after_e.from_e_two_ii.Statement.{statement}
+use Rattle.tcc_match.proofs.after_e.from_e_two_ii.Tie as tie
+
+add-skip-tone : tie.Need-add-skip-tone
+add-skip-tone c = omega (arith, c .before .pre .0)
+
+skip-tone-requires : tie.Need-skip-tone-requires
+skip-tone-requires c κs = search needs
+
+add-open : tie.Need-add-open
+add-open c = omega (arith, c .before .before .pre .0)
+
+at-requires : tie.Need-at-requires
+at-requires c κs = search needs
+
+add-result : tie.Need-add-result
+add-result c = omega (arith, c .before .before .before .before .pre .0)
+
+returns : tie.Need-returns
+returns c = e-two-ii-no (c .before .before .before .before .args .text .now) (c .before .before .before .before .args .p) (c .before .before .before .before .pre) _ (c .before .before .skip-tone .ensures) (unlike 0xE22 (c .before .at .ensures) (c .if1 .taken))
+
+add-at : tie.Need-add-at
+add-at c = omega (arith, c .before .before .before .before .pre .0, c .before .before .skip-tone .ensures, skip-near tone (c .before .before .before .before .args .text .now) (c .before .before .before .before .args .p + 4))
+
+at-requires-2 : tie.Need-at-requires-2
+at-requires-2 c κs = search needs
+
+add-group-k : tie.Need-add-group-k
+add-group-k c = omega (arith, c .before .before .before .before .before .before .pre .0, c .before .before .before .before .skip-tone .ensures, skip-near tone (c .before .before .before .before .before .before .args .text .now) (c .before .before .before .before .before .before .args .p + 4))
+
+group-k-requires : tie.Need-group-k-requires
+group-k-requires c κs = search needs
+
+returns-2 : tie.Need-returns-2
+returns-2 c = c .group-k .ensures ∙ e-two-ii (c .before .before .before .before .before .before .before .args .text .now) (c .before .before .before .before .before .before .before .args .p) (c .before .before .before .before .before .before .before .pre) _ (c .before .before .before .before .before .skip-tone .ensures) (sym (c .before .before .before .before .at .ensures) ∙ c .before .before .before .if1 .left) (sym (c .before .before .at2 .ensures) ∙ c .before .if2 .taken)
+
+returns-3 : tie.Need-returns-3
+returns-3 c = e-two-ii-yo (c .before .before .before .before .before .before .args .text .now) (c .before .before .before .before .before .before .args .p) (c .before .before .before .before .before .before .pre) _ (c .before .before .before .before .skip-tone .ensures) (sym (c .before .before .before .at .ensures) ∙ c .before .before .if1 .left) (unlike 0xE30 (c .before .at2 .ensures) (c .if2 .left))
+
+pub from-e-two-ii-spec : {M : Type 1} → statement M
+from-e-two-ii-spec =
+    tie.close
+    (tie.spec
+    add-skip-tone
+    skip-tone-requires
+    add-open
+    at-requires
+    add-result
+    returns
+    add-at
+    at-requires-2
+    add-group-k
+    group-k-requires
+    returns-2
+    returns-3)

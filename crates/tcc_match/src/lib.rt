@@ -1,0 +1,7 @@
+// The matcher of Thai character clusters: it goes by the first characters of a cluster.
+mod after_consonant;
+mod after_e;
+mod after_vowel;
+mod matcher;
+
+pub use matcher::cluster_end;
