@@ -1,0 +1,52 @@
+"""Holds the Rust against a file of vector lines: differential/against_vectors.py VECTORS
+
+Takes the lines of clusters, prefix, dict and cut. The Rust refuses nothing, so a refused call is left out, and a
+refused step of a dictionary script, which changes nothing, is taken out of it. It trims more characters, so a script
+that adds or removes a word with one of those at its edge is left out.
+"""
+import collections
+import sys
+
+import lines
+import sides
+
+OPS = ("clusters", "prefix", "dict", "cut")
+
+
+def compared(fields, expected):
+    """The line as the Rust can answer it, with its answer; or None and why not."""
+    if expected.startswith("! "):
+        return None, "refused"
+    if fields[0] != "dict":
+        return fields, expected
+    kept = [(step, answer) for step, answer in zip(fields[2].split(";"), expected[3:].split(";")) if not answer.startswith("!")]
+    if not kept:
+        return None, "refused"
+    if any(step[0] in "+-" and not lines.comparable(lines.text(step[1:].split(":")[0])) for step, _ in kept):
+        return None, "trimmed otherwise"
+    return [fields[0], fields[1], ";".join(step for step, _ in kept)], "ok " + ";".join(answer for _, answer in kept)
+
+
+def main():
+    taken, counts = [], collections.Counter()
+    for line in open(sys.argv[1], encoding="ascii"):
+        fields = line.rstrip("\n").split("\t")
+        if fields[0] not in OPS:
+            continue
+        given, expected = compared(fields[:-2], fields[-1])
+        counts[fields[0] + (" compared" if given else " left out: " + expected)] += 1
+        if given:
+            taken.append(("\t".join(given), expected))
+    answers = sides.rust([line for line, _ in taken])
+    different = 0
+    for (line, expected), answer in zip(taken, answers):
+        if answer != expected:
+            different += 1
+            print("%s\n  expected %s\n  the Rust %s" % (line, expected, answer))
+    for what in sorted(counts):
+        print("%6d %s" % (counts[what], what))
+    print("%d lines, %d differences" % (len(taken), different))
+    sys.exit(different > 0)
+
+
+main()

@@ -1,0 +1,61 @@
+"""Runs both sides on made cases and compares every answer: differential/compare.py COUNT SEED
+
+Stops at the first difference, with the smallest input that has it.
+"""
+import collections
+import sys
+import time
+
+import generate
+import shrink
+import sides
+
+# What one call of a program is given; it reads at most a quarter of a mebibyte.
+BATCH = 200000
+
+
+def batches(count, seed, ops):
+    """Cases of one operation, as many as a program takes at once."""
+    waiting, sizes = collections.defaultdict(list), collections.Counter()
+    groups = [group for group in generate.MADE + generate.REAL if group.op in ops]
+    for name, line in generate.cases(groups, count, seed):
+        op = sides.op(line)
+        if waiting[op] and BATCH < sizes[op] + len(line) + 1:
+            yield waiting.pop(op)
+            sizes[op] = 0
+        waiting[op].append((name, line))
+        sizes[op] += len(line) + 1
+    yield from waiting.values()
+
+
+def stop(name, line, cases):
+    least = shrink.shrunk(line)
+    print("difference in %s, after %d cases" % (name, cases))
+    print("  input    %s" % line)
+    print("  smallest %s" % least)
+    print("  here     %s" % sides.ours([least])[0])
+    print("  the Rust %s" % sides.rust([least])[0])
+    sys.exit(1)
+
+
+def main():
+    count, seed = int(sys.argv[1]), sys.argv[2]
+    standing = sides.listed()
+    ops = [op for op, program in sides.PROGRAMS.items() if program in standing]
+    for op in sorted(set(sides.PROGRAMS) - set(ops)):
+        print("not compared: %s, for which no program stands" % op)
+    counts, start = collections.Counter(), time.monotonic()
+    for batch in batches(count, seed, ops):
+        given = [line for _, line in batch]
+        here, there = sides.ours(given), sides.rust(given)
+        if here != there:
+            k = next(k for k in range(len(given)) if here[k] != there[k])
+            stop(*batch[k], sum(counts.values()) + k + 1)
+        counts.update(name for name, _ in batch)
+    for name in counts:
+        print("%9d %s" % (counts[name], name))
+    print("seed %s, %.0f s" % (seed, time.monotonic() - start))
+    print("%d cases, 0 differences" % sum(counts.values()))
+
+
+main()

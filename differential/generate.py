@@ -1,0 +1,402 @@
+"""Cases for a differential run: vector lines, the same for the same seed.
+
+A group is a class with the operation of its lines, the weight that it has in a run, and a method `line` that makes its line number i.
+An exhaustive group has a size: its lines are numbered from 0 and each is made once. The others draw their lines.
+"""
+import random
+
+import lines
+import real
+
+# A character for each class that the cluster rules tell apart: consonants (any, then the five that rules name),
+# vowels behind or about a consonant, vowels before one, the signs, a space, and any other character.
+CONSONANTS = "\u0e01\u0e23\u0e22\u0e2d\u0e27\u0e2b"
+VOWELS = "\u0e30\u0e31\u0e32\u0e33\u0e34\u0e35\u0e36\u0e37\u0e38\u0e39"
+LEADING = "\u0e40\u0e41\u0e42\u0e44"
+SIGNS = "\u0e47\u0e48\u0e4c"
+CLASSES = CONSONANTS + VOWELS + LEADING + SIGNS + " a"
+
+# One of each kind for the rule of text that is not Thai, between a consonant and a vowel.
+NON_THAI = "\u0e01\u0e32a-1\u0e51,. \t\r\n"
+
+THAI = "".join(map(chr, range(0x0E00, 0x0E80)))
+
+# The two sides of each end of a range that some rule has, and of each length in UTF-8.
+EDGES = "\x00\x08\t\n\v\f\r\x0e\x1f !+,-./09:@AZ[`az{\x7f\x80\x85\xa0\u07ff\u0800\u0e00\u0e2e\u0e2f\u0e3a\u0e3f\u0e45\u0e46\u0e4b\u0e4d\u0e4f\u0e50\u0e59\u0e5a\u0e5b\u1680\u2000\u200a\u200b\u2028\u3000\ud7ff\ue000\ufeff\uffff\U00010000\U0010ffff"
+
+ALPHABETS = ["\u0e01", "\u0e01\u0e02", "\u0e01\u0e02\u0e04\u0e07", "\u0e01\u0e32", CONSONANTS + VOWELS, CLASSES, CLASSES, NON_THAI, "ab 1", THAI, CLASSES + EDGES]
+
+# Lengths of a text on both sides of the sizes that safe mode knows.
+LENGTHS = [99, 100, 101, 138, 139, 140, 141, 142, 178, 179, 180, 181, 238, 239, 240, 241, 242, 279, 280, 281, 420]
+
+# The 29 alternatives as lists of parts: a part is the characters that may stand there, `?` before an optional one.
+C = "".join(map(chr, range(0x0E01, 0x0E2F)))
+T = "?\u0e48\u0e49\u0e4a\u0e4b"
+K = ["?K"]
+ALTERNATIVES = [
+    ["\u0e40", C, "\u0e47", C] + K,
+    ["\u0e40", C, C, T, "\u0e32", "\u0e30"] + K,
+    ["\u0e40", C, C, "\u0e35", T, "\u0e22", "\u0e30"] + K,
+    ["\u0e40", C, C, "\u0e47", C] + K,
+    ["\u0e40", C, "\u0e34", C, "\u0e4c", C] + K,
+    ["\u0e40", C, "\u0e34", T, C] + K,
+    ["\u0e40", C, "\u0e35", T, "\u0e22", "?\u0e30"] + K,
+    ["\u0e40", C, "\u0e37", T, "\u0e2d", "?\u0e30"] + K,
+    ["\u0e40", C, T, "?\u0e32", "?\u0e30"] + K,
+    [C, "\u0e31", T, "\u0e27", "\u0e30"] + K,
+    [C, "\u0e31\u0e37", T, C, "?\u0e38\u0e34\u0e30"] + K,
+    [C, "\u0e34\u0e38\u0e39", "\u0e4c"] + K,
+    [C, VOWELS, T] + K,
+    [C, "\u0e23", "\u0e23", C, "\u0e4c", " ", "\u0e47"],
+    [C, "\u0e47"],
+    [C, T, "?\u0e30\u0e32\u0e33"] + K,
+    [C] + K,
+    ["\u0e41", C, "\u0e47", C],
+    ["\u0e41", C, C, "\u0e4c"],
+    ["\u0e41", C, T, "\u0e30"],
+    ["\u0e41", C, C, "\u0e47", C],
+    ["\u0e41", C, C, C, "\u0e4c"],
+    ["\u0e42", C, T, "\u0e30"],
+    ["\u0e40\u0e41\u0e42\u0e43\u0e44", C, T],
+    ["\u0e01", "\u0e47"],
+    ["\u0e2d", "\u0e36"],
+    ["\u0e2b", "\u0e36"],
+    ["\u0e40", C, C, "\u0e35", T, "\u0e22", C + "\u0e40\u0e41\u0e42\u0e43\u0e44"] + K,
+    ["\u0e40", C, "\u0e34\u0e35\u0e38\u0e39", T, "\u0e22", C + "\u0e40\u0e41\u0e42\u0e43\u0e44"] + K,
+]
+GROUP_K = [C, "?" + C, "?\u0e38\u0e39\u0e34", "\u0e4c"]
+
+
+def numbered(alphabet, most, i):
+    """The text number i of all texts over the alphabet of at most so many characters, shorter ones first."""
+    for n in range(most + 1):
+        if i < len(alphabet) ** n:
+            break
+        i -= len(alphabet) ** n
+    text = ""
+    for _ in range(n):
+        i, c = divmod(i, len(alphabet))
+        text += alphabet[c]
+    return text
+
+
+def texts_up_to(alphabet, most):
+    return sum(len(alphabet) ** n for n in range(most + 1))
+
+
+def all_texts(alphabet, most):
+    return [numbered(alphabet, most, i) for i in range(texts_up_to(alphabet, most))]
+
+
+def at_most_two(words):
+    """Every dictionary of at most two of the words."""
+    return [[]] + [[a] for a in words] + [[a, b] for a in words for b in words if a < b]
+
+
+def drawn(rng, alphabet, n):
+    return "".join(rng.choices(alphabet, k=n))
+
+
+def matched(rng, parts):
+    """A text that the parts match."""
+    text = ""
+    for part in parts:
+        if part[0] == "?":
+            if rng.random() < 0.5:
+                continue
+            part = part[1:]
+        text += matched(rng, GROUP_K) if part == "K" else rng.choice(part)
+    return text
+
+
+def thai(rng, n):
+    """About n characters of texts that the alternatives match."""
+    text = ""
+    while len(text) < n:
+        text += matched(rng, rng.choice(ALTERNATIVES))
+        if rng.random() < 0.1:
+            text += rng.choice(CLASSES)
+    return text[:n]
+
+
+def damaged(rng, text):
+    """The text with a few characters dropped, doubled, swapped, changed, put in, or its end cut off."""
+    for _ in range(rng.randint(1, 4)):
+        if not text:
+            return text
+        i = rng.randrange(len(text))
+        kind = rng.randrange(6)
+        c = rng.choice(rng.choice(ALPHABETS[4:]))
+        text = [text[:i] + text[i + 1 :], text[:i] + text[i] + text[i:], text[:i] + text[i + 1 : i + 2] + text[i] + text[i + 2 :], text[:i] + c + text[i + 1 :], text[:i] + c + text[i:], text[:i]][kind]
+    return text
+
+
+def some_length(rng):
+    kind = rng.random()
+    if kind < 0.6:
+        return rng.randint(0, 12)
+    if kind < 0.9:
+        return rng.randint(0, 60)
+    return rng.choice(LENGTHS) + rng.randint(-1, 1)
+
+
+def some_text(rng, n):
+    """A text of n characters, of one of many kinds."""
+    kind = rng.random()
+    if kind < 0.3:
+        return thai(rng, n)
+    if kind < 0.4:
+        unit = drawn(rng, rng.choice(ALPHABETS), rng.randint(1, 6))
+        return (unit * n)[:n]
+    return drawn(rng, rng.choice(ALPHABETS), n)
+
+
+def parts_of(rng, text, count):
+    """Words of a text: parts of it, mostly short."""
+    found = []
+    for _ in range(count if text else 0):
+        i = rng.randrange(len(text))
+        longest = rng.choice([2, 3, 4, 6, 10, 40, 255])
+        found.append(text[i : i + rng.randint(1, longest)])
+    return found
+
+
+def some_words(rng, text):
+    """Words for a text: none, parts of it, parts of a damaged copy, and words that share its first characters."""
+    found = parts_of(rng, text, rng.choice([0, 1, 2, 3, 5, 8, 13, 30]))
+    if rng.random() < 0.3:
+        found += parts_of(rng, damaged(rng, text), rng.randint(1, 5))
+    if rng.random() < 0.2:
+        found += [drawn(rng, rng.choice(ALPHABETS), rng.randint(1, 3)) for _ in range(3)]
+    return found
+
+
+def with_spaces(rng, text):
+    """The text with spaces put over it: none, one, a few anywhere, or a few in the places that safe mode samples."""
+    row = list(text)
+    kind = rng.randrange(4)
+    if not row or kind == 0:
+        return text.replace(" ", "\u0e01")
+    if kind == 1:
+        row = list(text.replace(" ", "\u0e01"))
+    for _ in range(1 if kind == 1 else rng.randint(1, 8)):
+        i = rng.randrange(len(row))
+        if kind == 3 and 100 < len(row):
+            i = rng.randrange(99, min(len(row), 142))
+        row[i] = " "
+    return "".join(row)
+
+
+class ShortClusters:
+    """Every text of at most four characters, one of each class."""
+    op, weight, size = "clusters", 20, texts_up_to(CLASSES, 4)
+
+    def line(self, rng, i):
+        return lines.clusters(numbered(CLASSES, 4, i))
+
+
+class LookaheadClusters:
+    """Every text that starts as the look-ahead alternatives do, with five more characters of the classes they name."""
+    alphabet = "\u0e01\u0e22\u0e35\u0e34\u0e48\u0e30\u0e40\u0e4c"
+    op, weight, size = "clusters", 5, texts_up_to(alphabet, 5)
+
+    def line(self, rng, i):
+        return lines.clusters("\u0e40\u0e01" + numbered(self.alphabet, 5, i))
+
+
+class AllThaiClusters:
+    """Every character of the Thai block and of the edges, in every place of a matched text."""
+    op, weight, size = "clusters", 10, None
+
+    def line(self, rng, i):
+        text = matched(rng, rng.choice(ALTERNATIVES))
+        k = rng.randrange(len(text) + 1)
+        return lines.clusters(text[:k] + rng.choice(THAI + EDGES) + text[k + rng.randint(0, 1) :] + rng.choice(["", "\u0e01", "\u0e4c"]))
+
+
+class RandomClusters:
+    op, weight, size = "clusters", 10, None
+
+    def line(self, rng, i):
+        text = some_text(rng, some_length(rng))
+        return lines.clusters(damaged(rng, text) if rng.random() < 0.3 else text)
+
+
+class ShortScripts:
+    """Every script of four adds and removals of three words that share their first characters, looked at after each."""
+    words = ["\u0e01", "\u0e01\u0e02", "\u0e01\u0e02\u0e04"]
+    op, weight, size = "dict", 2, (2 * len(words)) ** 4
+
+    def line(self, rng, i):
+        steps = [("f", "")]
+        for _ in range(4):
+            i, k = divmod(i, 2 * len(self.words))
+            steps += [("+-"[k % 2], self.words[k // 2]), ("n", ""), ("#", ""), ("p", self.words[2])]
+        return lines.dict_script(steps + [("?", word) for word in self.words])
+
+
+class RandomScripts:
+    """Adds and removals in random order, with blanks at the words' edges and inside, and words of up to 255 characters."""
+    op, weight, size = "dict", 10, None
+
+    def word(self, rng, alphabet):
+        kind = rng.random()
+        n = rng.randint(1, 5) if kind < 0.9 else rng.choice([0, 1, 254, 255])
+        return drawn(rng, alphabet, n) if kind < 0.97 else rng.choice(alphabet) * n
+
+    def line(self, rng, i):
+        alphabet = rng.choice(ALPHABETS)
+        known = [self.word(rng, alphabet) for _ in range(rng.randint(1, 8))]
+        known += [word[: rng.randint(0, len(word))] for word in known]
+        steps = [("f", "")]
+        for _ in range(rng.randint(1, 25)):
+            word = rng.choice(known)
+            step = rng.choice("+++--?#np")
+            if step in "+-" and rng.random() < 0.3:
+                word = drawn(rng, lines.BLANKS, rng.randint(0, 3)) + word + drawn(rng, lines.BLANKS, rng.randint(0, 3))
+            if step in "?p" and rng.random() < 0.3:
+                word += drawn(rng, alphabet + " ", 2)
+            if step not in "+-" or lines.comparable(word):
+                steps.append((step, word))
+        if rng.random() < 0.02:
+            steps.append(("f", ""))
+        return lines.dict_script(steps + [("#", ""), ("n", "")])
+
+
+class Prefixes:
+    """Words that a text starts with, words that part from it, and others."""
+    op, weight, size = "prefix", 8, None
+
+    def line(self, rng, i):
+        text = some_text(rng, some_length(rng) if rng.random() < 0.9 else rng.randint(250, 260))
+        found = [text[: rng.randint(0, min(len(text), 255))] for _ in range(rng.randint(0, 12))]
+        found += [damaged(rng, word) for word in found[:4]]
+        if rng.random() < 0.1:
+            found += [text[:n] for n in (1, 2, 253, 254, 255)]
+        return lines.prefix(found + some_words(rng, text)[:5], text)
+
+
+class ShortCuts:
+    """Every text of at most five characters over three, with every dictionary of at most two words of at most three."""
+    alphabet = "\u0e01\u0e02\u0e32"
+    held = at_most_two(all_texts(alphabet, 3)[1:])
+    op, weight, size = "cut", 14, len(held) * texts_up_to(alphabet, 5)
+
+    def line(self, rng, i):
+        i, k = divmod(i, len(self.held))
+        return lines.cut("plain", self.held[k], numbered(self.alphabet, 5, i))
+
+
+class ShortNonThai:
+    """Every text of at most four characters for the rules of text that is not Thai, with a few dictionaries."""
+    held = [[], ["\u0e01"], ["\u0e01\u0e32"], ["a"], ["a1", "1,"], ["\u0e51", "-"], ["\u0e01 a", "a\r\n\u0e01", "1"]]
+    op, weight, size = "cut", 8, len(held) * texts_up_to(NON_THAI, 4)
+
+    def line(self, rng, i):
+        i, k = divmod(i, len(self.held))
+        return lines.cut("plain", self.held[k], numbered(NON_THAI, 4, i))
+
+
+class ShortClassCuts:
+    """Every text of at most three characters, one of each class, with dictionaries of words that end inside a cluster and at its end."""
+    held = [[], ["\u0e01"], ["\u0e01\u0e01", "\u0e23"], ["\u0e40\u0e01", "\u0e01\u0e32", "\u0e22"], ["\u0e01\u0e31", "\u0e40\u0e01\u0e34", "\u0e4c"], [" ", "a", "\u0e01 "]]
+    op, weight, size = "cut", 5, len(held) * texts_up_to(CLASSES, 3)
+
+    def line(self, rng, i):
+        i, k = divmod(i, len(self.held))
+        return lines.cut("plain", self.held[k], numbered(CLASSES, 3, i))
+
+
+class RandomCuts:
+    op, weight, size = "cut", 12, None
+
+    def line(self, rng, i):
+        text = some_text(rng, some_length(rng))
+        held = some_words(rng, text)
+        if rng.random() < 0.3:
+            text = damaged(rng, text)
+        return lines.cut(rng.choice(["plain", "safe"]), held, text)
+
+
+class SafeCuts:
+    """Safe mode around its boundaries, with spaces in and beside the sampled places."""
+    op, weight, size = "cut", 8, None
+
+    def line(self, rng, i):
+        text = with_spaces(rng, some_text(rng, rng.choice(LENGTHS)))
+        return lines.cut("safe" if rng.random() < 0.9 else "plain", some_words(rng, text), text)
+
+
+class DenseCuts:
+    """Many edges: runs of a character with words of many lengths, around the limit of 50, whole or broken."""
+    op, weight, size = "cut", 6, None
+
+    def line(self, rng, i):
+        c = rng.choice("\u0e01\u0e01\u0e40a ")
+        n = rng.choice([rng.randint(1, 40), rng.randint(45, 60), rng.randint(100, 300)])
+        text = c * n
+        if rng.random() < 0.5:
+            for _ in range(rng.randint(1, 4)):
+                k = rng.randrange(n)
+                text = text[:k] + rng.choice("\u0e02\u0e32\u0e4c ") + text[k + 1 :]
+        lengths = rng.sample(range(1, 61), rng.randint(1, 30)) if rng.random() < 0.6 else rng.choice([[2, 3], [1, 2], list(range(1, 53)), [1, 50], [25, 26]])
+        return lines.cut(rng.choice(["plain", "safe"]), [c * k for k in lengths] + parts_of(rng, text, 2), text)
+
+
+class LongWords:
+    """Words of 253 to 255 characters, in texts where they stand whole, cut short or one after the other."""
+    op, weight, size = "cut", 2, None
+
+    def line(self, rng, i):
+        alphabet = rng.choice(ALPHABETS[:6])
+        word = drawn(rng, alphabet, rng.choice([253, 254, 255]))
+        text = drawn(rng, alphabet, rng.randint(0, 5)) + (word if rng.random() < 0.7 else damaged(rng, word)) + rng.choice(["", word, word[:-1], "a"])
+        held = [word, word[:-1], word[1:], word[: rng.randint(1, 255)]]
+        return lines.cut(rng.choice(["plain", "safe"]), rng.sample(held, rng.randint(1, 4)), text)
+
+
+class RealClusters:
+    op, weight, size = "clusters", 5, None
+
+    def line(self, rng, i):
+        text = rng.choice(real.texts())
+        return lines.clusters(damaged(rng, text) if rng.random() < 0.3 else text)
+
+
+class RealCuts:
+    """Real text, whole, damaged or joined to longer ones, with all the real words that stand in it."""
+    op, weight, size = "cut", 5, None
+
+    def line(self, rng, i):
+        text = rng.choice(real.texts())
+        while rng.random() < 0.2:
+            text += rng.choice(["", " "]) + rng.choice(real.texts())
+        if rng.random() < 0.3:
+            text = damaged(rng, text)
+        return lines.cut(rng.choice(["plain", "safe"]), real.words_in(text[:3000]), text[:3000])
+
+
+MADE = [ShortClusters, LookaheadClusters, AllThaiClusters, RandomClusters, ShortScripts, RandomScripts, Prefixes, ShortCuts, ShortNonThai, ShortClassCuts, RandomCuts, SafeCuts, DenseCuts, LongWords]
+REAL = [RealClusters, RealCuts]
+
+
+def shares(groups, count):
+    """How many lines each group makes: by weight, and no more than there are."""
+    left, weights, share = count, sum(group.weight for group in groups), {}
+    for group in sorted(groups, key=lambda g: (g.size is None, (g.size or 0) / g.weight)):
+        n = left * group.weight // weights
+        if group.size is not None:
+            n = min(n, group.size)
+        share[group] = n
+        left, weights = left - n, weights - group.weight
+    return share
+
+
+def cases(groups, count, seed):
+    """The groups' lines: pairs of a group's name and a line."""
+    for group, n in shares(groups, count).items():
+        rng = random.Random("%s %s" % (group.__name__, seed))
+        made = group()
+        numbers = range(n) if group.size in (None, n) else sorted(rng.sample(range(group.size), n))
+        for i in numbers:
+            yield group.__name__, made.line(rng, i)

@@ -1,0 +1,72 @@
+"""Vector lines: spelling and reading their fields."""
+import itertools
+import re
+
+REPEATED = re.compile(r"(.)\1{3}", re.DOTALL)
+
+# What document 01 trims, and what the Rust trims beside it: the rest of Unicode's White_Space.
+BLANKS = "\t\n\v\f\r "
+OTHER_BLANKS = "\x85\xa0\u1680\u2028\u2029\u202f\u205f\u3000" + "".join(map(chr, range(0x2000, 0x200B)))
+
+
+class Spelling(dict):
+    def __missing__(self, c):
+        self[c] = "%X" % ord(c)
+        return self[c]
+
+
+SPELLING = Spelling()
+
+
+def cells(text):
+    """The text's scalars in hexadecimal, joined by `.`, four or more equal ones as `cell*count`; `-` for none."""
+    if not text:
+        return "-"
+    if not REPEATED.search(text):
+        return ".".join([SPELLING[c] for c in text])
+    parts = []
+    for c, run in itertools.groupby(text):
+        n = len(list(run))
+        parts += ["%s*%d" % (SPELLING[c], n)] if 4 <= n else [SPELLING[c]] * n
+    return ".".join(parts)
+
+
+def text(field):
+    """The text that `cells` spells so."""
+    if field == "-":
+        return ""
+    made = []
+    for part in field.split("."):
+        cell, _, times = part.partition("*")
+        made.append(chr(int(cell, 16)) * int(times or 1))
+    return "".join(made)
+
+
+def comparable(word):
+    """Whether both sides take this word: at most 255 characters when trimmed, and trimmed the same."""
+    word = word.strip(BLANKS)
+    return len(word) <= 255 and word.strip(OTHER_BLANKS) == word
+
+
+def words(found):
+    """The words as they stand in a dictionary: trimmed, each once, in order."""
+    kept = sorted({word.strip(BLANKS) for word in found if comparable(word)} - {""})
+    return ",".join([cells(word) + ":0" for word in kept]) or "-"
+
+
+def clusters(of):
+    return "clusters\t%s\t*" % cells(of)
+
+
+def prefix(held, of):
+    return "prefix\t%s\t%s\t*" % (words(held), cells(of))
+
+
+def dict_script(steps):
+    """Steps are pairs of a letter and a text; `f`, `#` and `n` have none. The pool has a node for each character added."""
+    nodes = 1 + sum([len(word) for step, word in steps if step == "+"])
+    return "dict\t%d\t%s" % (8 * nodes, ";".join([step if step in "f#n" else step + cells(word) for step, word in steps]))
+
+
+def cut(mode, held, of):
+    return "cut\t%s\t%s\t%s\t*\t*" % (mode, words(held), cells(of))

@@ -1,0 +1,3 @@
+//! Stand-in for the module file.
+pub mod tcc_rules;
+pub mod tcc_tokenizer;

@@ -1,0 +1,59 @@
+"""Adds a sample of the Rust's answers to stdin and stdout of the test programs: differential/sample.py
+
+The scripts in tests/ write these files; the sample stands behind their lines, and is the same each time. The Rust is
+what differential/setup has built. No real text and no real words are in it.
+"""
+import os
+import sys
+
+import generate
+import sides
+
+sys.path.insert(0, os.path.join(sides.ROOT, "tests"))
+import vectors
+
+SEED = 1
+
+# How many lines of a group are kept, and how long one may be.
+KEPT = {
+    generate.ShortClusters: (400, 100),
+    generate.LookaheadClusters: (200, 100),
+    generate.AllThaiClusters: (250, 100),
+    generate.RandomClusters: (150, 200),
+    generate.ShortScripts: (80, 300),
+    generate.RandomScripts: (200, 400),
+    generate.Prefixes: (250, 250),
+    generate.ShortCuts: (200, 200),
+    generate.ShortNonThai: (200, 200),
+    generate.ShortClassCuts: (100, 200),
+    generate.RandomCuts: (200, 250),
+    generate.SafeCuts: (80, 900),
+    generate.DenseCuts: (120, 250),
+    generate.LongWords: (10, 1500),
+}
+
+
+def sampled():
+    """Lines of every group, in order."""
+    for group, (count, longest) in KEPT.items():
+        # More than is kept, since lines that are too long fall out.
+        fitting = [line for _, line in generate.cases([group], 20 * count, SEED) if len(line) <= longest]
+        yield from fitting[:: max(1, len(fitting) // count)][:count]
+
+
+def standing(program):
+    """The lines of a test program, with their answers."""
+    sides_of = [open(os.path.join(sides.ROOT, "crates", program, name), encoding="ascii").read().splitlines() for name in ("stdin", "stdout")]
+    return [(line.split("\t"), answer) for line, answer in zip(*sides_of, strict=True)]
+
+
+def main():
+    lines = list(sampled())
+    answers = sides.rust(lines)
+    for program in sides.listed():
+        ops = [op for op in sides.PROGRAMS if sides.PROGRAMS[op] == program]
+        made = [(line.split("\t"), answer) for line, answer in zip(lines, answers) if sides.op(line) in ops]
+        vectors.write(program, standing(program) + made)
+
+
+main()
