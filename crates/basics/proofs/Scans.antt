@@ -12,7 +12,7 @@ use lib.Dec.{eqb}
 use borrow.Author.Tests.{ne-eqb, eqb-true, eqb-false}
 use Rattle.basics.specs.Scans.{leading, behindLast}
 
-leading-yes : (p : ℕ → Bool) (x : ℕ) (xs : List ℕ) → p x ≡ true → leading p (x ∷ xs) ≡ suc (leading p xs)
+pub leading-yes : (p : ℕ → Bool) (x : ℕ) (xs : List ℕ) → p x ≡ true → leading p (x ∷ xs) ≡ suc (leading p xs)
 unfolding leading
 leading-yes p x xs h = simp h
 
@@ -20,7 +20,7 @@ leading-no : (p : ℕ → Bool) (x : ℕ) (xs : List ℕ) → p x ≡ false → 
 unfolding leading
 leading-no p x xs h = simp h
 
-leading-nil : (p : ℕ → Bool) → leading p [] ≡ 0
+pub leading-nil : (p : ℕ → Bool) → leading p [] ≡ 0
 unfolding leading
 leading-nil p = refl
 
@@ -55,6 +55,14 @@ leading-inside p (x ∷ xs) = go (leading-inside p xs) (p x)
     go : leading p xs ≤ length xs → (b : Bool) → cond b (suc (leading p xs)) 0 ≤ suc (length xs)
     go ih true = omega arith
     go ih false = omega arith
+
+-- all cells pass the test where the first does and the later ones do
+pub leading-all : (p : ℕ → Bool) (x : ℕ) (xs : List ℕ) → leading p (x ∷ xs) ≡ length (x ∷ xs) → (p x ≡ true) × (leading p xs ≡ length xs)
+leading-all p x xs h = go (p x) refl
+  where
+    go : (b : Bool) → p x ≡ b → (p x ≡ true) × (leading p xs ≡ length xs)
+    go true e = (e, let k : suc (leading p xs) ≡ suc (length xs) = sym (leading-yes p x xs e) ∙ h in omega arith)
+    go false e = absurd (let k : 0 ≡ suc (length xs) = sym (leading-no p x xs e) ∙ h in omega arith)
 
 last-nil : (p : ℕ → Bool) → behindLast p [] ≡ 0
 unfolding behindLast

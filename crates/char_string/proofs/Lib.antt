@@ -1,2 +1,4 @@
 pub mod Texts
+pub mod Pairs
 pub mod Trimming
+pub mod Views

@@ -1,13 +1,18 @@
 -- The answers of `check_text`, over plain values. Assumes nothing.
 use Prim.Native.Nat.{ℕ, _≤_, _<_}
-use mathlib.Core.Path.{_≡_}
-use mathlib.Core.List.{List}
+use mathlib.Core.Path.{_≡_, refl}
+use mathlib.Core.List.{List, [], _∷_}
 use lib.ListN.{length}
 use borrow.Author.Tests.{lt-ltb, le-ltb}
 use Rattle.refusal.specs.declared.Answer.{Answer}
 use Rattle.refusal.specs.declared.Answer.the-variants.{Accepted, Refused}
 use Rattle.refusal.specs.declared.Refusal.the-variants.{TooManyScalars, NotAScalar}
-use Rattle.char_string.specs.Scalars.{firstNonScalar, checked}
+use Rattle.refusal.specs.Answers.{numbers}
+use Rattle.char_string.specs.Scalars.{firstNonScalar, textRows, checked}
+
+-- Every operation on a text gives 2 and 3 first.
+pub first-two : (text : List ℕ) → numbers (textRows text) ≡ 2 ∷ 3 ∷ []
+first-two text = refl
 
 module _ (text : List ℕ) where
   pub long : 65535 < length text → Refused (TooManyScalars (length text)) ≡ checked text

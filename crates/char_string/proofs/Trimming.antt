@@ -6,11 +6,14 @@ use mathlib.Core.Path.{_≡_, refl, sym, _∙_, ap}
 use mathlib.Core.List.{List}
 use lib.ListN.{length, take, drop, length-drop}
 use Rattle.basics.specs.Scans.{leading, behindLast}
+use borrow.Author.Tests.{le-leb}
 use Rattle.basics.proofs.Parts.{tail-drop}
 use Rattle.basics.proofs.Scans.{leading-inside, last-inside}
-use Rattle.char_string.specs.declared.blanks.Span.{Span}
+use Rattle.char_string.specs.declared.parts.Span.{Span}
 use Rattle.char_string.specs.declared.blanks.Found.{Found}
 use Rattle.char_string.specs.declared.blanks.Found.the-variants.{At, Nothing}
+use Rattle.char_string.proofs.Pairs.{fit-right}
+use Rattle.char_string.specs.Parts.{fitted, between, partOf}
 use Rattle.char_string.specs.Blanks.{isTrimmed, stays, trimStart, trimEnd, trimOf, trimmedOf, before}
 
 pub start-inside : (word : List ℕ) → trimStart word ≤ length word
@@ -37,17 +40,16 @@ pub span-inside : (word : List ℕ) (a k : ℕ) → a ≡ trimStart word → k �
 span-inside word a k e h =
     omega (arith, start-inside word, e, h, last-inside stays (take (length word - a) (drop a word)), ap length (tail-drop word a), length-drop a word)
 
--- the facts that a part between the two positions needs
-pub record Fits (word : List ℕ) (a b : ℕ) : Type 0 where
-  pub order : a ≤ b
-  pub inside : b ≤ length word
-
-pub fits : (word : List ℕ) (s : Span) → s ≡ trimOf word → Fits word (s .start) (s .end)
-fits word s e =
+-- the trimmed word is the part between its two positions
+right : (word : List ℕ) (s : Span) → s ≡ trimOf word → s ≡ fitted (length word) (s .start) (s .end)
+right word s e =
     let x : s .start ≡ trimStart word = ap (λ (q : Span). q .start) e in
     let y : s .end ≡ trimEnd word = ap (λ (q : Span). q .end) e in
-    record { order = omega arith; inside = omega (arith, end-inside word) }
+    fit-right (length word) (s .start) (s .end) (simp (le-leb (s .start) (s .end) (omega arith), le-leb (s .end) (length word) (omega (arith, end-inside word))))
 
-pub part-is : (word : List ℕ) (s : Span) → s ≡ trimOf word → take (s .end - s .start) (drop (s .start) word) ≡ trimmedOf word
+pub part-is : (word : List ℕ) (s : Span) → s ≡ trimOf word → partOf word (s .start) (s .end) ≡ trimmedOf word
 unfolding trimmedOf
-part-is word s e = ap (λ (q : Span). take (q .end - q .start) (drop (q .start) word)) e
+part-is word s e = ap (between word) (sym (right word s e) ∙ e)
+
+pub start-is : (word : List ℕ) (s : Span) → s ≡ trimOf word → fitted (length word) (s .start) (s .end) .start ≡ trimStart word
+start-is word s e = ap (λ (q : Span). q .start) (sym (right word s e) ∙ e)

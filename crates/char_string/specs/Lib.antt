@@ -1,2 +1,3 @@
 pub mod Scalars
+pub mod Parts
 pub mod Blanks

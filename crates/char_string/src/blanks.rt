@@ -1,13 +1,11 @@
 // Blanks: trimming at the edges of a word, and the last space of a text.
+use crate::parts::Span;
+use crate::parts::substring;
 ghost use mathlib.Core.Path.{_≡_};
+ghost use denote.Ref.{ptr};
 ghost use Rattle.basics.specs.Scans.{behindLast};
+ghost use Rattle.char_string.specs.Parts.{cellAt};
 ghost use Rattle.char_string.specs.Blanks.{isTrimmed, stays, trimStart, trimOf, trimmedOf, lastSpace};
-
-// A part of a text: from start up to, and without, end.
-pub struct Span {
-    pub start: usize,
-    pub end: usize,
-}
 
 pub enum Found {
     At(usize),
@@ -65,14 +63,13 @@ pub fn trim(word: &[u32]) -> Span
     }
 }
 
-// The trimmed word, as a part of what was given.
+// The trimmed word: that part of what was given itself, no copy.
 pub fn trimmed(word: &[u32]) -> &[u32]
     ensures { λ r. ⌜ now r ≡ trimmedOf (now (word .entry)) ⌝ }
+    ensures { λ r. ⌜ ptr r ≡ cellAt (ptr (word .entry)) (trimStart (now (word .entry))) ⌝ }
 {
     let s = trim(word);
-    let start = s.start;
-    let end = s.end;
-    &word[start..end]
+    substring(word, s.start, s.end)
 }
 
 // The index of the last U+0020.

@@ -1,11 +1,9 @@
 // Which cells are Unicode scalar values, and which rows of cells are texts.
 use refusal::Answer;
+use refusal::MAX_SCALARS;
 use refusal::Refusal;
 ghost use mathlib.Core.Path.{_≡_};
 ghost use Rattle.char_string.specs.Scalars.{isScalar, firstNonScalar, checked};
-
-// The most scalars that a text may have.
-pub const MAX_SCALARS: usize = 65535;
 
 pub fn is_scalar(x: u32) -> bool
     ensures { λ r. ⌜ r ≡ isScalar x ⌝ }

@@ -2,6 +2,9 @@
 ghost use mathlib.Core.Path.{_≡_};
 ghost use Rattle.refusal.specs.Numbers.{numberOf, detailOf};
 
+// The most scalars that a text may have.
+pub const MAX_SCALARS: usize = 65535;
+
 // Why a call was refused, with the detail that the host is told.
 pub enum Refusal {
     // 1: the bytes aren't well-formed UTF-8. The length of the longest well-formed prefix.

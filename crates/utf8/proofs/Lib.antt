@@ -1,0 +1,5 @@
+pub mod FirstBytes
+pub mod Sizes
+pub mod Pieces
+pub mod Runs
+pub mod Decoded

@@ -1,0 +1,73 @@
+-- Assumes nothing.
+-- uses
+use Prim.Native.Nat.{_-_}
+use native.Mathlib.Omega.{arith}
+use mathlib.Core.Path.{sym, _∙_}
+use lib.ListN.{length}
+use Rattle.utf8.proofs.Runs.{Read, read-none, read-inside, read-more, read-broken, read-done}
+-- end uses
+use borrow.Author.Needs.{needs}
+use Rattle.utf8.proofs.count.Statement.{statement}
+use Rattle.utf8.proofs.count.Tie as tie
+use Rattle.utf8.proofs.count.Reads as reads
+use Rattle.utf8.proofs.count.Lts as lts
+use Rattle.utf8.proofs.leads.lead_table.Reads as lead-table-reads
+use Rattle.utf8.proofs.size_at.Reads as size-at-reads
+
+abbrev Inv-loop : tie.InvT-loop
+Inv-loop s table at₀ n₀ at n = Read s at n
+
+abbrev μ-loop : tie.MeasureT-loop
+μ-loop s table at₀ n₀ at n = length s - at
+
+-- src/lib.rt:86:17
+lead-table-requires : tie.Need-lead-table-requires Inv-loop μ-loop
+lead-table-requires c κs = search needs
+
+-- src/lib.rt:89:5
+loop-holds : tie.Need-loop-holds Inv-loop μ-loop
+loop-holds c = read-none _
+
+-- src/lib.rt:90:13
+size-at-requires : tie.Need-size-at-requires Inv-loop μ-loop
+size-at-requires c κs = search needs
+
+-- src/lib.rt:92:13
+returns : tie.Need-returns Inv-loop μ-loop
+returns c = read-broken (c .before .before .before .before .loop .inv) (c .before .before .before .loop-test .taken) (sym (c .before .size-at .ensures) ∙ c .if1 .taken)
+
+-- src/lib.rt:98:9
+add-at : tie.Need-add-at Inv-loop μ-loop
+add-at c = let z = read-inside _ _ _ (c .before .before .before .before .loop .inv .inside) (c .before .size-at .ensures) in omega arith
+
+-- src/lib.rt:99:9
+add-n : tie.Need-add-n Inv-loop μ-loop
+add-n c = search needs
+
+-- src/lib.rt:89:5
+loop-less : tie.Need-loop-less Inv-loop μ-loop
+loop-less c = let z = read-inside _ _ _ (c .before .before .before .before .loop .inv .inside) (c .before .size-at .ensures) in omega arith
+
+-- src/lib.rt:89:5
+loop-again : tie.Need-loop-again Inv-loop μ-loop
+loop-again c = read-more _ (c .before .before .before .before .loop .inv) (c .before .size-at .ensures) (omega (arith, c .if1 .left))
+
+-- src/lib.rt:83:1
+returns-2 : tie.Need-returns-2 Inv-loop μ-loop
+returns-2 c = read-done (c .before .loop .inv) (c .loop-test .left)
+
+pub count-spec : {M : Type 1} → statement M
+count-spec =
+    tie.close
+    (tie.spec
+    Inv-loop
+    μ-loop
+    lead-table-requires
+    loop-holds
+    size-at-requires
+    returns
+    add-at
+    add-n
+    loop-less
+    loop-again
+    returns-2)

@@ -1,0 +1,171 @@
+// UTF-8 to scalars: one pass that checks and counts, and one that writes.
+mod leads;
+
+use leads::lead;
+use leads::lead_table;
+use refusal::Answer;
+use refusal::MAX_SCALARS;
+use refusal::Refusal;
+ghost use mathlib.Core.Path.{_≡_};
+ghost use mathlib.Core.Bool.{true};
+ghost use Prim.Native.Nat.{_<_, _≤_};
+ghost use lib.ListN.{length, drop};
+ghost use mathlib.Core.List.{_++_};
+ghost use Rattle.basics.specs.Scans.{within};
+ghost use Rattle.refusal.specs.Answers.{output};
+ghost use Rattle.utf8.specs.Decoding.{Leads, sizeOf, runAll, scalarsOf, decoded};
+ghost use Rattle.utf8.specs.Passes.{pieceOf, countedOf};
+
+// The scalar at a place, and the number of bytes of its sequence.
+pub struct Piece {
+    pub scalar: u32,
+    pub size: usize,
+}
+
+// What the first pass finds: how many scalars the longest well-formed prefix has, its length in bytes, and whether it is all.
+pub struct Counted {
+    pub scalars: usize,
+    pub taken: usize,
+    pub whole: bool,
+}
+
+fn wide(b: u8) -> u32
+    ensures { λ r. ⌜ r ≡ b ⌝ }
+{
+    b as u32
+}
+
+fn is_trail(b: u8) -> bool
+    ensures { λ r. ⌜ r ≡ within 0x80 0xBF b ⌝ }
+{
+    if b < 0x80 {
+        return false;
+    }
+    b <= 0xBF
+}
+
+// The length of the well-formed sequence at a place, 0 where there is none.
+fn size_at(table: &[u32; 256], s: &[u8], at: usize) -> usize
+    requires { ⌜ Leads (now table) ⌝ }
+    requires { ⌜ at < length (now s) ⌝ }
+    ensures { λ r. ⌜ r ≡ sizeOf (drop at (now (s .entry))) ⌝ }
+{
+    let e = lead(table, s[at]);
+    let size = (e / 65536) as usize;
+    if s.len() - at < size {
+        return 0;
+    }
+    if size < 2 {
+        return size;
+    }
+    let b = wide(s[at + 1]);
+    if b < e / 256 % 256 {
+        return 0;
+    }
+    if e % 256 < b {
+        return 0;
+    }
+    if size == 2 {
+        return 2;
+    }
+    if !is_trail(s[at + 2]) {
+        return 0;
+    }
+    if size == 3 {
+        return 3;
+    }
+    if !is_trail(s[at + 3]) {
+        return 0;
+    }
+    4
+}
+
+fn count(s: &[u8]) -> Counted
+    ensures { λ r. ⌜ r ≡ countedOf (runAll (now (s .entry))) ⌝ }
+{
+    let table = lead_table();
+    let mut at = 0;
+    let mut n = 0;
+    while at < s.len() {
+        let size = size_at(&table, s, at);
+        if size == 0 {
+            return Counted {
+                scalars: n,
+                taken: at,
+                whole: false,
+            };
+        }
+        at += size;
+        n += 1;
+    }
+    Counted {
+        scalars: n,
+        taken: at,
+        whole: true,
+    }
+}
+
+// The scalar at a place where a well-formed sequence stands: its first byte tells the length.
+fn piece_at(s: &[u8], at: usize) -> Piece
+    requires { ⌜ 0 < sizeOf (drop at (now s)) ⌝ }
+    ensures { λ r. ⌜ r ≡ pieceOf (drop at (now (s .entry))) ⌝ }
+{
+    let a = wide(s[at]);
+    if a < 0x80 {
+        return Piece { scalar: a, size: 1 };
+    }
+    let b = wide(s[at + 1]) % 64;
+    if a < 0xE0 {
+        return Piece {
+            scalar: a % 32 * 64 + b,
+            size: 2,
+        };
+    }
+    let c = wide(s[at + 2]) % 64;
+    if a < 0xF0 {
+        return Piece {
+            scalar: a % 16 * 4096 + b * 64 + c,
+            size: 3,
+        };
+    }
+    let d = wide(s[at + 3]) % 64;
+    Piece {
+        scalar: a % 8 * 262144 + b * 4096 + c * 64 + d,
+        size: 4,
+    }
+}
+
+// The second pass, over well-formed bytes, into room that is enough.
+fn fill(s: &[u8], out: &mut [u32])
+    requires { ⌜ runAll (now s) .whole ≡ true ⌝ }
+    requires { ⌜ length (scalarsOf (now s)) ≤ length (now out) ⌝ }
+    ensures { λ _. ⌜ now (out .exit) ≡ scalarsOf (now (s .entry)) ++ drop (length (scalarsOf (now (s .entry)))) (now (out .entry)) ⌝ }
+{
+    let mut at = 0;
+    let mut n = 0;
+    while at < s.len() {
+        let p = piece_at(s, at);
+        out[n] = p.scalar;
+        at += p.size;
+        n += 1;
+    }
+}
+
+// Writes the scalars of the bytes to the front of `out`, and answers how many there are. Refusals 1, 2, 6.
+pub fn decode(bytes: &[u8], out: &mut [u32]) -> Answer
+    ensures { λ r. ⌜ r ≡ decoded (now (bytes .entry)) (length (now (out .entry))) ⌝ }
+    ensures { λ r. ⌜ now (out .exit) ≡ output r (scalarsOf (now (bytes .entry))) (now (out .entry)) ⌝ }
+{
+    let c = count(bytes);
+    if !c.whole {
+        return Answer::Refused(Refusal::IllFormed(c.taken));
+    }
+    if MAX_SCALARS < c.scalars {
+        return Answer::Refused(Refusal::TooManyScalars(c.scalars));
+    }
+    if out.len() < c.scalars {
+        return Answer::Refused(Refusal::OutputTooShort(c.scalars));
+    }
+    fill(bytes, out);
+    Answer::Accepted(c.scalars)
+}

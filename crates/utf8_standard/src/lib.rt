@@ -1,0 +1,1 @@
+// The decoder against the Unicode Standard: the theorems of proofs/.

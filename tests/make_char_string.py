@@ -1,0 +1,236 @@
+"""Writes crates/char_string_tests/stdin and stdout.
+
+    python3 tests/make_char_string.py VECTORS
+
+VECTORS is a file of vector lines with the answers of an independent model; its lines for decode, trim, rspace and
+part are taken. A decode line there also has a row for byte positions: that column and the positions in the answer
+are left out, and so is a line that is refused for that row alone.
+
+The other lines are made here. The expected side of each comes from Python's own UTF-8 codec: where bytes.decode
+fails, its `start` is where the first ill-formed sequence starts. Refusals are in document 01's order, 1, 2, 6.
+The lines from VECTORS are held to the same codec, and the script stops where the two differ.
+"""
+import sys
+
+import vectors
+
+MAX_SCALARS = 65535
+
+# The Unicode Standard, section 3.9: the example of D92 whole and in its parts, the sequences that the text names at
+# D84 to D86, beside table 3-7 and in "Constraints on Conversion Processes", table 3-8 as versions 5.2 to 10 had it,
+# and tables 3-8 to 3-11 as they stand since.
+UNICODE = """
+4D D0 B0 E4 BA 8C F0 90 8C 82
+4D
+D0 B0
+E4 BA 8C
+F0 90 8C 82
+41 C3 B1 42
+41 C2 C3 B1 42
+C3 B1
+C2
+C2 C3
+C0 AF
+E0 9F 80
+F4 80 83 92
+C2 41 42
+F0 80 80 41
+61 F1 80 80 E1 80 C2 62 80 63 80 BF 64
+C0 AF E0 80 BF F0 81 82 41
+ED A0 80 ED BF BF ED AF 41
+F4 91 92 93 FF 41 80 BF 42
+E1 80 E2 F0 91 92 F1 BF 41
+"""
+
+PREFIX = "aé\u0e01\U0001f600".encode()
+
+# Below, at and above each end of a second byte's range.
+SECOND = bytes.fromhex("7F 80 8F 90 9F A0 BF C0")
+
+# The same for later bytes, whose range is always 80 to BF.
+LATER = bytes.fromhex("7F 80 BF C0")
+
+# The two sides of each boundary in the lengths of sequences and in the scalar values; U+110000 has no other form than these bytes.
+EDGES = [chr(x).encode() for x in (0x0, 0x7F, 0x80, 0x7FF, 0x800, 0xD7FF, 0xE000, 0xFFFD, 0xFFFF, 0x10000, 0x10FFFF)]
+EDGES.append(bytes.fromhex("F4 90 80 80"))
+EDGES.extend(bytes.fromhex(s) for s in ("C1 BF", "E0 9F BF", "ED A0 80", "ED BF BF", "F0 8F BF BF"))
+
+
+def decoded(data, room):
+    """The answer of decode: `room` is the number of output cells, or `*`."""
+    try:
+        text = data.decode("utf-8")
+    except UnicodeDecodeError as error:
+        return "! 1 %d" % error.start
+    n = len(text)
+    if n > MAX_SCALARS:
+        return "! 2 %d" % n
+    if room != "*" and int(room) < n:
+        return "! 6 %d" % n
+    return "ok %d %s" % (n, vectors.cells([ord(c) for c in text]))
+
+
+def decode(data, room="*"):
+    return ["decode", vectors.hex_bytes(data), str(room)], decoded(data, room)
+
+
+def given(path):
+    """The lines of the vectors file."""
+    for fields, expected in vectors.read(path, ("decode", "trim", "rspace", "part")):
+        if fields[0] != "decode":
+            yield fields, expected
+            continue
+        data = bytes.fromhex(fields[1]) if fields[1] != "-" else b""
+        made = decode(data, fields[2])
+        if expected.startswith("! 6 ") and made[1].startswith("ok "):
+            continue
+        if expected.startswith("ok "):
+            expected = expected.rsplit(" ", 1)[0]
+        if expected != made[1]:
+            raise SystemExit("the codec has %s: %s" % (made[1][:80], "\t".join(fields)[:80]))
+        yield made
+
+
+def unicode_examples():
+    """Unicode's sequences, as they stand and behind a well-formed prefix."""
+    for line in UNICODE.split("\n"):
+        data = bytes.fromhex(line)
+        yield decode(data)
+        yield decode(PREFIX + data)
+
+
+def first_bytes():
+    """Every first byte, alone and with each second byte, followed by no, one and two bytes 80: enough for each length, and too few."""
+    for first in range(256):
+        yield decode(bytes([first]))
+        for second in SECOND:
+            for tail in range(3):
+                yield decode(bytes([first, second]) + b"\x80" * tail)
+
+
+def later_bytes():
+    """Third and fourth bytes at the ends of their range, behind each first byte of a longer sequence."""
+    for first in range(0xE0, 0xF5):
+        second = {0xE0: 0xA0, 0xF0: 0x90}.get(first, 0x80)
+        for third in LATER:
+            yield decode(bytes([first, second, third]))
+            for fourth in LATER:
+                yield decode(bytes([first, second, third, fourth]))
+
+
+def edges():
+    """Each boundary by itself, between letters, and before each other."""
+    for one in EDGES:
+        yield decode(one)
+        yield decode(b"a" + one + b"b")
+        for other in EDGES:
+            yield decode(one + other)
+
+
+def long_texts():
+    """65,535 scalars and one more, of each length in bytes; refusal 1 before 2 before 6."""
+    for one in "a", "é", "\u0e01", "\U0001f600":
+        data = one.encode()
+        for n in MAX_SCALARS, MAX_SCALARS + 1:
+            yield decode(data * n)
+            yield decode(data * n + b"\xff")
+            yield decode(data * n + b"\xff", 0)
+            yield decode(data * n, 0)
+            yield decode(data * n, n - 1)
+            yield decode(data * n, n)
+    yield decode("\u0e01".encode() * 70000 + b"\xe0\xb8")
+    yield decode("\u0e01".encode() * 70000)
+
+
+def short_rows():
+    """Each length of the output up to one more than is needed, for well-formed and for ill-formed bytes."""
+    text = "กขค a\U0001f600é".encode()
+    for room in range(9):
+        yield decode(text, room)
+        yield decode(text + b"\xe0\xb8", room)
+        yield decode(b"", room)
+
+
+def is_scalar(x):
+    try:
+        chr(x).encode("utf-8")
+    except (UnicodeEncodeError, ValueError, OverflowError):
+        return False
+    return True
+
+
+def scalars(row):
+    bad = [i for i, x in enumerate(row) if not is_scalar(x)]
+    return ["scalars", vectors.cells(row)], "ok %s" % (bad[0] if bad else "none")
+
+
+def scalar_cells():
+    """Cells on both sides of each end of the scalar values, at the start, in the middle and at the end of a text, and in pairs."""
+    ends = (0x0, 0xD7FF, 0xD800, 0xDBFF, 0xDC00, 0xDFFF, 0xE000, 0xFFFF, 0x10000, 0x10FFFF, 0x110000, 0x7FFFFFFF, 0x80000000, 0xFFFFFFFF)
+    yield scalars([])
+    for x in ends:
+        yield scalars([x])
+        yield scalars([x, 0x61, 0xE01])
+        yield scalars([0x61, x, 0xE01])
+        yield scalars([0x61, 0xE01, x])
+        yield scalars([0x61] * MAX_SCALARS + [x])
+        for y in ends:
+            yield scalars([0x61, x, y])
+
+
+def text(row):
+    bad = [i for i, x in enumerate(row) if not is_scalar(x)]
+    if len(row) > MAX_SCALARS:
+        return ["text", vectors.cells(row)], "! 2 %d" % len(row)
+    return ["text", vectors.cells(row)], "! 3 %d" % bad[0] if bad else "ok %d" % len(row)
+
+
+def texts():
+    """Lengths around the limit, with and without a cell that is no scalar value: refusal 2 before 3."""
+    for n in 0, 1, MAX_SCALARS - 1, MAX_SCALARS, MAX_SCALARS + 1:
+        yield text([0xE01] * n)
+        yield text([0xD800] * n)
+        yield text([0xE01] * n + [0x110000])
+        yield text([0x61] + [0xE01] * n + [0xDFFF])
+
+
+def words():
+    """Words with blanks at their edges and inside, trimmed by Python's strip of 01's six characters."""
+    blanks = "\t\n\v\f\r "
+    kept = "\x08\x0e\x1f!a\u0e01\u0085\u00a0\u2003\u200b\u3000"
+    for word in [""] + list(blanks) + list(kept):
+        for front in ["", " ", "\t\r\n", blanks]:
+            for back in ["", " ", "\v\f", blanks]:
+                for whole in front + word + back, front + word + " " + word + back:
+                    yield ["word", vectors.cells([ord(c) for c in whole])], "ok %s" % vectors.cells([ord(c) for c in whole.strip(blanks)])
+
+
+def view(n, start, end, index, a, b):
+    """The answers for a view of the text 0, 1, .., n - 1, by Python's own slices."""
+    right = start <= end <= n
+    shown = list(range(n))[start:end] if right else []
+    base = start if right else 0
+    char = shown[index] if index < len(shown) else "none"
+    sub = (base + a, base + b) if a <= b <= len(shown) else (base, base)
+    return ["view"] + [str(x) for x in (n, start, end, index, a, b)], "ok %d %s %d %d" % (len(shown), char, *sub)
+
+
+def views():
+    """Pairs that fit and pairs that don't, and in each view sub-views that fit and don't, with the largest numbers among them."""
+    largest = 2 ** 64 - 1
+    for n in 0, 1, 3:
+        for start in 0, 1, 2, 3, 4, largest:
+            for end in 0, 1, 3, 4, largest:
+                for a in 0, 1, 2, 3, largest:
+                    for b in 0, 1, 2, 3, largest:
+                        yield view(n, start, end, a, a, b)
+
+
+def main():
+    made = list(given(sys.argv[1]))
+    for group in unicode_examples, first_bytes, later_bytes, edges, long_texts, short_rows, scalar_cells, texts, words, views:
+        made.extend(group())
+    vectors.write("char_string_tests", made)
+
+
+main()
