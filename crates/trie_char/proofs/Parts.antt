@@ -7,9 +7,9 @@ use mathlib.Core.List.{List}
 use mathlib.Core.Option.{Option, none, some}
 use lib.ListN.{length, getD, take, drop, length-drop}
 use lib.Seq.{length-take-le}
-use Rattle.char_string.specs.declared.blanks.Span.{Span}
-use Rattle.char_string.specs.Blanks.{trimOf, trimmedOf}
-use Rattle.char_string.proofs.Trimming.{fits, part-is}
+use Rattle.char_string.specs.declared.parts.Span.{Span}
+use Rattle.char_string.specs.Blanks.{trimStart, trimEnd, trimOf, trimmedOf}
+use Rattle.char_string.proofs.Trimming.{end-inside}
 use Rattle.pool.specs.Cells.{used}
 use Rattle.pool.specs.Words.{holds}
 use Rattle.pool.specs.Sound.{Sound, Readable}
@@ -66,9 +66,17 @@ module _ (pool : List ℕ) (n : ℕ) (is : n ≡ min (length pool / 8) 1048576) 
   pub held-part : isDictionary pool ≡ true → held (meaning pool) ≡ holds (take (8 * n) pool)
   held-part e = held-is pool e ∙ ap holds (sym cells-are)
 
+-- trimming leaves what stands between two positions, in order
+pub in-order : (word : List ℕ) (s : Span) → s ≡ trimOf word → s .start ≤ s .end
+in-order word s e =
+    let x : s .start ≡ trimStart word = ap (λ (q : Span). q .start) e in
+    let y : s .end ≡ trimEnd word = ap (λ (q : Span). q .end) e in
+    omega arith
+
 -- the length that trimming leaves, by its two positions
 pub kept-is : (word : List ℕ) (s : Span) → s ≡ trimOf word → s .end - s .start ≡ length (trimmedOf word)
 unfolding trimmedOf
 kept-is word s e =
-    let f = fits word s e in
-    sym (ap length (sym (part-is word s e)) ∙ length-take-le (s .end - s .start) (drop (s .start) word) (omega (arith, f .order, f .inside, length-drop (s .start) word)))
+    let x : s .start ≡ trimStart word = ap (λ (q : Span). q .start) e in
+    let y : s .end ≡ trimEnd word = ap (λ (q : Span). q .end) e in
+    omega (arith, length-take-le (trimEnd word - trimStart word) (drop (trimStart word) word) (omega (arith, end-inside word, length-drop (trimStart word) word)))

@@ -59,11 +59,11 @@ slice-aggregate-missing c = sym (long (c .before .before .before .before .before
 
 -- src/change.rt:64:9
 missing-requires : tie.Need-missing-requires
-missing-requires c κs = readable (c .before .before .before .before .before .before .before .before .before .args .pool .now) _ (c .before .capacity .ensures) (known (c .before .before .before .before .before .before .before .before .before .args .pool .now) (c .before .before .before .before .before .before .before .before .before .args .word .now) (c .before .before .before .before .before .check-word .ensures) (c .before .before .before .enum-told .given .1) _ (c .before .capacity .ensures) _ (c .before .before .trimmed .ensures))
+missing-requires c κs = readable (c .before .before .before .before .before .before .before .before .before .args .pool .now) _ (c .before .capacity .ensures) (known (c .before .before .before .before .before .before .before .before .before .args .pool .now) (c .before .before .before .before .before .before .before .before .before .args .word .now) (c .before .before .before .before .before .check-word .ensures) (c .before .before .before .enum-told .given .1) _ (c .before .capacity .ensures) _ (c .before .before .trimmed .ensures .0))
 
 -- src/change.rt:65:29
 slice-read-wide : tie.Need-slice-read-wide
-slice-read-wide c = let r = readable (c .before .before .before .before .before .before .before .before .before .before .before .args .pool .now) _ (c .before .before .before .capacity .ensures) (known (c .before .before .before .before .before .before .before .before .before .before .before .args .pool .now) (c .before .before .before .before .before .before .before .before .before .before .before .args .word .now) (c .before .before .before .before .before .before .before .check-word .ensures) (c .before .before .before .before .before .enum-told .given .1) _ (c .before .before .before .capacity .ensures) _ (c .before .before .before .before .trimmed .ensures)) in omega (arith, r .inside, r .fits, long (c .before .before .before .before .before .before .before .before .before .before .before .args .pool .now) _ (c .before .before .before .capacity .ensures), inside (c .before .before .before .before .before .before .before .before .before .before .before .args .pool .now) _ (c .before .before .before .capacity .ensures))
+slice-read-wide c = let r = readable (c .before .before .before .before .before .before .before .before .before .before .before .args .pool .now) _ (c .before .before .before .capacity .ensures) (known (c .before .before .before .before .before .before .before .before .before .before .before .args .pool .now) (c .before .before .before .before .before .before .before .before .before .before .before .args .word .now) (c .before .before .before .before .before .before .before .check-word .ensures) (c .before .before .before .before .before .enum-told .given .1) _ (c .before .before .before .capacity .ensures) _ (c .before .before .before .before .trimmed .ensures .0)) in omega (arith, r .inside, r .fits, long (c .before .before .before .before .before .before .before .before .before .before .before .args .pool .now) _ (c .before .before .before .capacity .ensures), inside (c .before .before .before .before .before .before .before .before .before .before .before .args .pool .now) _ (c .before .before .before .capacity .ensures))
 
 -- src/change.rt:65:24
 wide-requires : tie.Need-wide-requires
@@ -71,7 +71,7 @@ wide-requires c κs = tt
 
 -- src/change.rt:65:16
 sub-free : tie.Need-sub-free
-sub-free c = let f = used-fits (c .before .before .before .before .before .before .before .before .before .before .before .before .args .pool .now) (c .before .before .before .before .before .before .before .before .before .before .before .before .args .word .now) (c .before .before .before .before .before .before .before .before .check-word .ensures) (c .before .before .before .before .before .before .enum-told .given .1) _ (c .before .before .before .before .capacity .ensures) _ (c .before .before .before .before .before .trimmed .ensures) in omega (arith, f, c .wide .ensures)
+sub-free c = let f = used-fits (c .before .before .before .before .before .before .before .before .before .before .before .before .args .pool .now) (c .before .before .before .before .before .before .before .before .before .before .before .before .args .word .now) (c .before .before .before .before .before .before .before .before .check-word .ensures) (c .before .before .before .before .before .before .enum-told .given .1) _ (c .before .before .before .before .capacity .ensures) _ (c .before .before .before .before .before .trimmed .ensures .0) in omega (arith, f, c .wide .ensures)
 
 -- src/change.rt:67:53
 sub-t18 : tie.Need-sub-t18
@@ -83,7 +83,7 @@ same-length-2 c = refl
 
 -- src/change.rt:67:9
 returns-2 : tie.Need-returns-2
-returns-2 c = (add-full (c .before .before .before .before .before .before .before .before .before .before .before .before .before .args .pool .now) (c .before .before .before .before .before .before .before .before .before .before .before .before .before .args .word .now) (c .before .before .before .before .before .before .before .before .before .check-word .ensures) (c .before .before .before .before .before .before .before .enum-told .given .1) _ (c .before .before .before .before .before .capacity .ensures) _ (c .before .before .before .before .before .before .trimmed .ensures) _ _ (c .before .before .before .missing .ensures) (c .before .wide .ensures) _ (c .if1 .taken), refl)
+returns-2 c = (add-full (c .before .before .before .before .before .before .before .before .before .before .before .before .before .args .pool .now) (c .before .before .before .before .before .before .before .before .before .before .before .before .before .args .word .now) (c .before .before .before .before .before .before .before .before .before .check-word .ensures) (c .before .before .before .before .before .before .before .enum-told .given .1) _ (c .before .before .before .before .before .capacity .ensures) _ (c .before .before .before .before .before .before .trimmed .ensures .0) _ _ (c .before .before .before .missing .ensures) (c .before .wide .ensures) _ (c .if1 .taken), refl)
 
 -- src/change.rt:70:9
 same-length-3 : tie.Need-same-length-3
@@ -91,7 +91,7 @@ same-length-3 c = refl
 
 -- src/change.rt:70:9
 returns-3 : tie.Need-returns-3
-returns-3 c = add-blank (c .before .before .before .before .before .before .before .before .before .before .before .before .before .before .args .pool .now) (c .before .before .before .before .before .before .before .before .before .before .before .before .before .before .args .word .now) (c .before .before .before .before .before .before .before .before .before .before .check-word .ensures) (c .before .before .before .before .before .before .before .before .enum-told .given .1) _ (c .before .before .before .before .before .before .capacity .ensures) _ (c .before .before .before .before .before .before .before .trimmed .ensures) _ _ (c .before .before .before .before .missing .ensures) (c .before .before .wide .ensures) (c .before .if1 .left) (c .if2 .taken)
+returns-3 c = add-blank (c .before .before .before .before .before .before .before .before .before .before .before .before .before .before .args .pool .now) (c .before .before .before .before .before .before .before .before .before .before .before .before .before .before .args .word .now) (c .before .before .before .before .before .before .before .before .before .before .check-word .ensures) (c .before .before .before .before .before .before .before .before .enum-told .given .1) _ (c .before .before .before .before .before .before .capacity .ensures) _ (c .before .before .before .before .before .before .before .trimmed .ensures .0) _ _ (c .before .before .before .before .missing .ensures) (c .before .before .wide .ensures) (c .before .if1 .left) (c .if2 .taken)
 
 -- src/change.rt:72:16
 slice-reshare-prefix-is-held : tie.Need-slice-reshare-prefix-is-held
@@ -103,7 +103,7 @@ slice-aggregate-is-held c = sym (long (c .before .before .before .before .before
 
 -- src/change.rt:72:8
 is-held-requires : tie.Need-is-held-requires
-is-held-requires c κs = readable (c .before .before .before .before .before .before .before .before .before .before .before .before .before .before .before .args .pool .now) _ (c .before .before .before .before .before .before .before .capacity .ensures) (known (c .before .before .before .before .before .before .before .before .before .before .before .before .before .before .before .args .pool .now) (c .before .before .before .before .before .before .before .before .before .before .before .before .before .before .before .args .word .now) (c .before .before .before .before .before .before .before .before .before .before .before .check-word .ensures) (c .before .before .before .before .before .before .before .before .before .enum-told .given .1) _ (c .before .before .before .before .before .before .before .capacity .ensures) _ (c .before .before .before .before .before .before .before .before .trimmed .ensures))
+is-held-requires c κs = readable (c .before .before .before .before .before .before .before .before .before .before .before .before .before .before .before .args .pool .now) _ (c .before .before .before .before .before .before .before .capacity .ensures) (known (c .before .before .before .before .before .before .before .before .before .before .before .before .before .before .before .args .pool .now) (c .before .before .before .before .before .before .before .before .before .before .before .before .before .before .before .args .word .now) (c .before .before .before .before .before .before .before .before .before .before .before .check-word .ensures) (c .before .before .before .before .before .before .before .before .before .enum-told .given .1) _ (c .before .before .before .before .before .before .before .capacity .ensures) _ (c .before .before .before .before .before .before .before .before .trimmed .ensures .0))
 
 -- src/change.rt:73:9
 same-length-4 : tie.Need-same-length-4
@@ -111,7 +111,7 @@ same-length-4 c = refl
 
 -- src/change.rt:73:9
 returns-4 : tie.Need-returns-4
-returns-4 c = add-held (c .before .before .before .before .before .before .before .before .before .before .before .before .before .before .before .before .before .args .pool .now) (c .before .before .before .before .before .before .before .before .before .before .before .before .before .before .before .before .before .args .word .now) (c .before .before .before .before .before .before .before .before .before .before .before .before .before .check-word .ensures) (c .before .before .before .before .before .before .before .before .before .before .before .enum-told .given .1) _ (c .before .before .before .before .before .before .before .before .before .capacity .ensures) _ (c .before .before .before .before .before .before .before .before .before .before .trimmed .ensures) _ _ (c .before .before .before .before .before .before .before .missing .ensures) (c .before .before .before .before .before .wide .ensures) (c .before .before .before .before .if1 .left) (c .before .before .before .if2 .left) _ (c .before .is-held .ensures) (c .if3 .taken)
+returns-4 c = add-held (c .before .before .before .before .before .before .before .before .before .before .before .before .before .before .before .before .before .args .pool .now) (c .before .before .before .before .before .before .before .before .before .before .before .before .before .before .before .before .before .args .word .now) (c .before .before .before .before .before .before .before .before .before .before .before .before .before .check-word .ensures) (c .before .before .before .before .before .before .before .before .before .before .before .enum-told .given .1) _ (c .before .before .before .before .before .before .before .before .before .capacity .ensures) _ (c .before .before .before .before .before .before .before .before .before .before .trimmed .ensures .0) _ _ (c .before .before .before .before .before .before .before .missing .ensures) (c .before .before .before .before .before .wide .ensures) (c .before .before .before .before .if1 .left) (c .before .before .before .if2 .left) _ (c .before .is-held .ensures) (c .if3 .taken)
 
 -- src/change.rt:75:14
 slice-relend-prefix-add-word : tie.Need-slice-relend-prefix-add-word
@@ -123,7 +123,7 @@ slice-aggregate-add-word c = sym (long (c .before .before .before .before .befor
 
 -- src/change.rt:75:5
 add-word-requires : tie.Need-add-word-requires
-add-word-requires c κs = puts (c .before .before .before .before .before .before .before .before .before .before .before .before .before .before .before .before .before .before .args .pool .now) (c .before .before .before .before .before .before .before .before .before .before .before .before .before .before .before .before .before .before .args .word .now) (c .before .before .before .before .before .before .before .before .before .before .before .before .before .before .check-word .ensures) (c .before .before .before .before .before .before .before .before .before .before .before .before .enum-told .given .1) _ (c .before .before .before .before .before .before .before .before .before .before .capacity .ensures) _ (c .before .before .before .before .before .before .before .before .before .before .before .trimmed .ensures) _ _ (c .before .before .before .before .before .before .before .before .missing .ensures) (c .before .before .before .before .before .before .wide .ensures) (c .before .before .before .before .before .if1 .left) (c .before .before .before .before .if2 .left)
+add-word-requires c κs = puts (c .before .before .before .before .before .before .before .before .before .before .before .before .before .before .before .before .before .before .args .pool .now) (c .before .before .before .before .before .before .before .before .before .before .before .before .before .before .before .before .before .before .args .word .now) (c .before .before .before .before .before .before .before .before .before .before .before .before .before .before .check-word .ensures) (c .before .before .before .before .before .before .before .before .before .before .before .before .enum-told .given .1) _ (c .before .before .before .before .before .before .before .before .before .before .capacity .ensures) _ (c .before .before .before .before .before .before .before .before .before .before .before .trimmed .ensures .0) _ _ (c .before .before .before .before .before .before .before .before .missing .ensures) (c .before .before .before .before .before .before .wide .ensures) (c .before .before .before .before .before .if1 .left) (c .before .before .before .before .if2 .left)
 
 -- src/change.rt:49:1
 same-length-5 : tie.Need-same-length-5
@@ -131,7 +131,7 @@ same-length-5 c = search needs
 
 -- src/change.rt:49:1
 returns-5 : tie.Need-returns-5
-returns-5 c = add-done (c .before .before .before .before .before .before .before .before .before .before .before .before .before .before .before .before .before .before .before .before .before .args .pool .now) (c .before .before .before .before .before .before .before .before .before .before .before .before .before .before .before .before .before .before .before .before .before .args .word .now) (c .before .before .before .before .before .before .before .before .before .before .before .before .before .before .before .before .before .check-word .ensures) (c .before .before .before .before .before .before .before .before .before .before .before .before .before .before .before .enum-told .given .1) _ (c .before .before .before .before .before .before .before .before .before .before .before .before .before .capacity .ensures) _ (c .before .before .before .before .before .before .before .before .before .before .before .before .before .before .trimmed .ensures) _ _ (c .before .before .before .before .before .before .before .before .before .before .before .missing .ensures) (c .before .before .before .before .before .before .before .before .before .wide .ensures) (c .before .before .before .before .before .before .before .before .if1 .left) (c .before .before .before .before .before .before .before .if2 .left) _ (c .before .before .before .before .before .is-held .ensures) (c .before .before .before .before .if3 .left) _ (c .before .before .add-word .kept .0) (c .before .before .add-word .ensures)
+returns-5 c = add-done (c .before .before .before .before .before .before .before .before .before .before .before .before .before .before .before .before .before .before .before .before .before .args .pool .now) (c .before .before .before .before .before .before .before .before .before .before .before .before .before .before .before .before .before .before .before .before .before .args .word .now) (c .before .before .before .before .before .before .before .before .before .before .before .before .before .before .before .before .before .check-word .ensures) (c .before .before .before .before .before .before .before .before .before .before .before .before .before .before .before .enum-told .given .1) _ (c .before .before .before .before .before .before .before .before .before .before .before .before .before .capacity .ensures) _ (c .before .before .before .before .before .before .before .before .before .before .before .before .before .before .trimmed .ensures .0) _ _ (c .before .before .before .before .before .before .before .before .before .before .before .missing .ensures) (c .before .before .before .before .before .before .before .before .before .wide .ensures) (c .before .before .before .before .before .before .before .before .if1 .left) (c .before .before .before .before .before .before .before .if2 .left) _ (c .before .before .before .before .before .is-held .ensures) (c .before .before .before .before .if3 .left) _ (c .before .before .add-word .kept .0) (c .before .before .add-word .ensures)
 
 pub add-spec : {M : Type 1} → statement M
 add-spec =

@@ -58,7 +58,7 @@ slice-aggregate-is-held c = sym (long (c .before .before .before .before .before
 
 -- src/change.rt:94:9
 is-held-requires : tie.Need-is-held-requires
-is-held-requires c κs = readable (c .before .before .before .before .before .before .before .before .before .args .pool .now) _ (c .before .capacity .ensures) (known (c .before .before .before .before .before .before .before .before .before .args .pool .now) (c .before .before .before .before .before .before .before .before .before .args .word .now) (c .before .before .before .before .before .check-word .ensures) (c .before .before .before .enum-told .given .1) _ (c .before .capacity .ensures) _ (c .before .before .trimmed .ensures))
+is-held-requires c κs = readable (c .before .before .before .before .before .before .before .before .before .args .pool .now) _ (c .before .capacity .ensures) (known (c .before .before .before .before .before .before .before .before .before .args .pool .now) (c .before .before .before .before .before .before .before .before .before .args .word .now) (c .before .before .before .before .before .check-word .ensures) (c .before .before .before .enum-told .given .1) _ (c .before .capacity .ensures) _ (c .before .before .trimmed .ensures .0))
 
 -- src/change.rt:95:9
 same-length-2 : tie.Need-same-length-2
@@ -66,7 +66,7 @@ same-length-2 c = refl
 
 -- src/change.rt:95:9
 returns-2 : tie.Need-returns-2
-returns-2 c = remove-absent (c .before .before .before .before .before .before .before .before .before .before .before .args .pool .now) (c .before .before .before .before .before .before .before .before .before .before .before .args .word .now) (c .before .before .before .before .before .before .before .check-word .ensures) (c .before .before .before .before .before .enum-told .given .1) _ (c .before .before .before .capacity .ensures) _ (c .before .before .before .before .trimmed .ensures) _ (c .before .is-held .ensures) (not-true _ (c .if1 .taken))
+returns-2 c = remove-absent (c .before .before .before .before .before .before .before .before .before .before .before .args .pool .now) (c .before .before .before .before .before .before .before .before .before .before .before .args .word .now) (c .before .before .before .before .before .before .before .check-word .ensures) (c .before .before .before .before .before .enum-told .given .1) _ (c .before .before .before .capacity .ensures) _ (c .before .before .before .before .trimmed .ensures .0) _ (c .before .is-held .ensures) (not-true _ (c .if1 .taken))
 
 -- src/change.rt:97:17
 slice-relend-prefix-remove-word : tie.Need-slice-relend-prefix-remove-word
@@ -78,7 +78,7 @@ slice-aggregate-remove-word c = sym (long (c .before .before .before .before .be
 
 -- src/change.rt:97:5
 remove-word-requires : tie.Need-remove-word-requires
-remove-word-requires c κs = removes (c .before .before .before .before .before .before .before .before .before .before .before .before .args .pool .now) (c .before .before .before .before .before .before .before .before .before .before .before .before .args .word .now) (c .before .before .before .before .before .before .before .before .check-word .ensures) (c .before .before .before .before .before .before .enum-told .given .1) _ (c .before .before .before .before .capacity .ensures) _ (c .before .before .before .before .before .trimmed .ensures)
+remove-word-requires c κs = removes (c .before .before .before .before .before .before .before .before .before .before .before .before .args .pool .now) (c .before .before .before .before .before .before .before .before .before .before .before .before .args .word .now) (c .before .before .before .before .before .before .before .before .check-word .ensures) (c .before .before .before .before .before .before .enum-told .given .1) _ (c .before .before .before .before .capacity .ensures) _ (c .before .before .before .before .before .trimmed .ensures .0)
 
 -- src/change.rt:80:1
 same-length-3 : tie.Need-same-length-3
@@ -86,7 +86,7 @@ same-length-3 c = search needs
 
 -- src/change.rt:80:1
 returns-3 : tie.Need-returns-3
-returns-3 c = remove-done (c .before .before .before .before .before .before .before .before .before .before .before .before .before .before .before .args .pool .now) (c .before .before .before .before .before .before .before .before .before .before .before .before .before .before .before .args .word .now) (c .before .before .before .before .before .before .before .before .before .before .before .check-word .ensures) (c .before .before .before .before .before .before .before .before .before .enum-told .given .1) _ (c .before .before .before .before .before .before .before .capacity .ensures) _ (c .before .before .before .before .before .before .before .before .trimmed .ensures) _ (c .before .before .before .before .before .is-held .ensures) (not-false _ (c .before .before .before .before .if1 .left)) _ (c .before .before .remove-word .kept .0) (c .before .before .remove-word .ensures)
+returns-3 c = remove-done (c .before .before .before .before .before .before .before .before .before .before .before .before .before .before .before .args .pool .now) (c .before .before .before .before .before .before .before .before .before .before .before .before .before .before .before .args .word .now) (c .before .before .before .before .before .before .before .before .before .before .before .check-word .ensures) (c .before .before .before .before .before .before .before .before .before .enum-told .given .1) _ (c .before .before .before .before .before .before .before .capacity .ensures) _ (c .before .before .before .before .before .before .before .before .trimmed .ensures .0) _ (c .before .before .before .before .before .is-held .ensures) (not-false _ (c .before .before .before .before .if1 .left)) _ (c .before .before .remove-word .kept .0) (c .before .before .remove-word .ensures)
 
 pub remove-spec : {M : Type 1} → statement M
 remove-spec =

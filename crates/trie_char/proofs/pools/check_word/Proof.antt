@@ -2,9 +2,8 @@
 -- uses
 use native.Mathlib.Omega.{arith}
 use Rattle.pool.specs.Meaning.{meaning}
-use Rattle.char_string.proofs.Trimming.{fits}
 use Rattle.trie_char.proofs.Rows.{word-read, word-long, word-short}
-use Rattle.trie_char.proofs.Parts.{kept-is}
+use Rattle.trie_char.proofs.Parts.{in-order, kept-is}
 -- end uses
 use borrow.Author.Needs.{needs}
 use Rattle.trie_char.proofs.pools.check_word.Statement.{statement}
@@ -32,7 +31,7 @@ trim-requires c κs = search needs
 
 -- src/pools.rt:64:24
 sub-kept : tie.Need-sub-kept
-sub-kept c = let f = fits (c .before .before .before .before .before .before .before .before .args .word .now) _ (c .before .trim .ensures) in omega (arith, f .order)
+sub-kept c = let f = in-order (c .before .before .before .before .before .before .before .before .args .word .now) _ (c .before .trim .ensures) in omega (arith, f)
 
 -- src/pools.rt:66:17
 returns : tie.Need-returns
