@@ -4,12 +4,12 @@ use mathlib.Core.List.{List, [], _∷_, _++_}
 use mathlib.Core.Option.{Option}
 use lib.Dec.{ltb}
 use lib.ListN.{length, replicate}
-use Rattle.refusal.specs.declared.Refusal.the-variants.{ScratchTooShort}
+use Rattle.refusal.specs.declared.Refusal.the-variants.{ScratchTooShort, OutputTooShort}
 use Rattle.refusal.specs.declared.Answer.{Answer}
 use Rattle.refusal.specs.declared.Answer.the-variants.{Accepted, Refused}
 use Rattle.refusal.specs.Answers.{Row, answer, output}
 use Rattle.pool.specs.Meaning.{Words}
-use Rattle.trie_char.specs.Refusals.{held, outRows, readRows}
+use Rattle.pool_lent.specs.Refusals.{held, readRows}
 use Rattle.tcc.specs.Flags.{isEnd}
 use Rattle.cut_rules.specs.Cutting.{Cut, cut}
 use Rattle.safe_rules.specs.declared.Mode.{Mode}
@@ -33,6 +33,10 @@ scratchRows text scratch = record { refusal = ScratchTooShort (9 * length text +
 -- 2, 3, 4, 5: before any cutting is done.
 abbrev pub firstRows : List ℕ → Option Words → List ℕ → List Row
 firstRows text pool scratch = readRows text pool ++ scratchRows text scratch
+
+-- 6: the output has fewer cells than the answer; cells needed.
+abbrev pub outRows : List ℕ → List ℕ → List Row
+outRows ends out = record { refusal = OutputTooShort (length ends); holds = ltb (length out) (length ends) } ∷ []
 
 -- Cutting: 2, 3, 4, 5, 6.
 abbrev pub cutRows : Mode → List ℕ → Option Words → List ℕ → List ℕ → List Row

@@ -18,9 +18,9 @@ clash e = let z : _≡_ {A = ℕ} 0 1 = cc in absurd (omega arith)
 
 -- ---- each node is on the way to a word
 
-record Alive (p u : List ℕ) : Type 0 where
-  rest : List ℕ
-  is : holds p (rev u rest) ≡ true
+pub record Alive (p u : List ℕ) : Type 0 where
+  pub rest : List ℕ
+  pub is : holds p (rev u rest) ≡ true
 
 record Some (p u : List ℕ) : Type 0 where
   node : ℕ
@@ -42,7 +42,7 @@ member p n g i c l a b = scan-new p c (scalarAt p c) (countAt p i) (firstAt p i)
 on-path : (p u : List ℕ) (i y c : ℕ) → reach p u ≡ at i → child p i y ≡ at c → reach p (y ∷ u) ≡ at c
 on-path p u i y c e f = ap (on-place none (λ k. child p k y)) e ∙ f
 
-alive : (p : List ℕ) (n : ℕ) → Sound p n 0 → (f : ℕ) (u : List ℕ) (i : ℕ) → n ≤ i + f → 0 < i → i < n → reach p u ≡ at i → Alive p u
+pub alive : (p : List ℕ) (n : ℕ) → Sound p n 0 → (f : ℕ) (u : List ℕ) (i : ℕ) → n ≤ i + f → 0 < i → i < n → reach p u ≡ at i → Alive p u
 alive p n g zero u i h some l e = absurd (omega arith)
 alive p n g (suc f) u i h some l e = go (decLt 0 (markAt p i)) (alive p n g f)
   where
@@ -127,9 +127,9 @@ module _ (p q : List ℕ) (s ep eq : ℕ) (rp : Rising p s ep) (rq : Rising q s 
 
 -- ---- node by node
 
-record Has (p : List ℕ) (c : ℕ) : Type 0 where
-  path : List ℕ
-  leads : reach p path ≡ at c
+pub record Has (p : List ℕ) (c : ℕ) : Type 0 where
+  pub path : List ℕ
+  pub leads : reach p path ≡ at c
 
 record Match (p q : List ℕ) (n m i s : ℕ) : Type 0 where
   in-p : i ≤ n
@@ -335,3 +335,7 @@ module _ (p q : List ℕ) (n m : ℕ) (gp : Sound p n 0) (gq : Sound q m 0) (sam
           let e : k ≡ 8 * (k / 8) + k % 8 = omega arith in
           ap (λ (z : ℕ). getD p z 0) e ∙ node (k / 8) (k % 8) (omega arith) (omega arith) ∙ sym (ap (λ (z : ℕ). getD q z 0) e)
       go k (no l) = gp .spare .blank k (omega arith) ∙ sym (gq .spare .blank k (omega (arith, whole .size)))
+
+-- a word leads to each node
+pub has-path : (p : List ℕ) (n : ℕ) → Sound p n 0 → (c : ℕ) → c < n → Has p c
+has-path p n g c l = whole p p n n g g (λ v. refl) .all .has c l

@@ -5,3 +5,8 @@ pub mod Canon
 pub mod Rules
 pub mod Edges
 pub mod Sets
+pub mod Held
+pub mod Number
+pub mod Listing
+pub mod With
+pub mod Walks

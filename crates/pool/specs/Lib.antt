@@ -4,3 +4,4 @@ pub mod Paths
 pub mod Sound
 pub mod Rules
 pub mod Meaning
+pub mod Listing

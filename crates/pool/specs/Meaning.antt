@@ -53,11 +53,11 @@ lengthsFrom held text i (suc n) = cond (held (take i text)) (i ∷ lengthsFrom h
 unfoldable pub prefixLengths : Words → List ℕ → List ℕ
 prefixLengths held text = lengthsFrom held text 1 (length text)
 
--- the marked nodes among the first n
-abbrev pub markedIn : List ℕ → ℕ → ℕ
-markedIn p zero = 0
-markedIn p (suc n) = markedIn p n + cond (marked (markAt p n)) 1 0
+-- how many of the numbers below n pass the test
+abbrev pub tally : (ℕ → Bool) → ℕ → ℕ
+tally f zero = 0
+tally f (suc n) = tally f n + cond (f n) 1 0
 
 -- The word count: one word ends at each marked node.
 abbrev pub amount : List ℕ → ℕ
-amount p = markedIn p (used p)
+amount p = tally (λ i. marked (markAt p i)) (used p)

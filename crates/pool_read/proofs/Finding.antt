@@ -9,7 +9,7 @@ use native.Mathlib.Decide.{decLt}
 use borrow.Author.Tests.{lt-ltb, le-ltb, ne-eqb}
 use lib.Dec.{eqb, eqb·suc-zero}
 use lib.ListN.{length, getD, drop, drop-of-length-le, length-drop}
-use Rattle.pool.specs.Meaning.{markedIn, amount}
+use Rattle.pool.specs.Meaning.{tally, amount}
 use Rattle.pool.specs.Cells.{used, scalarAt, firstAt, countAt, markAt}
 use Rattle.pool.specs.Sound.{Readable}
 use Rattle.pool.specs.Words.{lacking, none, at, on-place, scan, child, walk, marked, holds}
@@ -73,6 +73,11 @@ pub is-marked : (m : ℕ) → not (eqb m 0) ≡ marked m
 is-marked zero = refl
 is-marked (suc m) = ap not (eqb·suc-zero m)
 
+-- the mark as the code reads it
+pub mark-is : (p : List ℕ) (i : ℕ) → not (eqb (getD p (8 * i + 3) 0) 0) ≡ marked (markAt p i)
+unfolding markAt
+mark-is p i = is-marked (getD p (8 * i + 3) 0)
+
 pub ended : (p w : List ℕ) (i t : ℕ) → Inv p w i t → length w ≤ t → not (eqb (getD p (8 * i + 3) 0) 0) ≡ holds p w
 unfolding markAt
 ended p w i t v l = is-marked (getD p (8 * i + 3) 0)
@@ -111,22 +116,22 @@ count-ended p w i t v l = sym (v .same ∙ ap (λ (u : List ℕ). lacking p u i)
 pub record Tallied (p : List ℕ) (n words i : ℕ) : Type 0 where
   pub upto : i ≤ n
   pub few : words ≤ i
-  pub is : words ≡ markedIn p i
+  pub is : words ≡ tally (λ j. marked (markAt p j)) i
 
 pub tallied-all : {p : List ℕ} {n words i : ℕ} → Tallied p n words i → n ≤ i → n ≡ used p → words ≡ amount p
-tallied-all {p} {n} {words} {i} v l e = v .is ∙ ap (markedIn p) (let z : i ≡ n = omega (arith, v .upto) in z ∙ e)
+tallied-all {p} {n} {words} {i} v l e = v .is ∙ ap (tally (λ j. marked (markAt p j))) (let z : i ≡ n = omega (arith, v .upto) in z ∙ e)
 
 module _ {p : List ℕ} {n words i : ℕ} (v : Tallied p n words i) (l : i < n) where
-  tally : (m : ℕ) → m ≡ getD p (8 * i + 3) 0 → markedIn p (i + 1) ≡ markedIn p i + cond (marked m) 1 0
+  next-tally : (m : ℕ) → m ≡ getD p (8 * i + 3) 0 → tally (λ j. marked (markAt p j)) (i + 1) ≡ tally (λ j. marked (markAt p j)) i + cond (marked m) 1 0
   unfolding markAt
-  tally m e = ap (markedIn p) (add-one i) ∙ ap (λ (k : ℕ). markedIn p i + cond (marked k) 1 0) (sym e)
+  next-tally m e = ap (tally (λ j. marked (markAt p j))) (add-one i) ∙ ap (λ (k : ℕ). tally (λ j. marked (markAt p j)) i + cond (marked k) 1 0) (sym e)
 
   one : (m : ℕ) → (m ≡ 0 → ⊥) → _≡_ {A = ℕ} (cond (marked m) 1 0) 1
   one zero ne = absurd (ne refl)
   one (suc m) ne = refl
 
   pub tallied-more : (getD p (8 * i + 3) 0 ≡ 0 → ⊥) → Tallied p n (words + 1) (i + 1)
-  tallied-more ne = record { upto = omega arith; few = omega (arith, v .few); is = omega (arith, v .is, tally _ refl, one _ ne) }
+  tallied-more ne = record { upto = omega arith; few = omega (arith, v .few); is = omega (arith, v .is, next-tally _ refl, one _ ne) }
 
   pub tallied-on : getD p (8 * i + 3) 0 ≡ 0 → Tallied p n words (i + 1)
-  tallied-on e = record { upto = omega arith; few = omega (arith, v .few); is = omega (arith, v .is, tally 0 (sym e)) }
+  tallied-on e = record { upto = omega arith; few = omega (arith, v .few); is = omega (arith, v .is, next-tally 0 (sym e)) }

@@ -12,7 +12,8 @@ use Rattle.pool.specs.Words.{Place, none, at, on-place, child, walk, marked, ho
 use Rattle.pool.specs.Sound.{Readable}
 use Rattle.pool.specs.Meaning.{lengthsFrom, prefixLengths}
 use Rattle.pool.proofs.Lists.{drop-next}
-use Rattle.pool.proofs.Shape.{within, child-found, walk-append, walk-more}
+use Rattle.pool.proofs.Shape.{walk-append, walk-more}
+use Rattle.pool.proofs.Walks.{readable-child}
 use Rattle.pool_read.specs.Search.{toPlace, Wrote}
 use Rattle.pool_read.specs.declared.search.Kid.{Kid}
 use Rattle.pool_read.specs.declared.search.Kid.the-variants.{Nothing, Is}
@@ -60,11 +61,9 @@ is-marked : (m : ℕ) → (m ≡ 0 → ⊥) → marked m ≡ true
 is-marked zero h = absurd (h refl)
 is-marked (suc m) h = refl
 
--- a child of a node in reach is one
+-- a child that was found may be read
 pub there : {p : List ℕ} {b r : ℕ} (x : ℕ) (k : Kid) → toPlace k ≡ child p b x → k ≡ Is r → Readable p b → Readable p r
-there {p} {b} {r} x k t q g =
-    let f = child-found p b x r (sym t ∙ ap toPlace q) in
-    record { nodes = g .nodes; inside = omega (arith, within p (g .nodes) (g .shaped) b (g .inside), f .high); shaped = g .shaped; fits = g .fits }
+there {p} {b} {r} x k t q g = readable-child p b x r (sym t ∙ ap toPlace q) g
 
 module _ (p text : List ℕ) (b i : ℕ) (h : i < length text) (k : Kid) (t : toPlace k ≡ child p b (getD text i 0)) where
   abbrev more : ℕ → List ℕ

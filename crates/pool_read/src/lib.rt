@@ -5,6 +5,7 @@ mod search;
 pub use rules::well_formed;
 pub use search::Kid;
 pub use search::count_words;
+pub use search::ends_word;
 pub use search::find_child;
 pub use search::is_held;
 pub use search::missing;

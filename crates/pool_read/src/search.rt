@@ -2,7 +2,8 @@
 use pool::wide;
 ghost use mathlib.Core.Path.{_≡_};
 ghost use lib.ListN.{length};
-ghost use Rattle.pool.specs.Words.{child, holds, lacking};
+ghost use Rattle.pool.specs.Cells.{markAt};
+ghost use Rattle.pool.specs.Words.{child, marked, holds, lacking};
 ghost use Rattle.pool.specs.Meaning.{prefixLengths, amount};
 ghost use Rattle.pool.specs.Sound.{Readable};
 ghost use Rattle.pool_read.specs.Search.{Sought, toPlace, Asks, Wrote, Counts};
@@ -43,6 +44,14 @@ pub fn find_child(p: &[u32], b: usize, x: u32) -> Kid
         return Kid::Nothing;
     }
     Kid::Is(r)
+}
+
+// Whether a word ends at node i.
+pub fn ends_word(p: &[u32], i: usize) -> bool
+    requires { ⌜ Readable (now p) i ⌝ }
+    ensures { λ r. ⌜ r ≡ marked (markAt (now (p .entry)) i) ⌝ }
+{
+    p[8 * i + 3] != 0
 }
 
 // Whether the word is held.

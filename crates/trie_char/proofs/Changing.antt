@@ -1,5 +1,5 @@
 -- What add, remove and fresh answer, and what becomes of the pool. Assumes nothing.
-use Prim.Native.Nat.{ℕ, suc, _+_, _-_, _*_, _/_, _≤_, _<_, min}
+use Prim.Native.Nat.{ℕ, _+_, _-_, _*_, _/_, _≤_, _<_, min}
 use native.Mathlib.Omega.{arith}
 use mathlib.Core.Path.{_≡_, refl, sym, ap, subst, _∙_}
 use mathlib.Core.Bool.{Bool, true, false}
@@ -28,10 +28,12 @@ use Rattle.pool.proofs.Edges.{Edges, edges-of, legal-of}
 use Rattle.pool.proofs.Sets.{with-word, with-held, with-blank, without-word, without-absent, report-is, no-change}
 use Rattle.pool_change.specs.Planting.{Puts, PutIn}
 use Rattle.pool_change.specs.Plucking.{Removes, Removed}
-use Rattle.trie_char.specs.Refusals.{held, nodesWith, nodeRows, removeRows, addRows}
+use Rattle.pool_lent.specs.Refusals.{held}
+use Rattle.trie_char.specs.Refusals.{nodesWith, nodeRows, removeRows, addRows}
 use Rattle.trie_char.specs.Changes.{Became}
-use Rattle.trie_char.proofs.Rows.{again, still, row-yes, row-no, word-of}
-use Rattle.trie_char.proofs.Parts.{meaning-yes, known-is, held-is, inside, cells-are, long, sound-part, held-part}
+use Rattle.pool_lent.proofs.Rows.{again, still, row-yes, row-no}
+use Rattle.trie_char.proofs.Rows.{word-of}
+use Rattle.pool_lent.proofs.Parts.{meaning-yes, known-is, held-is, inside, cells-are, long, sound-part, held-part}
 
 -- ---- the pool afterwards
 

@@ -1,25 +1,24 @@
 -- The root alone is a dictionary without words. Assumes nothing.
-use Prim.Native.Nat.{ℕ, zero, suc, _+_, _-_, _*_, _/_, _≤_, _<_, min}
+use Prim.Native.Nat.{ℕ, _+_, _-_, _*_, _/_, _≤_, _<_, min}
 use native.Mathlib.Omega.{arith}
 use native.Mathlib.Decide.{decLt}
-use mathlib.Core.Path.{_≡_, refl, sym, ap, subst, _∙_}
-use mathlib.Core.Bool.{Bool, true, false, cond}
+use mathlib.Core.Path.{_≡_, sym, ap, subst, _∙_}
+use mathlib.Core.Bool.{Bool, false, cond}
 use mathlib.Core.List.{List, [], _∷_, _++_}
 use borrow.Author.Tests.{lt-ltb, le-ltb}
 use lib.ListN.{length, getD, drop, set, length-set, List·getD-eq-default}
 use lib.Seq.{getD-set-same, getD-set-other}
 use Rattle.refusal.specs.declared.Refusal.the-variants.{TooFewNodes}
-use Rattle.refusal.specs.declared.Answer.{Answer}
 use Rattle.refusal.specs.declared.Answer.the-variants.{Accepted, Refused}
 use Rattle.refusal.specs.Answers.{answer}
 use Rattle.pool.specs.Cells.{scalarAt, firstAt, countAt, markAt, used}
 use Rattle.pool.specs.Words.{none, on-place, scan, child, walk, marked, holds}
-use Rattle.pool.specs.Sound.{Shaped, Spare, Sound}
+use Rattle.pool.specs.Sound.{Shaped, Sound}
 use Rattle.pool.specs.Meaning.{noWord}
 use Rattle.pool_read.proofs.Whole.{stay, ends-start}
 use Rattle.trie_char.specs.Refusals.{freshRows}
 use Rattle.trie_char.specs.Changes.{Became, RootAlone}
-use Rattle.trie_char.proofs.Parts.{inside, long}
+use Rattle.pool_lent.proofs.Parts.{long}
 use Rattle.trie_char.proofs.Changing.{became}
 
 -- ---- the loop

@@ -1,5 +1,5 @@
 pub mod Rows
-pub mod Parts
 pub mod Reading
 pub mod Changing
 pub mod Freshness
+pub mod One

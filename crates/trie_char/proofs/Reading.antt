@@ -1,7 +1,7 @@
 -- What the readers answer. Assumes nothing.
 use Prim.Native.Nat.{ℕ, _*_, _/_, _≤_, _<_, min}
 use native.Mathlib.Omega.{arith}
-use mathlib.Core.Path.{_≡_, refl, sym, ap, _∙_}
+use mathlib.Core.Path.{_≡_, sym, ap, _∙_}
 use mathlib.Core.Bool.{Bool, true, false, cond}
 use mathlib.Core.List.{List, _++_}
 use borrow.Author.Tests.{lt-ltb, le-ltb}
@@ -17,9 +17,10 @@ use Rattle.pool.specs.Words.{holds}
 use Rattle.pool.specs.Rules.{cellsOf, isDictionary}
 use Rattle.pool.specs.Meaning.{Words, meaning, prefixLengths, amount}
 use Rattle.pool_read.specs.Search.{Asks, Wrote, Counts}
-use Rattle.trie_char.specs.Refusals.{held, poolRows, outRows, readRows, prefixRows}
-use Rattle.trie_char.proofs.Rows.{again, still, row-yes, row-no, read-of}
-use Rattle.trie_char.proofs.Parts.{known-is, is-none, inside, cells-are, long, sound-part, readable, held-part}
+use Rattle.pool_lent.specs.Refusals.{held, poolRows, readRows}
+use Rattle.trie_char.specs.Refusals.{outRows, prefixRows}
+use Rattle.pool_lent.proofs.Rows.{again, still, row-yes, row-no, read-of}
+use Rattle.pool_lent.proofs.Parts.{known-is, is-none, cells-are, sound-part, readable, held-part}
 
 -- ---- an accepted text
 

@@ -1,31 +1,17 @@
 -- The refusals of each operation on a dictionary, in the order of 01.
 use Prim.Native.Nat.{ℕ, _+_, _-_}
-use mathlib.Core.Bool.{Bool, true, false}
 use mathlib.Core.List.{List, [], _∷_, _++_}
-use mathlib.Core.Option.{Option, none, some}
+use mathlib.Core.Option.{Option}
 use lib.Dec.{ltb}
 use lib.ListN.{length}
 use Rattle.refusal.specs.Answers.{Row}
-use Rattle.refusal.specs.declared.Refusal.the-variants.{NotADictionary, OutputTooShort, WordTooLong, TooFewNodes}
-use Rattle.char_string.specs.Scalars.{textRows}
+use Rattle.refusal.specs.declared.Refusal.the-variants.{OutputTooShort, WordTooLong, TooFewNodes}
 use Rattle.char_string.specs.Blanks.{trimmedOf}
 use Rattle.pool.specs.Cells.{used}
 use Rattle.pool.specs.Words.{lacking}
 use Rattle.pool.specs.Rules.{capacity, cellsOf}
-use Rattle.pool.specs.Meaning.{Words, noWord, meaning, prefixLengths}
-
-abbrev pub isNone : Option Words → Bool
-isNone none = true
-isNone (some f) = false
-
--- the words of a pool; those of one that is no dictionary are asked for nowhere
-abbrev pub held : Option Words → Words
-held none = noWord
-held (some f) = f
-
--- 4: the pool isn't a dictionary; 0.
-abbrev pub poolRows : Option Words → List Row
-poolRows m = record { refusal = NotADictionary; holds = isNone m } ∷ []
+use Rattle.pool.specs.Meaning.{Words, meaning, prefixLengths}
+use Rattle.pool_lent.specs.Refusals.{held, readRows}
 
 -- 6: the output has fewer cells than the answer; cells needed.
 abbrev pub outRows : List ℕ → List ℕ → List Row
@@ -42,10 +28,6 @@ nodesWith pool w = used (cellsOf pool) + lacking (cellsOf pool) w 0
 -- 8: the pool has too few free nodes; nodes missing. Exactly if the nodes in use would pass capacity.
 abbrev pub nodeRows : List ℕ → List ℕ → List Row
 nodeRows pool w = record { refusal = TooFewNodes (nodesWith pool w - capacity pool); holds = ltb (capacity pool) (nodesWith pool w) } ∷ []
-
--- Contains: 2, 3, 4. The rows of every operation on a text start with these.
-abbrev pub readRows : List ℕ → Option Words → List Row
-readRows text m = textRows text ++ poolRows m
 
 -- Prefix lengths: 2, 3, 4, 6.
 abbrev pub prefixRows : List ℕ → Option Words → List ℕ → List Row

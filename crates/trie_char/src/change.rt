@@ -1,10 +1,10 @@
 // Changing a dictionary.
-use crate::pools::capacity;
-use crate::pools::check_word;
+use crate::words::check_word;
 use char_string::trimmed;
 use pool::wide;
 use pool_change::add_word;
 use pool_change::remove_word;
+use pool_lent::capacity;
 use pool_read::is_held;
 use pool_read::missing;
 use refusal::Answer;
@@ -15,7 +15,8 @@ ghost use lib.ListN.{length};
 ghost use Rattle.refusal.specs.Answers.{answer};
 ghost use Rattle.char_string.specs.Blanks.{trimmedOf};
 ghost use Rattle.pool.specs.Meaning.{meaning, noWord, withWord, withoutWord, report};
-ghost use Rattle.trie_char.specs.Refusals.{held, removeRows, addRows, freshRows};
+ghost use Rattle.pool_lent.specs.Refusals.{held};
+ghost use Rattle.trie_char.specs.Refusals.{removeRows, addRows, freshRows};
 ghost use Rattle.trie_char.specs.Changes.{After, RootAlone};
 
 // Sets the cells to a dictionary without words: the root alone.
@@ -64,7 +65,8 @@ pub fn add(pool: &mut [u32], word: &[u32]) -> Answer
     let more = missing(&pool[..cells], w);
     let free = nodes - wide(pool[4]);
     if free < more {
-        return Answer::Refused(Refusal::TooFewNodes(more - free));
+        let short = more - free;
+        return Answer::Refused(Refusal::TooFewNodes(short));
     }
     if w.len() == 0 {
         return Answer::Accepted(0);

@@ -1,7 +1,7 @@
 // The dictionary, after trie_char.rs: a trie in a lent pool. No function asks anything of what it is lent.
 mod change;
-mod pools;
 mod read;
+mod words;
 
 pub use change::add;
 pub use change::fresh;

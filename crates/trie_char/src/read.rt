@@ -1,7 +1,7 @@
 // Reading a dictionary.
-use crate::pools::capacity;
-use crate::pools::check;
-use crate::pools::is_dictionary;
+use pool_lent::capacity;
+use pool_lent::check;
+use pool_lent::is_dictionary;
 use pool_read::count_words;
 use pool_read::is_held;
 use pool_read::prefix_count;
@@ -13,7 +13,8 @@ ghost use lib.ListN.{length};
 ghost use Rattle.refusal.specs.Answers.{answer, output};
 ghost use Rattle.pool.specs.Rules.{cellsOf};
 ghost use Rattle.pool.specs.Meaning.{meaning, prefixLengths, amount};
-ghost use Rattle.trie_char.specs.Refusals.{held, poolRows, readRows, prefixRows};
+ghost use Rattle.pool_lent.specs.Refusals.{held, poolRows, readRows};
+ghost use Rattle.trie_char.specs.Refusals.{prefixRows};
 
 // 1 if the word is held, else 0. The word is taken as it is.
 pub fn contain(pool: &[u32], word: &[u32]) -> Answer

@@ -2,7 +2,7 @@
 -- uses
 use mathlib.Core.Path.{refl, sym}
 use native.Mathlib.Omega.{arith}
-use Rattle.trie_char.proofs.Parts.{inside, long, readable}
+use Rattle.pool_lent.proofs.Parts.{inside, long, readable}
 use Rattle.trie_char.proofs.Changing.{known, used-fits, add-full, add-blank, add-held, puts, add-done, add-refused}
 -- end uses
 use borrow.Author.Needs.{needs}
@@ -15,8 +15,8 @@ use Rattle.pool.proofs.wide.Reads as wide-reads
 use Rattle.pool_change.proofs.add_word.Reads as add-word-reads
 use Rattle.pool_read.proofs.is_held.Reads as is-held-reads
 use Rattle.pool_read.proofs.missing.Reads as missing-reads
-use Rattle.trie_char.proofs.pools.capacity.Reads as capacity-reads
-use Rattle.trie_char.proofs.pools.check_word.Reads as check-word-reads
+use Rattle.pool_lent.proofs.capacity.Reads as capacity-reads
+use Rattle.trie_char.proofs.words.check_word.Reads as check-word-reads
 
 -- src/change.rt:54:9
 check-word-requires : tie.Need-check-word-requires
@@ -74,8 +74,8 @@ sub-free : tie.Need-sub-free
 sub-free c = let f = used-fits (c .before .before .before .before .before .before .before .before .before .before .before .before .args .pool .now) (c .before .before .before .before .before .before .before .before .before .before .before .before .args .word .now) (c .before .before .before .before .before .before .before .before .check-word .ensures) (c .before .before .before .before .before .before .enum-told .given .1) _ (c .before .before .before .before .capacity .ensures) _ (c .before .before .before .before .before .trimmed .ensures .0) in omega (arith, f, c .wide .ensures)
 
 -- src/change.rt:67:53
-sub-t18 : tie.Need-sub-t18
-sub-t18 c = omega (arith, c .if1 .taken)
+sub-short : tie.Need-sub-short
+sub-short c = omega (arith, c .if1 .taken)
 
 -- src/change.rt:67:9
 same-length-2 : tie.Need-same-length-2
@@ -151,7 +151,7 @@ add-spec =
     slice-read-wide
     wide-requires
     sub-free
-    sub-t18
+    sub-short
     same-length-2
     returns-2
     same-length-3

@@ -2,7 +2,7 @@
 -- uses
 use mathlib.Core.Path.{refl, sym, _∙_}
 use native.Mathlib.Omega.{arith}
-use Rattle.trie_char.proofs.Parts.{inside, long}
+use Rattle.pool_lent.proofs.Parts.{long}
 use Rattle.trie_char.proofs.Freshness.{fresh-short, fresh-done}
 -- end uses
 use borrow.Author.Needs.{needs}
@@ -11,7 +11,7 @@ use Rattle.trie_char.proofs.change.fresh.Tie as tie
 use Rattle.trie_char.proofs.change.fresh.Reads as reads
 use Rattle.trie_char.proofs.change.fresh.Lts as lts
 use Rattle.trie_char.proofs.change.reset.Reads as reset-reads
-use Rattle.trie_char.proofs.pools.capacity.Reads as capacity-reads
+use Rattle.pool_lent.proofs.capacity.Reads as capacity-reads
 
 -- src/change.rt:41:9
 returns : tie.Need-returns

@@ -1,9 +1,8 @@
 -- Assumes nothing.
 -- uses
 use mathlib.Core.Path.{refl, sym}
-use native.Mathlib.Omega.{arith}
 use borrow.Author.Tests.{not-true, not-false}
-use Rattle.trie_char.proofs.Parts.{inside, long, readable}
+use Rattle.pool_lent.proofs.Parts.{inside, long, readable}
 use Rattle.trie_char.proofs.Changing.{known, remove-absent, removes, remove-done, remove-refused}
 -- end uses
 use borrow.Author.Needs.{needs}
@@ -14,8 +13,8 @@ use Rattle.trie_char.proofs.change.remove.Lts as lts
 use Rattle.char_string.proofs.trimmed.Reads as trimmed-reads
 use Rattle.pool_change.proofs.remove_word.Reads as remove-word-reads
 use Rattle.pool_read.proofs.is_held.Reads as is-held-reads
-use Rattle.trie_char.proofs.pools.capacity.Reads as capacity-reads
-use Rattle.trie_char.proofs.pools.check_word.Reads as check-word-reads
+use Rattle.pool_lent.proofs.capacity.Reads as capacity-reads
+use Rattle.trie_char.proofs.words.check_word.Reads as check-word-reads
 
 -- src/change.rt:85:9
 check-word-requires : tie.Need-check-word-requires

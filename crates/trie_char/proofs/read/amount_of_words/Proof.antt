@@ -2,7 +2,7 @@
 -- uses
 use mathlib.Core.Path.{sym}
 use borrow.Author.Tests.{not-true, not-false}
-use Rattle.trie_char.proofs.Parts.{long}
+use Rattle.pool_lent.proofs.Parts.{long}
 use Rattle.trie_char.proofs.Reading.{amount-refused, counts, amount-is}
 -- end uses
 use borrow.Author.Needs.{needs}
@@ -11,8 +11,8 @@ use Rattle.trie_char.proofs.read.amount_of_words.Tie as tie
 use Rattle.trie_char.proofs.read.amount_of_words.Reads as reads
 use Rattle.trie_char.proofs.read.amount_of_words.Lts as lts
 use Rattle.pool_read.proofs.count_words.Reads as count-words-reads
-use Rattle.trie_char.proofs.pools.capacity.Reads as capacity-reads
-use Rattle.trie_char.proofs.pools.is_dictionary.Reads as is-dictionary-reads
+use Rattle.pool_lent.proofs.capacity.Reads as capacity-reads
+use Rattle.pool_lent.proofs.is_dictionary.Reads as is-dictionary-reads
 
 -- src/read.rt:60:9
 is-dictionary-requires : tie.Need-is-dictionary-requires

@@ -1,7 +1,7 @@
 -- Assumes nothing.
 -- uses
 use mathlib.Core.Path.{sym}
-use Rattle.trie_char.proofs.Parts.{inside, long, readable}
+use Rattle.pool_lent.proofs.Parts.{long, readable}
 use Rattle.trie_char.proofs.Reading.{known, contain-yes, contain-no, contain-refused}
 -- end uses
 use borrow.Author.Needs.{needs}
@@ -10,8 +10,8 @@ use Rattle.trie_char.proofs.read.contain.Tie as tie
 use Rattle.trie_char.proofs.read.contain.Reads as reads
 use Rattle.trie_char.proofs.read.contain.Lts as lts
 use Rattle.pool_read.proofs.is_held.Reads as is-held-reads
-use Rattle.trie_char.proofs.pools.capacity.Reads as capacity-reads
-use Rattle.trie_char.proofs.pools.check.Reads as check-reads
+use Rattle.pool_lent.proofs.capacity.Reads as capacity-reads
+use Rattle.pool_lent.proofs.check.Reads as check-reads
 
 -- src/read.rt:22:9
 check-requires : tie.Need-check-requires

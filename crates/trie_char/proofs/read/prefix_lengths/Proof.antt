@@ -1,7 +1,7 @@
 -- Assumes nothing.
 -- uses
 use mathlib.Core.Path.{refl, sym}
-use Rattle.trie_char.proofs.Parts.{long, readable}
+use Rattle.pool_lent.proofs.Parts.{long, readable}
 use Rattle.trie_char.proofs.Reading.{known, asks, prefix-short, prefix-done, prefix-refused}
 -- end uses
 use borrow.Author.Needs.{needs}
@@ -11,8 +11,8 @@ use Rattle.trie_char.proofs.read.prefix_lengths.Reads as reads
 use Rattle.trie_char.proofs.read.prefix_lengths.Lts as lts
 use Rattle.pool_read.proofs.prefix_count.Reads as prefix-count-reads
 use Rattle.pool_read.proofs.prefix_lengths.Reads as prefix-lengths-reads
-use Rattle.trie_char.proofs.pools.capacity.Reads as capacity-reads
-use Rattle.trie_char.proofs.pools.check.Reads as check-reads
+use Rattle.pool_lent.proofs.capacity.Reads as capacity-reads
+use Rattle.pool_lent.proofs.check.Reads as check-reads
 
 -- src/read.rt:41:9
 check-requires : tie.Need-check-requires

@@ -1,17 +1,16 @@
 -- Assumes nothing.
 -- uses
 use mathlib.Core.Path.{sym, ap, _∙_}
-use native.Mathlib.Omega.{arith}
 use Rattle.pool.specs.Rules.{wellFormed}
-use Rattle.trie_char.proofs.Parts.{inside, cells-are, long}
+use Rattle.pool_lent.proofs.Parts.{cells-are, long}
 -- end uses
 use borrow.Author.Needs.{needs}
-use Rattle.trie_char.proofs.pools.is_dictionary.Statement.{statement}
-use Rattle.trie_char.proofs.pools.is_dictionary.Tie as tie
-use Rattle.trie_char.proofs.pools.is_dictionary.Reads as reads
-use Rattle.trie_char.proofs.pools.is_dictionary.Lts as lts
+use Rattle.pool_lent.proofs.is_dictionary.Statement.{statement}
+use Rattle.pool_lent.proofs.is_dictionary.Tie as tie
+use Rattle.pool_lent.proofs.is_dictionary.Reads as reads
+use Rattle.pool_lent.proofs.is_dictionary.Lts as lts
 use Rattle.pool_read.proofs.well_formed.Reads as well-formed-reads
-use Rattle.trie_char.proofs.pools.capacity.Reads as capacity-reads
+use Rattle.pool_lent.proofs.capacity.Reads as capacity-reads
 
 -- src/pools.rt:35:21
 capacity-requires : tie.Need-capacity-requires

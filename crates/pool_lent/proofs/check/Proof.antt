@@ -3,16 +3,16 @@
 use mathlib.Core.Path.{sym, _∙_}
 use borrow.Author.Tests.{not-true, not-false}
 use Rattle.pool.specs.Meaning.{meaning}
-use Rattle.trie_char.proofs.Rows.{check-text, check-pool, check-all}
-use Rattle.trie_char.proofs.Parts.{is-none}
+use Rattle.pool_lent.proofs.Rows.{check-text, check-pool, check-all}
+use Rattle.pool_lent.proofs.Parts.{is-none}
 -- end uses
 use borrow.Author.Needs.{needs}
-use Rattle.trie_char.proofs.pools.check.Statement.{statement}
-use Rattle.trie_char.proofs.pools.check.Tie as tie
-use Rattle.trie_char.proofs.pools.check.Reads as reads
-use Rattle.trie_char.proofs.pools.check.Lts as lts
+use Rattle.pool_lent.proofs.check.Statement.{statement}
+use Rattle.pool_lent.proofs.check.Tie as tie
+use Rattle.pool_lent.proofs.check.Reads as reads
+use Rattle.pool_lent.proofs.check.Lts as lts
 use Rattle.char_string.proofs.check_text.Reads as check-text-reads
-use Rattle.trie_char.proofs.pools.is_dictionary.Reads as is-dictionary-reads
+use Rattle.pool_lent.proofs.is_dictionary.Reads as is-dictionary-reads
 
 -- src/pools.rt:43:9
 check-text-requires : tie.Need-check-text-requires

@@ -1,22 +1,19 @@
 -- The cells of a pool that are read and written, and its meaning by them. Assumes nothing.
-use Prim.Native.Nat.{ℕ, _+_, _-_, _*_, _/_, _≤_, _<_, min}
+use Prim.Native.Nat.{ℕ, _-_, _*_, _/_, _≤_, min}
 use native.Mathlib.Omega.{arith}
-use mathlib.Core.Path.{_≡_, refl, sym, ap, subst, _∙_}
+use mathlib.Core.Path.{_≡_, refl, sym, ap, _∙_}
 use mathlib.Core.Bool.{Bool, true, false, cond}
 use mathlib.Core.List.{List}
-use mathlib.Core.Option.{Option, none, some}
-use lib.ListN.{length, getD, take, drop, length-drop}
+use mathlib.Core.Option.{none, some}
+use lib.ListN.{length, take}
 use lib.Seq.{length-take-le}
-use Rattle.char_string.specs.declared.parts.Span.{Span}
-use Rattle.char_string.specs.Blanks.{trimStart, trimEnd, trimOf, trimmedOf}
-use Rattle.char_string.proofs.Trimming.{end-inside}
 use Rattle.pool.specs.Cells.{used}
 use Rattle.pool.specs.Words.{holds}
 use Rattle.pool.specs.Sound.{Sound, Readable}
-use Rattle.pool.specs.Rules.{capacity, cellsOf, wellFormed, isDictionary}
-use Rattle.pool.specs.Meaning.{Words, meaning}
-use Rattle.pool.proofs.Rules.{sound, passes, clash}
-use Rattle.trie_char.specs.Refusals.{isNone, held}
+use Rattle.pool.specs.Rules.{cellsOf, wellFormed, isDictionary}
+use Rattle.pool.specs.Meaning.{meaning}
+use Rattle.pool.proofs.Rules.{sound, clash}
+use Rattle.pool_lent.specs.Refusals.{isNone, held}
 
 -- ---- meaning
 
@@ -65,18 +62,3 @@ module _ (pool : List ℕ) (n : ℕ) (is : n ≡ min (length pool / 8) 1048576) 
 
   pub held-part : isDictionary pool ≡ true → held (meaning pool) ≡ holds (take (8 * n) pool)
   held-part e = held-is pool e ∙ ap holds (sym cells-are)
-
--- trimming leaves what stands between two positions, in order
-pub in-order : (word : List ℕ) (s : Span) → s ≡ trimOf word → s .start ≤ s .end
-in-order word s e =
-    let x : s .start ≡ trimStart word = ap (λ (q : Span). q .start) e in
-    let y : s .end ≡ trimEnd word = ap (λ (q : Span). q .end) e in
-    omega arith
-
--- the length that trimming leaves, by its two positions
-pub kept-is : (word : List ℕ) (s : Span) → s ≡ trimOf word → s .end - s .start ≡ length (trimmedOf word)
-unfolding trimmedOf
-kept-is word s e =
-    let x : s .start ≡ trimStart word = ap (λ (q : Span). q .start) e in
-    let y : s .end ≡ trimEnd word = ap (λ (q : Span). q .end) e in
-    omega (arith, length-take-le (trimEnd word - trimStart word) (drop (trimStart word) word) (omega (arith, end-inside word, length-drop (trimStart word) word)))

@@ -2,16 +2,15 @@
 -- uses
 use native.Mathlib.Omega.{arith}
 use Rattle.pool.specs.Meaning.{meaning}
-use Rattle.trie_char.proofs.Rows.{word-read, word-long, word-short}
-use Rattle.trie_char.proofs.Parts.{in-order, kept-is}
+use Rattle.trie_char.proofs.Rows.{word-read, word-long, word-short, kept-is, in-order}
 -- end uses
 use borrow.Author.Needs.{needs}
-use Rattle.trie_char.proofs.pools.check_word.Statement.{statement}
-use Rattle.trie_char.proofs.pools.check_word.Tie as tie
-use Rattle.trie_char.proofs.pools.check_word.Reads as reads
-use Rattle.trie_char.proofs.pools.check_word.Lts as lts
+use Rattle.trie_char.proofs.words.check_word.Statement.{statement}
+use Rattle.trie_char.proofs.words.check_word.Tie as tie
+use Rattle.trie_char.proofs.words.check_word.Reads as reads
+use Rattle.trie_char.proofs.words.check_word.Lts as lts
 use Rattle.char_string.proofs.trim.Reads as trim-reads
-use Rattle.trie_char.proofs.pools.check.Reads as check-reads
+use Rattle.pool_lent.proofs.check.Reads as check-reads
 
 -- src/pools.rt:59:9
 check-requires : tie.Need-check-requires

@@ -1,6 +1,6 @@
-// Which cells of a pool are read and written, and the refusals that several operations give.
+// A pool as it is lent: which of its cells are read and written, whether it is a dictionary, and the refusals that every operation on a text gives.
+// For our own crates.
 use char_string::check_text;
-use char_string::trim;
 use pool_read::well_formed;
 use refusal::Answer;
 use refusal::Refusal;
@@ -10,13 +10,10 @@ ghost use lib.ListN.{length};
 ghost use Rattle.refusal.specs.Answers.{answer};
 ghost use Rattle.pool.specs.Rules.{isDictionary};
 ghost use Rattle.pool.specs.Meaning.{meaning};
-ghost use Rattle.trie_char.specs.Refusals.{readRows, removeRows};
+ghost use Rattle.pool_lent.specs.Refusals.{readRows};
 
 // The most nodes that a pool may have.
 pub const MAX_NODES: usize = 1048576;
-
-// The most characters of a word.
-pub const MAX_WORD: usize = 255;
 
 // The nodes that a pool of so many cells has room for.
 pub fn capacity(cells: usize) -> usize
@@ -46,24 +43,6 @@ pub fn check(pool: &[u32], text: &[u32]) -> Answer
         Answer::Accepted(n) => {
             if !is_dictionary(pool) {
                 return Answer::Refused(Refusal::NotADictionary);
-            }
-            Answer::Accepted(n)
-        }
-    }
-}
-
-// Refusals 2, 3, 4 and 7, accepted with the word's length.
-pub fn check_word(pool: &[u32], word: &[u32]) -> Answer
-    ensures { λ r. ⌜ r ≡ answer (removeRows (now (word .entry)) (meaning (now (pool .entry)))) (length (now (word .entry))) ⌝ }
-{
-    let first = check(pool, word);
-    match first {
-        Answer::Refused(r) => Answer::Refused(r),
-        Answer::Accepted(n) => {
-            let span = trim(word);
-            let kept = span.end - span.start;
-            if MAX_WORD < kept {
-                return Answer::Refused(Refusal::WordTooLong(kept));
             }
             Answer::Accepted(n)
         }
