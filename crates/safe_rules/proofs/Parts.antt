@@ -10,7 +10,7 @@ use lib.Dec.{ltb}
 use borrow.Author.Tests.{ltb-false}
 use Rattle.char_string.specs.Blanks.{lastSpace}
 use Rattle.safe_rules.specs.Parts.{Cutter, sampleOf, cutAt, sampled, Runs, lastPart, onePart, first, runsOf}
-use Rattle.safe_rules.specs.Modes.{shifted, endsFrom}
+use Rattle.safe_rules.specs.Modes.{shifted, partEnds}
 use Rattle.safe_rules.proofs.Climbing.{Climbs, there, behind, shift}
 use Rattle.safe_rules.proofs.Samples.{Fits, Right, cut-inside}
 
@@ -53,11 +53,11 @@ module _ (spaceCut : ℕ → ℕ) (plain : Cutter) (f : Fits spaceCut) (r : Righ
           }
 
 -- the ends of parts that are cut rightly climb
-pub parts-climb : (plain : Cutter) → Right plain → (ps : List (List ℕ)) (start : ℕ) → Climbs start (endsFrom plain start ps) (start + length (glued ps))
-unfolding endsFrom
+pub parts-climb : (plain : Cutter) → Right plain → (ps : List (List ℕ)) (start : ℕ) → Climbs start (partEnds plain start ps) (start + length (glued ps))
+unfolding partEnds
 parts-climb plain r [] start = let e : start ≡ start + 0 = omega arith in subst (λ (z : ℕ). Climbs start [] z) e there
 parts-climb plain r (p ∷ ps) start =
     let a : start + 0 ≡ start = omega arith in
     let z : start + length p + length (glued ps) ≡ start + length (p ++ glued ps) = omega (arith, length-append p (glued ps)) in
-    subst (λ (n : ℕ). Climbs start (endsFrom plain start (p ∷ ps)) n) z
+    subst (λ (n : ℕ). Climbs start (partEnds plain start (p ∷ ps)) n) z
     (behind (subst (λ (n : ℕ). Climbs n (shifted start (plain p .ends)) (start + length p)) a (shift start (r p))) (parts-climb plain r ps (start + length p)))

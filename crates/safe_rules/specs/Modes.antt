@@ -13,9 +13,9 @@ abbrev pub shifted : ℕ → List ℕ → List ℕ
 shifted by ends = map (λ (e : ℕ). by + e) ends
 
 -- Every part is then cut plainly by itself. Each part's ends are written straight behind those of the part before, shifted to the whole text.
-unfoldable pub endsFrom : Cutter → ℕ → List (List ℕ) → List ℕ
-endsFrom plain start [] = []
-endsFrom plain start (part ∷ parts) = shifted start (plain part .ends) ++ endsFrom plain (start + length part) parts
+unfoldable pub partEnds : Cutter → ℕ → List (List ℕ) → List ℕ
+partEnds plain start [] = []
+partEnds plain start (part ∷ parts) = shifted start (plain part .ends) ++ partEnds plain (start + length part) parts
 
 -- The edge count sums all plain runs, samples included.
 unfoldable pub edgesOf : Cutter → List (List ℕ) → ℕ
@@ -23,7 +23,7 @@ edgesOf plain [] = 0
 edgesOf plain (t ∷ ts) = plain t .edges + edgesOf plain ts
 
 abbrev pub joined : Cutter → Runs → Cut
-joined plain r = record { ends = endsFrom plain 0 (r .parts); edges = edgesOf plain (r .samples ++ r .parts) }
+joined plain r = record { ends = partEnds plain 0 (r .parts); edges = edgesOf plain (r .samples ++ r .parts) }
 
 -- Below 140 characters: plain.
 unfoldable pub inParts : (ℕ → ℕ) → Cutter → List ℕ → Cut
