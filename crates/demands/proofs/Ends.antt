@@ -13,7 +13,8 @@ use Rattle.cut_rules.proofs.Tokens.{Tokens}
 use Rattle.cut_rules.proofs.Result.{tokens}
 use Rattle.safe_rules.specs.declared.Mode.{Mode}
 use Rattle.safe_rules.specs.declared.Mode.the-variants.{Plain}
-use Rattle.safe_rules.proofs.Climbing.{Climbs, of-tokens, rises, last-is, no-ends, few}
+use Rattle.safe_rules.specs.Climbing.{Climbs}
+use Rattle.safe_rules.proofs.Climbing.{of-tokens, rises, last-is, no-ends, few}
 use Rattle.safe_rules.proofs.Samples.{Right}
 use Rattle.safe_rules.proofs.Modes.{modes-climb}
 use Rattle.cut_answers.specs.Answers.{plainCut, cutOf}

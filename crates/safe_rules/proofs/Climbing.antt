@@ -7,12 +7,8 @@ use lib.ListN.{length, getD}
 use Rattle.cut_rules.specs.Words.{Given}
 use Rattle.cut_rules.proofs.Positions.{Rises, none, next}
 use Rattle.cut_rules.proofs.Tokens.{Tokens, stop, then, spans}
+use Rattle.safe_rules.specs.Climbing.{Climbs, there, up}
 use Rattle.safe_rules.specs.Modes.{shifted}
-
--- each end is above the one before it, the first above a, and the last is z; there is none exactly where a is z
-pub data Climbs : ℕ → List ℕ → ℕ → Type 0 where
-  there : {a : ℕ} → Climbs a [] a
-  up : {a e z : ℕ} {es : List ℕ} → a < e → Climbs e es z → Climbs a (e ∷ es) z
 
 pub onward : {a z : ℕ} {es : List ℕ} → Climbs a es z → a ≤ z
 onward there = omega arith

@@ -11,7 +11,7 @@ use Rattle.safe_rules.specs.declared.Mode.{Mode}
 use Rattle.safe_rules.specs.declared.Mode.the-variants.{Plain, Safe}
 use Rattle.safe_rules.specs.Parts.{Cutter, runsOf}
 use Rattle.safe_rules.specs.Modes.{joined, inParts, unshifted, segmented}
-use Rattle.safe_rules.proofs.Climbing.{Climbs}
+use Rattle.safe_rules.specs.Climbing.{Climbs}
 use Rattle.safe_rules.proofs.Samples.{Fits, Right}
 use Rattle.safe_rules.proofs.Parts.{made-up, parts-climb, glued}
 

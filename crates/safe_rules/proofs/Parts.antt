@@ -11,7 +11,8 @@ use borrow.Author.Tests.{ltb-false}
 use Rattle.char_string.specs.Blanks.{lastSpace}
 use Rattle.safe_rules.specs.Parts.{Cutter, sampleOf, cutAt, sampled, Runs, lastPart, onePart, first, runsOf}
 use Rattle.safe_rules.specs.Modes.{shifted, partEnds}
-use Rattle.safe_rules.proofs.Climbing.{Climbs, there, behind, shift}
+use Rattle.safe_rules.specs.Climbing.{Climbs, there}
+use Rattle.safe_rules.proofs.Climbing.{behind, shift}
 use Rattle.safe_rules.proofs.Samples.{Fits, Right, cut-inside}
 
 abbrev pub glued : List (List ℕ) → List ℕ

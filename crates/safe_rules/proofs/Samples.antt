@@ -15,7 +15,8 @@ use Rattle.char_string.specs.declared.blanks.Found.the-variants.{At, Nothing}
 use Rattle.char_string.specs.Blanks.{isSpace, before, lastSpace}
 use Rattle.safe_rules.specs.Longest.{lengths, longest, beforeLongest}
 use Rattle.safe_rules.specs.Parts.{Cutter, sampleOf, cutFor, cutAt}
-use Rattle.safe_rules.proofs.Climbing.{Climbs, there, up, onward, no-ends}
+use Rattle.safe_rules.specs.Climbing.{Climbs, there, up}
+use Rattle.safe_rules.proofs.Climbing.{onward, no-ends}
 
 none-longest : (e : ℕ) → longest (lengths e []) ≡ 0
 unfolding lengths longest

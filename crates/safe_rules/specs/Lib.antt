@@ -1,3 +1,4 @@
+pub mod Climbing
 pub mod Longest
 pub mod Parts
 pub mod Modes

@@ -1,0 +1,42 @@
+-- What cutting in parts asks of the rows that it is lent, and what it gives.
+use Prim.Native.Nat.{ℕ, _+_, _*_, _≤_}
+use mathlib.Core.Path.{_≡_}
+use mathlib.Core.List.{List, _++_}
+use lib.ListN.{length, getD, drop}
+use Rattle.char_string.specs.Blanks.{lastSpace}
+use Rattle.pool.specs.Sound.{Readable}
+use Rattle.cut_rules.specs.Words.{Given}
+use Rattle.cut_rules.specs.Cutting.{Cut, cut}
+use Rattle.one_cut.specs.declared.Ends.{Ends}
+use Rattle.one_cut.specs.Rows.{stub}
+use Rattle.safe_rules.specs.Climbing.{Climbs}
+use Rattle.safe_rules.specs.Parts.{Cutter, sampleOf, cutAt, sampled}
+use Rattle.safe_rules.specs.Modes.{shifted, edgesOf}
+use Rattle.segment.specs.declared.PartEnd.{PartEnd}
+
+-- the ends of some tokens
+pub record Rising (ends : List ℕ) : Type 0 where
+  pub last : ℕ
+  pub climbs : Climbs 0 ends last
+
+-- a text, the cells of a dictionary, and 9n+128 cells or more, all 0
+pub record Ready (text pool row : List ℕ) : Type 0 where
+  pub short : length text ≤ 65535
+  pub root-is : Readable pool 0
+  pub room : 9 * length text + 128 ≤ length row
+  pub blank : (k : ℕ) → getD row k 0 ≡ 0
+  pub magic : (g : Given) → cut g ≡ stub g
+
+-- the ends stand at the front, and the rest is as it was
+pub record Written (c : Cut) (row row′ : List ℕ) (r : Ends) : Type 0 where
+  pub ends : r .ends ≡ length (c .ends)
+  pub edges : r .edges ≡ c .edges
+  pub is : row′ ≡ c .ends ++ drop (length (c .ends)) row
+
+abbrev pub shiftedCut : ℕ → Cut → Cut
+shiftedCut by c = record { ends = shifted by (c .ends); edges = c .edges }
+
+-- where the remaining text is cut, and the edges recorded in its sample
+pub record Sampled (spaceCut : ℕ → ℕ) (plain : Cutter) (rest : List ℕ) (r : PartEnd) : Type 0 where
+  pub at : r .at ≡ cutAt spaceCut plain rest
+  pub edges : r .edges ≡ edgesOf plain (sampled (sampleOf rest) (lastSpace (sampleOf rest)))
