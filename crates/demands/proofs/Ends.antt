@@ -2,36 +2,25 @@
 use Prim.Native.Nat.{ℕ, suc, _+_, _-_, _≤_, _<_}
 use native.Mathlib.Omega.{arith}
 use mathlib.Core.Path.{_≡_, refl, sym, _∙_, ap}
-use mathlib.Core.Bool.{Bool}
 use mathlib.Core.List.{List, []}
 use lib.ListN.{length, getD}
 use Rattle.pool.specs.Meaning.{Words}
-use Rattle.tcc.specs.Flags.{isEnd}
-use Rattle.cut_rules.specs.Words.{Given}
 use Rattle.cut_rules.proofs.Positions.{Rises}
 use Rattle.cut_rules.proofs.Tokens.{Tokens}
-use Rattle.cut_rules.proofs.Result.{tokens}
 use Rattle.safe_rules.specs.declared.Mode.{Mode}
 use Rattle.safe_rules.specs.declared.Mode.the-variants.{Plain}
 use Rattle.safe_rules.specs.Climbing.{Climbs}
-use Rattle.safe_rules.proofs.Climbing.{of-tokens, rises, last-is, no-ends, few}
-use Rattle.safe_rules.proofs.Samples.{Right}
+use Rattle.safe_rules.proofs.Climbing.{rises, last-is, no-ends, few}
 use Rattle.safe_rules.proofs.Modes.{modes-climb}
 use Rattle.cut_answers.specs.Answers.{plainCut, cutOf}
-
--- a text with its cluster ends, and the words held
-abbrev pub given : Words → List ℕ → Given
-given words text = record { text = text; isEnd = isEnd text; held = words }
+use Rattle.cut_answers.proofs.Plain.{given, plain-right}
+use Rattle.cut_answers.proofs.Plain as plain
 
 -- PLAIN MODE: each token is a held word that ends at a cluster end, or no such word starts at its start and it is exactly the span of the
 -- non-dictionary rule there. The first starts at 0, each other where the one before it ends, and the last ends at n.
 pub plain-tokens : (words : Words) (text : List ℕ) → Tokens (given words text) 0 (cutOf Plain words text .ends) (length text)
-unfolding cutOf plainCut
-plain-tokens words text = tokens (given words text)
-
-plain-right : (words : Words) → Right (plainCut words)
-unfolding plainCut
-plain-right words text = of-tokens (tokens (given words text))
+unfolding cutOf
+plain-tokens words text = plain.plain-tokens words text
 
 -- EVERY MODE: ends rise strictly, the last is n, and there is none for an empty text.
 module _ (mode : Mode) (words : Words) (text : List ℕ) where

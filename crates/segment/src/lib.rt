@@ -34,14 +34,13 @@ fn longest_start(ends: &[u32]) -> usize
     let mut from = 0;
     let mut i = 0;
     while i < ends.len() {
-        let e = wide(ends[i]);
-        let length = e - from;
-        if most <= length {
-            start = from;
-            most = length;
-        }
-        from = e;
+        let begin = from;
+        from = wide(ends[i]);
         i += 1;
+        if most <= from - begin {
+            start = begin;
+            most = from - begin;
+        }
     }
     start
 }
