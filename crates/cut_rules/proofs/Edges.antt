@@ -43,13 +43,24 @@ pub reach-more : {a z : ℕ} (es ds : List Edge) → Reach (graphOf es) a z → 
 reach-more es ds here = here
 reach-more es ds (edge {x = x} {z = z} r m) = edge (reach-more es ds r) (in-graph x z (es ++ ds) (Memᴰ·append-left ds (graph-in x z es m)))
 
+-- an edge more at the end
+pub graph-more : (es : List Edge) (b e v : ℕ) → graphOf (es ++ (edgeOf b e ∷ [])) v ≡ graphOf es v ++ cond (eqb b v) (e ∷ []) []
+unfolding graphOf
+graph-more [] b e v = refl
+graph-more (d ∷ es) b e v = go (eqb (d .from) v) (graph-more es b e v)
+  where
+    go : (t : Bool) → graphOf (es ++ (edgeOf b e ∷ [])) v ≡ graphOf es v ++ cond (eqb b v) (e ∷ []) []
+        → cond t (d .to ∷ graphOf (es ++ (edgeOf b e ∷ [])) v) (graphOf (es ++ (edgeOf b e ∷ [])) v) ≡ cond t (d .to ∷ graphOf es v) (graphOf es v) ++ cond (eqb b v) (e ∷ []) []
+    go true ih = ap (λ (l : List ℕ). d .to ∷ l) ih
+    go false ih = ih
+
 -- ---- how many edges stand
 
-one-more : (b e : ℕ) (s : State) → length (recorded b e s .edges) ≡ length (s .edges) + 1
+pub one-more : (b e : ℕ) (s : State) → length (recorded b e s .edges) ≡ length (s .edges) + 1
 unfolding recorded
 one-more b e s = length-append (s .edges) (edgeOf b e ∷ [])
 
-one-counted : (b e : ℕ) (s : State) → recorded b e s .count ≡ suc (s .count)
+pub one-counted : (b e : ℕ) (s : State) → recorded b e s .count ≡ suc (s .count)
 unfolding recorded
 one-counted b e s = refl
 

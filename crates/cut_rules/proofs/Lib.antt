@@ -1,6 +1,7 @@
 pub mod Positions
 pub mod Counting
 pub mod Spans
+pub mod Lengths
 pub mod Search
 pub mod Edges
 pub mod Tokens

@@ -5,6 +5,7 @@ use mathlib.Core.Path.{_≡_, refl, sym, _∙_, ap}
 use mathlib.Core.Bool.{Bool, true, false, cond, _||_}
 use mathlib.Core.Logic.{_⊎_, inl, inr, ⊎-elim}
 use mathlib.Core.List.{List, [], _∷_, List·Memᴰ, List·Memᴰ·head, List·Memᴰ·tail, List·Memᴰ·cases-cons, List·Memᴰ·not-nil}
+use lib.ListN.{length}
 use lib.Dec.{ltb, eqb}
 use borrow.Author.Tests.{eqb-true, eqb-false, eq-eqb, ltb-true, ltb-false}
 use Rattle.cut_rules.specs.Positions.{upFrom, keep, those, firstOr, any, member, inserted}
@@ -168,3 +169,13 @@ module _ (p : ℕ) where
       go ih true t k = List·Memᴰ·cases-cons k
       go ih false true k = inr k
       go ih false false k = back ih (List·Memᴰ·cases-cons k)
+
+  pub put-size : (xs : List ℕ) → (In p xs → ⊥) → length (inserted p xs) ≡ suc (length xs)
+  unfolding inserted
+  put-size [] n = refl
+  put-size (x ∷ xs) n = go (put-size xs (λ m. n (List·Memᴰ·tail m))) (ltb p x) (eqb p x) refl
+    where
+      go : length (inserted p xs) ≡ suc (length xs) → (s t : Bool) → eqb p x ≡ t → length (cond s (p ∷ x ∷ xs) (cond t (x ∷ xs) (x ∷ inserted p xs))) ≡ suc (suc (length xs))
+      go ih true t e = refl
+      go ih false true e = absurd (n (List·Memᴰ·head (eqb-true p x e)))
+      go ih false false e = ap suc ih

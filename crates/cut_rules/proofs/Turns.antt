@@ -215,3 +215,27 @@ turn-on {g} {s} h k =
 pub turn-off : {g : Given} {s : State} (h : Between g s) → size g ≤ h .least → turn g (s .candidates) s ≡ s
 unfolding turn
 turn-off {g} {s} h k = ap (λ (l : List ℕ). turn g l s) (h .is) ∙ rw (le-ltb (h .least) (size g) k)
+
+-- What a turn at b comes to: the words there are recorded, and the candidates left decide.
+abbrev pub afterWords : Given → State → ℕ → List ℕ → State
+afterWords g s b cs = recordedAll b (wordEnds g b) (takenOut cs s)
+
+pub record At (g : Given) (s : State) (b : ℕ) (cs : List ℕ) : Type 0 where
+  pub is : s .candidates ≡ b ∷ cs
+  pub handled : Handled g b s
+  pub order : s .committed ≤ b
+  pub placed-at : Placed g b (wordEnds g b) (takenOut cs s) (afterWords g s b cs)
+  pub turn-is : turn g (s .candidates) s ≡ settled g b (afterWords g s b cs .candidates) (afterWords g s b cs)
+  pub turned-to : Turned g b (settled g b (afterWords g s b cs .candidates) (afterWords g s b cs))
+
+pub turn-at : {g : Given} {s : State} (h : Between g s) → h .least < size g → At g s (h .least) (h .rest)
+unfolding turn
+turn-at {g} {s} h k =
+    record {
+      is = h .is;
+      handled = h .handled;
+      order = h .order;
+      placed-at = step1 g s (h .least) (h .rest) (h .is) k (h .handled) (h .order) (h .sole) (h .few) (h .total) (h .tokens);
+      turn-is = ap (λ (l : List ℕ). turn g l s) (h .is) ∙ rw (lt-ltb (h .least) (size g) k);
+      turned-to = settles g s (h .least) (h .rest) (h .is) k (h .handled) (h .order) (h .sole) (h .few) (h .total) (h .tokens) (afterWords g s (h .least) (h .rest) .candidates) refl;
+    }

@@ -1,0 +1,3 @@
+pub mod Small
+pub mod Rounds
+pub mod Whole
