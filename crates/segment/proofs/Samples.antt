@@ -11,7 +11,8 @@ use Rattle.char_string.specs.Blanks.{lastSpace}
 use Rattle.pool.specs.Words.{holds}
 use Rattle.cut_rules.specs.Cutting.{Cut}
 use Rattle.one_cut.specs.declared.Ends.{Ends}
-use Rattle.one_cut.specs.Rows.{givenBy, Lent, Done}
+use Rattle.word_walk.specs.Walks.{givenBy}
+use Rattle.one_cut.specs.Rows.{Lent, Done}
 use Rattle.rows.proofs.Filling.{map-long}
 use Rattle.safe_rules.specs.Climbing.{Climbs, there, up}
 use Rattle.safe_rules.specs.Longest.{lengths, beforeLongest}
@@ -25,7 +26,7 @@ use Rattle.segment.specs.Rows.{Rising, Ready, Written, shiftedCut, Sampl
 
 -- a text that is no longer finds all that it asks
 pub lent : {text pool row : List ℕ} → Ready text pool row → (part : List ℕ) → length part ≤ length text → Lent part pool row
-lent r part h = record { short = omega (arith, r .short); root-is = r .root-is; size = omega (arith, r .room); blank = r .blank; magic = r .magic }
+lent r part h = record { short = omega (arith, r .short); root-is = r .root-is; room = omega (arith, r .room); blank = λ k h. r .blank k }
 
 pub written : {text pool row row′ : List ℕ} {r : Ends} → Done (givenBy text pool) row row′ r → Written (plainCut (holds pool) text) row row′ r
 unfolding plainCut

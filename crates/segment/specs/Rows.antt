@@ -5,10 +5,8 @@ use mathlib.Core.List.{List, _++_}
 use lib.ListN.{length, getD, drop}
 use Rattle.char_string.specs.Blanks.{lastSpace}
 use Rattle.pool.specs.Sound.{Readable}
-use Rattle.cut_rules.specs.Words.{Given}
-use Rattle.cut_rules.specs.Cutting.{Cut, cut}
+use Rattle.cut_rules.specs.Cutting.{Cut}
 use Rattle.one_cut.specs.declared.Ends.{Ends}
-use Rattle.one_cut.specs.Rows.{stub}
 use Rattle.safe_rules.specs.Climbing.{Climbs}
 use Rattle.safe_rules.specs.Parts.{Cutter, sampleOf, cutAt, sampled}
 use Rattle.safe_rules.specs.Modes.{shifted, edgesOf}
@@ -25,7 +23,6 @@ pub record Ready (text pool row : List ℕ) : Type 0 where
   pub root-is : Readable pool 0
   pub room : 9 * length text + 128 ≤ length row
   pub blank : (k : ℕ) → getD row k 0 ≡ 0
-  pub magic : (g : Given) → cut g ≡ stub g
 
 -- the ends stand at the front, and the rest is as it was
 pub record Written (c : Cut) (row row′ : List ℕ) (r : Ends) : Type 0 where
