@@ -27,36 +27,36 @@ unfoldable pub cutOf : Mode → Words → List ℕ → Cut
 cutOf mode words text = segmented mode (plainCut words) text
 
 -- 5: scratch has fewer than 9n+128 cells; 9n+128.
-abbrev pub scratchRows : List ℕ → List ℕ → List Row
-scratchRows text scratch = record { refusal = ScratchTooShort (9 * length text + 128); holds = ltb (length scratch) (9 * length text + 128) } ∷ []
-
--- 2, 3, 4, 5: before any cutting is done.
-abbrev pub firstRows : List ℕ → Option Words → List ℕ → List Row
-firstRows text pool scratch = readRows text pool ++ scratchRows text scratch
+abbrev pub scratchRows : List ℕ → ℕ → List Row
+scratchRows text cells = record { refusal = ScratchTooShort (9 * length text + 128); holds = ltb cells (9 * length text + 128) } ∷ []
 
 -- 6: the output has fewer cells than the answer; cells needed.
-abbrev pub outRows : List ℕ → List ℕ → List Row
-outRows ends out = record { refusal = OutputTooShort (length ends); holds = ltb (length out) (length ends) } ∷ []
+abbrev pub outRows : List ℕ → ℕ → List Row
+outRows ends room = record { refusal = OutputTooShort (length ends); holds = ltb room (length ends) } ∷ []
 
--- Cutting: 2, 3, 4, 5, 6.
-abbrev pub cutRows : Mode → List ℕ → Option Words → List ℕ → List ℕ → List Row
-cutRows mode text pool scratch out = firstRows text pool scratch ++ outRows (cutOf mode (held pool) text .ends) out
+-- 2, 3, 4, 5: before any cutting is done. `cells` is the number of scratch cells.
+abbrev pub firstRows : List ℕ → Option Words → ℕ → List Row
+firstRows text pool cells = readRows text pool ++ scratchRows text cells
+
+-- Cutting: 2, 3, 4, 5, 6. `room` is the number of output cells.
+abbrev pub cutRows : Mode → List ℕ → Option Words → ℕ → ℕ → List Row
+cutRows mode text pool cells room = firstRows text pool cells ++ outRows (cutOf mode (held pool) text .ends) room
 
 -- The call is accepted with the number of ends, or refused.
-abbrev pub accepts : Mode → List ℕ → Option Words → List ℕ → List ℕ → Answer
-accepts mode text pool scratch out = answer (cutRows mode text pool scratch out) (length (cutOf mode (held pool) text .ends))
+abbrev pub accepts : Mode → List ℕ → Option Words → ℕ → ℕ → Answer
+accepts mode text pool cells room = answer (cutRows mode text pool cells room) (length (cutOf mode (held pool) text .ends))
 
 -- The result carries the number of ends and reports the number of edges recorded in the whole call.
 abbrev pub told : Answer → ℕ → CutAnswer
 told (Accepted n) edges = Ends n edges
 told (Refused r) edges = variants.Refused r
 
-abbrev pub cutAnswer : Mode → List ℕ → Option Words → List ℕ → List ℕ → CutAnswer
-cutAnswer mode text pool scratch out = told (accepts mode text pool scratch out) (cutOf mode (held pool) text .edges)
+abbrev pub cutAnswer : Mode → List ℕ → Option Words → ℕ → ℕ → CutAnswer
+cutAnswer mode text pool cells room = told (accepts mode text pool cells room) (cutOf mode (held pool) text .edges)
 
 -- A refusal changes no output. An accepted call writes the first cells of the output and keeps the rest.
-abbrev pub outAfter : Mode → List ℕ → Option Words → List ℕ → List ℕ → List ℕ
-outAfter mode text pool scratch out = output (accepts mode text pool scratch out) (cutOf mode (held pool) text .ends) out
+abbrev pub outAfter : Mode → List ℕ → Option Words → ℕ → List ℕ → List ℕ
+outAfter mode text pool cells out = output (accepts mode text pool cells (length out)) (cutOf mode (held pool) text .ends) out
 
 -- Scratch is untouched after 2 to 5, and all zero after 6 and after an accepted cutting call.
 abbrev pub cleared : Answer → List ℕ → List ℕ
@@ -64,4 +64,4 @@ cleared (Accepted n) scratch = replicate (length scratch) 0
 cleared (Refused r) scratch = scratch
 
 abbrev pub scratchAfter : List ℕ → Option Words → List ℕ → List ℕ
-scratchAfter text pool scratch = cleared (answer (firstRows text pool scratch) 0) scratch
+scratchAfter text pool scratch = cleared (answer (firstRows text pool (length scratch)) 0) scratch

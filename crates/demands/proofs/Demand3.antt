@@ -24,7 +24,7 @@ use Rattle.demands.specs.Demand3.{Reached, Call, answerOf, outOf, Demand
 use Rattle.demands.proofs.Reaching.{means}
 
 -- an answer with ends is an accepted one
-pub told-ends : (x : Answer) (k n e : ℕ) → told x k ≡ Ends n e → (x ≡ Accepted n) × (k ≡ e)
+told-ends : (x : Answer) (k n e : ℕ) → told x k ≡ Ends n e → (x ≡ Accepted n) × (k ≡ e)
 told-ends (Accepted m) k n e h = (let q : m ≡ n = cc in ap Accepted q, cc)
 told-ends (Refused r) k n e h = absurd (let z : _≡_ {A = ℕ} 0 1 = cc in omega arith)
 
@@ -38,31 +38,35 @@ all-pass (r ∷ rs) n t = ap (λ (b : Bool). cond b (Refused (r .refusal)) (answ
 
 module _ (mode : Mode) (text : List ℕ) (words : Words) (n : ℕ) where
   -- the ends of an accepted call stand at the front of its output
-  pub front-is : (scratch out : List ℕ) → accepts mode text (some words) scratch out ≡ Accepted n → take n (outAfter mode text (some words) scratch out) ≡ cutOf mode words text .ends
-  front-is scratch out h =
+  front-is : (cells : ℕ) (out : List ℕ) → accepts mode text (some words) cells (length out) ≡ Accepted n → take n (outAfter mode text (some words) cells out) ≡ cutOf mode words text .ends
+  front-is cells out h =
       ap (λ (r : Answer). take n (output r (cutOf mode words text .ends) out)) h
-      ∙ take-at (cutOf mode words text .ends) (drop (length (cutOf mode words text .ends)) out) n (accepted-is (cutRows mode text (some words) scratch out) _ n h)
+      ∙ take-at (cutOf mode words text .ends) (drop (length (cutOf mode words text .ends)) out) n (accepted-is (cutRows mode text (some words) cells (length out)) _ n h)
 
   -- with scratch and room enough, one accepted call makes the other accepted
-  other-accepted : (scratch scratch′ out out′ : List ℕ) → accepts mode text (some words) scratch out ≡ Accepted n → 9 * length text + 128 ≤ length scratch′ → n ≤ length out′
-      → accepts mode text (some words) scratch′ out′ ≡ Accepted n
-  other-accepted scratch scratch′ out out′ h s o =
-      let r = none-of (cutRows mode text (some words) scratch out) (length (cutOf mode words text .ends)) n h in
-      let e = accepted-is (cutRows mode text (some words) scratch out) (length (cutOf mode words text .ends)) n h in
-      all-pass (cutRows mode text (some words) scratch′ out′) (length (cutOf mode words text .ends))
-      (r .0, (r .1 .0, (refl, (le-ltb (length scratch′) (9 * length text + 128) s, (le-ltb (length out′) (length (cutOf mode words text .ends)) (omega arith), tt)))))
+  other-accepted : (cells cells′ room room′ : ℕ) → accepts mode text (some words) cells room ≡ Accepted n → 9 * length text + 128 ≤ cells′ → n ≤ room′
+      → accepts mode text (some words) cells′ room′ ≡ Accepted n
+  other-accepted cells cells′ room room′ h s o =
+      let r = none-of (cutRows mode text (some words) cells room) (length (cutOf mode words text .ends)) n h in
+      let e = accepted-is (cutRows mode text (some words) cells room) (length (cutOf mode words text .ends)) n h in
+      all-pass (cutRows mode text (some words) cells′ room′) (length (cutOf mode words text .ends))
+      (r .0, (r .1 .0, (refl, (le-ltb cells′ (9 * length text + 128) s, (le-ltb room′ (length (cutOf mode words text .ends)) (omega arith), tt)))))
       ∙ ap Accepted e
 
 pub demand-3 : Demand3
 demand-3 a b v w ra rb same text mode n edges h s o =
     let ma : meaning (a .pool) ≡ some w = means ra ∙ (λ i. some (λ (x : List ℕ). same x i)) in
     let mb : meaning (b .pool) ≡ some w = means rb in
-    let ha : cutAnswer (b .mode) (b .text) (some w) (a .scratch) (a .out) ≡ Ends n edges = sym (λ i. cutAnswer (mode i) (text i) (ma i) (a .scratch) (a .out)) ∙ h in
-    let t = told-ends (accepts (b .mode) (b .text) (some w) (a .scratch) (a .out)) (cutOf (b .mode) w (b .text) .edges) n edges ha in
-    let q = other-accepted (b .mode) (b .text) w n (a .scratch) (b .scratch) (a .out) (b .out) (t .0) s o in (
-      ap (λ (m : Option Words). cutAnswer (b .mode) (b .text) m (b .scratch) (b .out)) mb ∙ ap (λ (x : Answer). told x (cutOf (b .mode) w (b .text) .edges)) q ∙ ap (λ (k : ℕ). Ends n k) (t .1),
-      ap (λ (m : Option Words). take n (outAfter (b .mode) (b .text) m (b .scratch) (b .out))) mb
-          ∙ front-is (b .mode) (b .text) w n (b .scratch) (b .out) q
-          ∙ sym (front-is (b .mode) (b .text) w n (a .scratch) (a .out) (t .0))
-          ∙ sym (λ i. take n (outAfter (mode i) (text i) (ma i) (a .scratch) (a .out))),
+    let ha : cutAnswer (b .mode) (b .text) (some w) (length (a .scratch)) (length (a .out)) ≡ Ends n edges =
+        sym (λ i. cutAnswer (mode i) (text i) (ma i) (length (a .scratch)) (length (a .out))) ∙ h in
+    let t = told-ends (accepts (b .mode) (b .text) (some w) (length (a .scratch)) (length (a .out))) (cutOf (b .mode) w (b .text) .edges) n edges ha in
+    let q = other-accepted (b .mode) (b .text) w n (length (a .scratch)) (length (b .scratch)) (length (a .out)) (length (b .out)) (t .0) s o in
+    (
+      ap (λ (m : Option Words). cutAnswer (b .mode) (b .text) m (length (b .scratch)) (length (b .out))) mb
+      ∙ ap (λ (x : Answer). told x (cutOf (b .mode) w (b .text) .edges)) q
+      ∙ ap (λ (k : ℕ). Ends n k) (t .1),
+      ap (λ (m : Option Words). take n (outAfter (b .mode) (b .text) m (length (b .scratch)) (b .out))) mb
+      ∙ front-is (b .mode) (b .text) w n (length (b .scratch)) (b .out) q
+      ∙ sym (front-is (b .mode) (b .text) w n (length (a .scratch)) (a .out) (t .0))
+      ∙ sym (λ i. take n (outAfter (mode i) (text i) (ma i) (length (a .scratch)) (a .out))),
     )

@@ -47,10 +47,10 @@ pub record Call : Type 0 where
 
 -- What its contract says of the answer, and of the output afterwards.
 abbrev pub answerOf : Call → CutAnswer
-answerOf c = cutAnswer (c .mode) (c .text) (meaning (c .pool)) (c .scratch) (c .out)
+answerOf c = cutAnswer (c .mode) (c .text) (meaning (c .pool)) (length (c .scratch)) (length (c .out))
 
 abbrev pub outOf : Call → List ℕ
-outOf c = outAfter (c .mode) (c .text) (meaning (c .pool)) (c .scratch) (c .out)
+outOf c = outAfter (c .mode) (c .text) (meaning (c .pool)) (length (c .scratch)) (c .out)
 
 -- Two calls with the same text and mode, on pools that were reached from fresh ones and hold the same words. If one answers, and the other has 9n+128
 -- cells of scratch and room for those ends, then the other answers too, with the same number of ends, the same edge count and the same ends.

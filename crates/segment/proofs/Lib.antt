@@ -1,2 +1,4 @@
 pub mod Longest
 pub mod Samples
+pub mod Behind
+pub mod Rounds

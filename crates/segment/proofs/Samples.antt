@@ -3,7 +3,7 @@ use Prim.Native.Nat.{ℕ, zero, suc, _+_, _*_, _-_, _≤_, _<_}
 use native.Mathlib.Omega.{arith}
 use mathlib.Core.Path.{_≡_, refl, sym, _∙_, ap, subst}
 use mathlib.Core.List.{List, [], _∷_, _++_, map}
-use lib.ListN.{length, getD, take, drop, replicate, length-append, length-drop, List·getD-append}
+use lib.ListN.{length, getD, take, drop, replicate, length-append, length-take, length-drop, List·getD-append}
 use lib.Seq.{length-take-le, take-at, drop-at}
 use Rattle.char_string.specs.declared.blanks.Found.{Found}
 use Rattle.char_string.specs.declared.blanks.Found.the-variants.{At, Nothing}
@@ -19,10 +19,11 @@ use Rattle.safe_rules.specs.Longest.{lengths, beforeLongest}
 use Rattle.safe_rules.specs.Parts.{Cutter, sampleOf, cutFor, cutAt, sampled}
 use Rattle.safe_rules.specs.Modes.{shifted, edgesOf}
 use Rattle.safe_rules.proofs.Climbing.{onward, few}
-use Rattle.safe_rules.proofs.Samples.{Right, space-inside, starts-inside}
+use Rattle.safe_rules.proofs.Samples.{Fits, Right, space-inside, starts-inside, cut-inside}
 use Rattle.cut_answers.specs.Answers.{plainCut}
+use Rattle.segment.specs.declared.Part.{Part}
 use Rattle.segment.specs.declared.PartEnd.{PartEnd}
-use Rattle.segment.specs.Rows.{Rising, Ready, Written, shiftedCut, Sampled}
+use Rattle.segment.specs.Rows.{Rising, Ready, Written, shiftedCut, Sampled, firstOf, FirstPart}
 
 -- a text that is no longer finds all that it asks
 pub lent : {text pool row : List ℕ} → Ready text pool row → (part : List ℕ) → length part ≤ length text → Lent part pool row
@@ -122,3 +123,44 @@ module _ {rest pool row : List ℕ} (ready : Ready rest pool row) (long : 140 �
     row-back row″ h =
         h ∙ ap (λ (x : List ℕ). replicate {A = ℕ} (r .ends) 0 ++ x) (behind w) ∙ ap (λ (k : ℕ). replicate {A = ℕ} k 0 ++ drop (length (plain (sampleOf rest) .ends)) row) (w .ends)
         ∙ blank-front (length (plain (sampleOf rest) .ends)) row (ready .blank) (omega (arith, few (right (sampleOf rest)), sample-long, ready .room))
+
+-- a sample has 40 characters at most, and so few edges are recorded in it
+few-for : (plain : Cutter) → ((t : List ℕ) → plain t .edges ≤ 51 * length t) → (sample : List ℕ) → length sample ≤ 40 → (w : Found) → edgesOf plain (sampled sample w) ≤ 2040
+unfolding edgesOf
+few-for plain small sample h (At i) = omega arith
+few-for plain small sample h Nothing = omega (arith, small sample)
+
+pub sample-few : (plain : Cutter) → ((t : List ℕ) → plain t .edges ≤ 51 * length t) → (rest : List ℕ) → edgesOf plain (sampled (sampleOf rest) (lastSpace (sampleOf rest))) ≤ 2040
+sample-few plain small rest = few-for plain small (sampleOf rest) (omega (arith, length-take 40 (drop 100 rest))) (lastSpace (sampleOf rest))
+
+-- ---- the first part
+
+pub by-fits : (by : ℕ) → 1 ≤ by → by ≤ 101 → Fits (λ (i : ℕ). i + by)
+by-fits by h l = record { some = λ i k. omega arith; inside = λ i k. omega arith }
+
+module _ {rest pool row : List ℕ} (ready : Ready rest pool row) (long : 140 ≤ length rest) (by : ℕ) (some : 1 ≤ by) (most : by ≤ 101) (right : Right (plainCut (holds pool))) {p : PartEnd}
+    (s : Sampled (λ (i : ℕ). i + by) (plainCut (holds pool)) rest p) where
+  pub part-inside : (0 < p .at) × (p .at ≤ 140)
+  part-inside =
+      let c = cut-inside (λ (i : ℕ). i + by) (plainCut (holds pool)) (by-fits by some most) right rest long in
+      (omega (arith, c .0, s .at), omega (arith, c .1, s .at))
+
+  pub part-ready : Ready (take (p .at) rest) pool row
+  part-ready =
+      let l = length-take-le (p .at) rest (omega (arith, part-inside .1)) in
+      record { short = omega (arith, ready .short, part-inside .1); root-is = ready .root-is; room = omega (arith, ready .room, part-inside .1); blank = ready .blank }
+
+  pub part-size : length (take (p .at) rest) ≡ p .at
+  part-size = length-take-le (p .at) rest (omega (arith, part-inside .1))
+
+  pub first-is : {r : Ends} {row′ : List ℕ} (start : ℕ) → Written (shiftedCut start (plainCut (holds pool) (take (p .at) rest))) row row′ r
+      → FirstPart (λ (i : ℕ). i + by) (plainCut (holds pool)) rest start row row′ (record { size = p .at; ends = r .ends; edges = p .edges + r .edges })
+  first-is {r} {row′} start w =
+      let t : take (p .at) rest ≡ firstOf (λ (i : ℕ). i + by) (plainCut (holds pool)) rest = ap (λ (k : ℕ). take k rest) (s .at) in
+      let l = map-long (λ (e : ℕ). start + e) (plainCut (holds pool) (take (p .at) rest) .ends) in
+      record {
+        size = s .at;
+        ends = w .ends ∙ l ∙ ap (λ (q : List ℕ). length (plainCut (holds pool) q .ends)) t;
+        edges = (λ i. s .edges i + (w .edges ∙ ap (λ (q : List ℕ). plainCut (holds pool) q .edges) t) i);
+        is = w .is ∙ (λ i. shifted start (plainCut (holds pool) (t i) .ends) ++ drop (sym (w .ends) i) row);
+      }

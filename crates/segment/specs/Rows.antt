@@ -2,7 +2,7 @@
 use Prim.Native.Nat.{ℕ, _+_, _*_, _≤_}
 use mathlib.Core.Path.{_≡_}
 use mathlib.Core.List.{List, _++_}
-use lib.ListN.{length, getD, drop}
+use lib.ListN.{length, getD, take, drop}
 use Rattle.char_string.specs.Blanks.{lastSpace}
 use Rattle.pool.specs.Sound.{Readable}
 use Rattle.cut_rules.specs.Cutting.{Cut}
@@ -10,6 +10,7 @@ use Rattle.one_cut.specs.declared.Ends.{Ends}
 use Rattle.safe_rules.specs.Climbing.{Climbs}
 use Rattle.safe_rules.specs.Parts.{Cutter, sampleOf, cutAt, sampled}
 use Rattle.safe_rules.specs.Modes.{shifted, edgesOf}
+use Rattle.segment.specs.declared.Part.{Part}
 use Rattle.segment.specs.declared.PartEnd.{PartEnd}
 
 -- the ends of some tokens
@@ -37,3 +38,14 @@ shiftedCut by c = record { ends = shifted by (c .ends); edges = c .edges }
 pub record Sampled (spaceCut : ℕ → ℕ) (plain : Cutter) (rest : List ℕ) (r : PartEnd) : Type 0 where
   pub at : r .at ≡ cutAt spaceCut plain rest
   pub edges : r .edges ≡ edgesOf plain (sampled (sampleOf rest) (lastSpace (sampleOf rest)))
+
+-- the first part of the remaining text
+abbrev pub firstOf : (ℕ → ℕ) → Cutter → List ℕ → List ℕ
+firstOf spaceCut plain rest = take (cutAt spaceCut plain rest) rest
+
+-- its ends stand at the front of the row, shifted by where it starts
+pub record FirstPart (spaceCut : ℕ → ℕ) (plain : Cutter) (rest : List ℕ) (start : ℕ) (row row′ : List ℕ) (r : Part) : Type 0 where
+  pub size : r .size ≡ cutAt spaceCut plain rest
+  pub ends : r .ends ≡ length (plain (firstOf spaceCut plain rest) .ends)
+  pub edges : r .edges ≡ edgesOf plain (sampled (sampleOf rest) (lastSpace (sampleOf rest))) + plain (firstOf spaceCut plain rest) .edges
+  pub is : row′ ≡ shifted start (plain (firstOf spaceCut plain rest) .ends) ++ drop (r .ends) row

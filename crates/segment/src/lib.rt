@@ -16,11 +16,18 @@ ghost use Rattle.pool.specs.Words.{holds};
 ghost use Rattle.safe_rules.specs.Longest.{lengths, beforeLongest};
 ghost use Rattle.safe_rules.specs.Modes.{inParts};
 ghost use Rattle.cut_answers.specs.Answers.{plainCut, cutOf};
-ghost use Rattle.segment.specs.Rows.{Rising, Ready, Written, shiftedCut, Sampled};
+ghost use Rattle.segment.specs.Rows.{Rising, Ready, Written, shiftedCut, Sampled, FirstPart};
 
 // Where a part ends, and the edges that were recorded to find that.
 pub struct PartEnd {
     pub at: usize,
+    pub edges: usize,
+}
+
+// A part: how many characters it has, the number of its ends, and the edges recorded in it and in its sample.
+pub struct Part {
+    pub size: usize,
+    pub ends: usize,
     pub edges: usize,
 }
 
@@ -78,22 +85,34 @@ fn cut_part(part: &[u32], pool: &[u32], row: &mut [u32], start: usize) -> Ends
     r
 }
 
+// Cuts the first part off the remaining text, which starts at `start` and has 140 characters or more.
+fn first_part(rest: &[u32], pool: &[u32], row: &mut [u32], start: usize, by: usize) -> Part
+    requires { ⌜ Ready (now rest) (now pool) (now row) × (140 ≤ length (now rest)) × (1 ≤ by) × (by ≤ 101) × (start + length (now rest) ≤ 65535) ⌝ }
+    ensures { λ r. ⌜ FirstPart (λ (i : ℕ). i + by) (plainCut (holds (now (pool .entry)))) (now (rest .entry)) start (now (row .entry)) (now (row .exit)) r ⌝ }
+{
+    let cut = cut_at(rest, pool, row, by);
+    let size = cut.at;
+    let r = cut_part(&rest[..size], pool, row, start);
+    Part {
+        size,
+        ends: r.ends,
+        edges: cut.edges + r.edges,
+    }
+}
+
 // Cuts a text in parts. Each part's ends are written straight behind those of the part before.
 fn in_parts(text: &[u32], pool: &[u32], row: &mut [u32], by: usize) -> Ends
-    requires { ⌜ Ready (now text) (now pool) (now row) × (1 ≤ by) × (by ≤ 101) ⌝ }
-    requires { ⌜ 140 ≤ length (now text) ⌝ }
+    requires { ⌜ Ready (now text) (now pool) (now row) × (140 ≤ length (now text)) × (1 ≤ by) × (by ≤ 101) ⌝ }
     ensures { λ r. ⌜ Written (inParts (λ (i : ℕ). i + by) (plainCut (holds (now (pool .entry)))) (now (text .entry))) (now (row .entry)) (now (row .exit)) r ⌝ }
 {
     let mut start = 0;
     let mut count = 0;
     let mut edges = 0;
     while TEXT_SCAN_END <= text.len() - start {
-        let cut = cut_at(&text[start..], pool, &mut row[count..], by);
-        let end = start + cut.at;
-        let r = cut_part(&text[start..end], pool, &mut row[count..], start);
-        start = end;
-        count += r.ends;
-        edges += cut.edges + r.edges;
+        let p = first_part(&text[start..], pool, &mut row[count..], start, by);
+        start += p.size;
+        count += p.ends;
+        edges += p.edges;
     }
     let r = cut_part(&text[start..], pool, &mut row[count..], start);
     Ends {

@@ -2,7 +2,7 @@
 -- uses
 use native.Mathlib.Omega.{arith}
 use mathlib.Core.Path.{_≡_, refl, sym, _∙_}
-use lib.ListN.{length}
+use lib.ListN.{length, drop, length-take}
 use lib.Seq.{length-take-le}
 use Rattle.pool.specs.Words.{holds}
 use Rattle.cut_answers.proofs.Plain.{plain-right}
@@ -50,7 +50,7 @@ enum-told c = search needs
 
 -- src/lib.rt:62:17
 one-cut-requires : tie.Need-one-cut-requires
-one-cut-requires c κs = search needs
+one-cut-requires c κs = lent (c .before .before .before .before .before .before .before .before .pre .0) _ (omega (arith, length-take 40 (drop 100 (c .before .before .before .before .before .before .before .before .args .rest .now))))
 
 -- src/lib.rt:64:54
 slice-reshare-prefix-longest-start : tie.Need-slice-reshare-prefix-longest-start
