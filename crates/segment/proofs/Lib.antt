@@ -2,3 +2,4 @@ pub mod Longest
 pub mod Samples
 pub mod Behind
 pub mod Rounds
+pub mod Modes

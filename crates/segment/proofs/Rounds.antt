@@ -74,6 +74,40 @@ until-none space plain text old =
       few-edges = omega arith;
     }
 
+-- ---- what is lent on
+
+module _ {space : ℕ → ℕ} {plain : Cutter} {text old row : List ℕ} {start count edges : ℕ} (u : Until space plain text old row start count edges) where
+  pub few-ends : count ≤ start
+  few-ends = omega (arith, u .number, few (u .climbs))
+
+  -- the remaining text, and the row from the current count onward
+  pub rest-is : take (length text - start) (drop start text) ≡ drop start text
+  rest-is = tail-drop text start
+
+  pub lent-is : take (length row - count) (drop count row) ≡ drop count old
+  lent-is = tail-drop row count ∙ ap (drop count) (u .row-is) ∙ drop-at (u .done) (drop count old) count (sym (u .number))
+
+  pub row-long : length text ≤ length old → length row ≡ length old
+  row-long h = ap length (u .row-is) ∙ omega (arith, length-append (u .done) (drop count old), length-drop count old, u .number, few-ends, u .inside)
+
+  pub rest-ready : {pool : List ℕ} → Ready text pool old → Ready (take (length text - start) (drop start text)) pool (take (length row - count) (drop count row))
+  rest-ready ready =
+      record {
+        short = omega (arith, ready .short, ap length rest-is, length-drop start text);
+        root-is = ready .root-is;
+        room = omega (arith, ready .room, ap length rest-is, length-drop start text, ap length lent-is, length-drop count old, few-ends, u .inside);
+        blank = λ k. ap (λ (l : List ℕ). getD l k 0) lent-is ∙ getD-drop count old k 0 ∙ ready .blank (count + k);
+      }
+
+  pub room-left : {pool : List ℕ} → Ready text pool old → (count ≤ length row) × (count ≤ 65535)
+  room-left ready = (omega (arith, row-long (omega (arith, ready .room)), few-ends, u .inside, ready .room), omega (arith, few-ends, u .inside, ready .short))
+
+  pub rest-short : length text ≤ 65535 → start + length (take (length text - start) (drop start text)) ≤ 65535
+  rest-short h = omega (arith, ap length rest-is, length-drop start text, u .inside)
+
+  pub rest-size : length (take (length text - start) (drop start text)) ≡ length text - start
+  rest-size = ap length rest-is ∙ length-drop start text
+
 module _ (space : ℕ → ℕ) (plain : Cutter) (f : Fits space) (right : Right plain) (small : (t : List ℕ) → plain t .edges ≤ 51 * length t) where
   -- ---- one round
 
@@ -139,37 +173,16 @@ module _ (space : ℕ → ℕ) (plain : Cutter) (f : Fits space) (right : Right 
 
   module _ (text old : List ℕ) where
     module _ {row : List ℕ} {start count edges : ℕ} (u : Until space plain text old row start count edges) where
-      pub few-ends : count ≤ start
-      few-ends = omega (arith, u .number, few (u .climbs))
-
-      -- what is lent on: the remaining text, and the row from the current count onward
-      pub rest-is : take (length text - start) (drop start text) ≡ drop start text
-      rest-is = tail-drop text start
-
-      pub lent-is : take (length row - count) (drop count row) ≡ drop count old
-      lent-is = tail-drop row count ∙ ap (drop count) (u .row-is) ∙ drop-at (u .done) (drop count old) count (sym (u .number))
-
-      pub row-long : length text ≤ length old → length row ≡ length old
-      row-long h = ap length (u .row-is) ∙ omega (arith, length-append (u .done) (drop count old), length-drop count old, u .number, few-ends, u .inside)
-
-      pub rest-ready : {pool : List ℕ} → Ready text pool old → Ready (take (length text - start) (drop start text)) pool (take (length row - count) (drop count row))
-      rest-ready ready =
-          record {
-            short = omega (arith, ready .short, ap length rest-is, length-drop start text);
-            root-is = ready .root-is;
-            room = omega (arith, ready .room, ap length rest-is, length-drop start text, ap length lent-is, length-drop count old, few-ends, u .inside);
-            blank = λ k. ap (λ (l : List ℕ). getD l k 0) lent-is ∙ getD-drop count old k 0 ∙ ready .blank (count + k);
-          }
-
-      pub rest-short : length text ≤ 65535 → start + length (take (length text - start) (drop start text)) ≤ 65535
-      rest-short h = omega (arith, ap length rest-is, length-drop start text, u .inside)
-
       abbrev back : List ℕ → List ℕ
       back ys = take count row ++ (ys ++ drop (length row - count) (drop count row))
 
       -- ---- a round
 
-      module _ (long : 140 ≤ length text - start) (ys : List ℕ) (p : Part) (q : FirstPart space plain (drop start text) start (drop count old) ys p) where
+      module _ (long : 140 ≤ length text - start) (ys : List ℕ) (p : Part)
+          (given : FirstPart space plain (take (length text - start) (drop start text)) start (take (length row - count) (drop count row)) ys p) where
+        q : FirstPart space plain (drop start text) start (drop count old) ys p
+        q = subst (λ (t : List ℕ). FirstPart space plain t start (drop count old) ys p) (rest-is u) (subst (λ (t : List ℕ). FirstPart space plain (take (length text - start) (drop start text)) start t ys p) (lent-is u) given)
+
         rest-long : 140 ≤ length (drop start text)
         rest-long = omega (arith, length-drop start text)
 
@@ -195,7 +208,7 @@ module _ (space : ℕ → ℕ) (plain : Cutter) (f : Fits space) (right : Right 
               inside = omega (arith, c .1, length-drop start text, u .inside);
               done = u .done ++ w;
               number = omega (arith, length-append (u .done) w, u .number, q .ends);
-              row-is = behind old row ys (u .done) w count (p .ends) (u .number) (u .row-is) (q .is ∙ ap (λ (x : List ℕ). w ++ drop (p .ends) x) (sym lent-is ∙ tail-drop row count));
+              row-is = behind old row ys (u .done) w count (p .ends) (u .number) (u .row-is) (q .is ∙ ap (λ (x : List ℕ). w ++ drop (p .ends) x) (sym (lent-is u) ∙ tail-drop row count));
               climbs = climbing.behind (u .climbs)
                   (subst (λ (x : ℕ). Climbs x w (start + here)) z
                   (shift start (subst (λ (x : ℕ). Climbs 0 (plain (firstOf space plain (drop start text)) .ends) x) part-long (right (firstOf space plain (drop start text))))));
@@ -207,12 +220,28 @@ module _ (space : ℕ → ℕ) (plain : Cutter) (f : Fits space) (right : Right 
               few-edges = omega (arith, q .edges, few-sampled, small (firstOf space plain (drop start text)), part-long, u .few-edges, c .0);
             }
 
+        -- how far it goes
+        pub part-most : (0 < p .size) × (start + p .size ≤ length text) × (p .ends ≤ p .size) × (p .edges ≤ 2091 * p .size)
+        part-most =
+            let c = inside (drop start text) rest-long 0 in
+            let e = q .size in
+            (
+              omega (arith, c .0),
+              omega (arith, c .1, length-drop start text, u .inside),
+              omega (arith, q .ends, few (right (firstOf space plain (drop start text))), part-long),
+              omega (arith, q .edges, few-sampled, small (firstOf space plain (drop start text)), part-long, c .0),
+            )
+
         pub until-more : Until space plain text old (back ys) (start + p .size) (count + p .ends) (edges + p .edges)
         until-more = subst (λ (x : ℕ). Until space plain text old (back ys) (start + x) (count + p .ends) (edges + p .edges)) (sym (q .size)) (on (u .rounds) (u .enough) (u .ends-are) (u .edges-are))
 
       -- ---- the end
 
-      module _ (whole : 140 ≤ length text) (short : length text - start < 140) (ys : List ℕ) (r : Ends) (q : Written (shiftedCut start (plain (drop start text))) (drop count old) ys r) where
+      module _ (whole : 140 ≤ length text) (short : length text - start < 140) (ys : List ℕ) (r : Ends)
+          (given : Written (shiftedCut start (plain (take (length text - start) (drop start text)))) (take (length row - count) (drop count row)) ys r) where
+        w′ : Written (shiftedCut start (plain (drop start text))) (drop count old) ys r
+        w′ = subst (λ (t : List ℕ). Written (shiftedCut start (plain t)) (drop count old) ys r) (rest-is u) (subst (λ (t : List ℕ). Written (shiftedCut start (plain (take (length text - start) (drop start text)))) t ys r) (lent-is u) given)
+
         rest-under : length (drop start text) < 140
         rest-under = omega (arith, length-drop start text)
 
@@ -228,14 +257,16 @@ module _ (space : ℕ → ℕ) (plain : Cutter) (f : Fits space) (right : Right 
         pub until-all : Written (inParts space plain text) old (back ys) (record { ends = count + r .ends; edges = edges + r .edges })
         until-all =
             let w = shifted start (plain (drop start text) .ends) in
-            let n : count + r .ends ≡ length (u .done ++ w) = omega (arith, length-append (u .done) w, u .number, q .ends) in
+            let n : count + r .ends ≡ length (u .done ++ w) = omega (arith, length-append (u .done) w, u .number, w′ .ends) in
             subst (λ (c : Cut). Written c old (back ys) (record { ends = count + r .ends; edges = edges + r .edges })) (sym all-is)
             (record {
               ends = n;
-              edges = ap (λ (x : ℕ). edges + x) (q .edges);
-              is = behind old row ys (u .done) w count (r .ends) (u .number) (u .row-is) (q .is ∙ ap (λ (k : ℕ). w ++ drop k (drop count old)) (sym (q .ends)) ∙ ap (λ (x : List ℕ). w ++ drop (r .ends) x) (sym lent-is ∙ tail-drop row count))
+              edges = ap (λ (x : ℕ). edges + x) (w′ .edges);
+              is = behind old row ys (u .done) w count (r .ends) (u .number) (u .row-is) (w′ .is ∙ ap (λ (k : ℕ). w ++ drop k (drop count old)) (sym (w′ .ends)) ∙ ap (λ (x : List ℕ). w ++ drop (r .ends) x) (sym (lent-is u) ∙ tail-drop row count))
                   ∙ ap (λ (k : ℕ). (u .done ++ w) ++ drop k old) n;
             })
 
-        pub rest-edges : r .edges ≤ 51 * length text
-        rest-edges = omega (arith, q .edges, small (drop start text), length-drop start text)
+        pub rest-most : (r .ends ≤ length text) × (r .edges ≤ 51 * length text)
+        rest-most =
+            let l = map-long (λ (x : ℕ). start + x) (plain (drop start text) .ends) in
+            (omega (arith, w′ .ends, few (right (drop start text)), length-drop start text), omega (arith, w′ .edges, small (drop start text), length-drop start text))

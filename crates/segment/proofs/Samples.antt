@@ -153,14 +153,14 @@ module _ {rest pool row : List ℕ} (ready : Ready rest pool row) (long : 140 �
   pub part-size : length (take (p .at) rest) ≡ p .at
   part-size = length-take-le (p .at) rest (omega (arith, part-inside .1))
 
-  pub first-is : {r : Ends} {row′ : List ℕ} (start : ℕ) → Written (shiftedCut start (plainCut (holds pool) (take (p .at) rest))) row row′ r
+  pub first-is : {r : Ends} {row₁ row′ : List ℕ} (start : ℕ) → row₁ ≡ row → Written (shiftedCut start (plainCut (holds pool) (take (p .at) rest))) row₁ row′ r
       → FirstPart (λ (i : ℕ). i + by) (plainCut (holds pool)) rest start row row′ (record { size = p .at; ends = r .ends; edges = p .edges + r .edges })
-  first-is {r} {row′} start w =
+  first-is {r} {row₁} {row′} start same w =
       let t : take (p .at) rest ≡ firstOf (λ (i : ℕ). i + by) (plainCut (holds pool)) rest = ap (λ (k : ℕ). take k rest) (s .at) in
       let l = map-long (λ (e : ℕ). start + e) (plainCut (holds pool) (take (p .at) rest) .ends) in
       record {
         size = s .at;
         ends = w .ends ∙ l ∙ ap (λ (q : List ℕ). length (plainCut (holds pool) q .ends)) t;
         edges = (λ i. s .edges i + (w .edges ∙ ap (λ (q : List ℕ). plainCut (holds pool) q .edges) t) i);
-        is = w .is ∙ (λ i. shifted start (plainCut (holds pool) (t i) .ends) ++ drop (sym (w .ends) i) row);
+        is = w .is ∙ (λ i. shifted start (plainCut (holds pool) (t i) .ends) ++ drop (sym (w .ends) i) (same i));
       }
