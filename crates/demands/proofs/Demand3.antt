@@ -58,15 +58,14 @@ demand-3 a b v w ra rb same text mode n edges h s o =
     let ma : meaning (a .pool) ≡ some w = means ra ∙ (λ i. some (λ (x : List ℕ). same x i)) in
     let mb : meaning (b .pool) ≡ some w = means rb in
     let ha : cutAnswer (b .mode) (b .text) (some w) (length (a .scratch)) (length (a .out)) ≡ Ends n edges =
-        sym (λ i. cutAnswer (mode i) (text i) (ma i) (length (a .scratch)) (length (a .out))) ∙ h in
+    sym (λ i. cutAnswer (mode i) (text i) (ma i) (length (a .scratch)) (length (a .out))) ∙ h in
     let t = told-ends (accepts (b .mode) (b .text) (some w) (length (a .scratch)) (length (a .out))) (cutOf (b .mode) w (b .text) .edges) n edges ha in
-    let q = other-accepted (b .mode) (b .text) w n (length (a .scratch)) (length (b .scratch)) (length (a .out)) (length (b .out)) (t .0) s o in
-    (
+    let q = other-accepted (b .mode) (b .text) w n (length (a .scratch)) (length (b .scratch)) (length (a .out)) (length (b .out)) (t .0) s o in (
       ap (λ (m : Option Words). cutAnswer (b .mode) (b .text) m (length (b .scratch)) (length (b .out))) mb
-      ∙ ap (λ (x : Answer). told x (cutOf (b .mode) w (b .text) .edges)) q
-      ∙ ap (λ (k : ℕ). Ends n k) (t .1),
+          ∙ ap (λ (x : Answer). told x (cutOf (b .mode) w (b .text) .edges)) q
+          ∙ ap (λ (k : ℕ). Ends n k) (t .1),
       ap (λ (m : Option Words). take n (outAfter (b .mode) (b .text) m (length (b .scratch)) (b .out))) mb
-      ∙ front-is (b .mode) (b .text) w n (length (b .scratch)) (b .out) q
-      ∙ sym (front-is (b .mode) (b .text) w n (length (a .scratch)) (a .out) (t .0))
-      ∙ sym (λ i. take n (outAfter (mode i) (text i) (ma i) (length (a .scratch)) (a .out))),
+          ∙ front-is (b .mode) (b .text) w n (length (b .scratch)) (b .out) q
+          ∙ sym (front-is (b .mode) (b .text) w n (length (a .scratch)) (a .out) (t .0))
+          ∙ sym (λ i. take n (outAfter (mode i) (text i) (ma i) (length (a .scratch)) (a .out))),
     )

@@ -105,10 +105,10 @@ module _ (mode : Mode) (text pool : List ℕ) (cells : ℕ) (p : Passes text poo
       all-zero h row′ e =
           let d : cells ≡ r .ends + (cells - r .ends) = omega arith in
           let z : drop (length (whole .ends)) (replicate {A = ℕ} cells 0) ≡ replicate {A = ℕ} (cells - r .ends) 0 =
-              ap (λ (k : ℕ). drop k (replicate {A = ℕ} cells 0)) (sym (v .ends))
-              ∙ ap (λ (k : ℕ). drop (r .ends) (replicate {A = ℕ} k 0)) d
-              ∙ ap (drop (r .ends)) (sym (replicate-append-replicate {A = ℕ} (r .ends) (cells - r .ends) 0))
-              ∙ drop-at (replicate {A = ℕ} (r .ends) 0) (replicate {A = ℕ} (cells - r .ends) 0) (r .ends) (length-replicate {A = ℕ} (r .ends) 0)
+          ap (λ (k : ℕ). drop k (replicate {A = ℕ} cells 0)) (sym (v .ends))
+          ∙ ap (λ (k : ℕ). drop (r .ends) (replicate {A = ℕ} k 0)) d
+          ∙ ap (drop (r .ends)) (sym (replicate-append-replicate {A = ℕ} (r .ends) (cells - r .ends) 0))
+          ∙ drop-at (replicate {A = ℕ} (r .ends) 0) (replicate {A = ℕ} (cells - r .ends) 0) (r .ends) (length-replicate {A = ℕ} (r .ends) 0)
           in
           e ∙ ap (λ (x : List ℕ). replicate {A = ℕ} (r .ends) 0 ++ x) (behind v ∙ z) ∙ replicate-append-replicate {A = ℕ} (r .ends) (cells - r .ends) 0 ∙ ap (λ (k : ℕ). replicate {A = ℕ} k 0) (sym d)
 

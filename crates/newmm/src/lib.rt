@@ -33,7 +33,13 @@ fn check_cut(text: &[u32], pool: &[u32], cells: usize) -> Answer
 }
 
 // Cuts a text that none of the refusals 2 to 5 is due to.
-fn cut_checked(text: &[u32], pool: &[u32], out: &mut [u32], scratch: &mut [u32], mode: Mode) -> CutAnswer
+fn cut_checked(
+    text: &[u32],
+    pool: &[u32],
+    out: &mut [u32],
+    scratch: &mut [u32],
+    mode: Mode,
+) -> CutAnswer
     requires { ⌜ Passes (now text) (now pool) (length (now scratch)) ⌝ }
     ensures { λ r. ⌜ r ≡ cutAnswer mode (now (text .entry)) (meaning (now (pool .entry))) (length (now (scratch .entry))) (length (now (out .entry))) ⌝ }
     ensures { λ _. ⌜ now (out .exit) ≡ outAfter mode (now (text .entry)) (meaning (now (pool .entry))) (length (now (scratch .entry))) (now (out .entry)) ⌝ }
@@ -55,7 +61,13 @@ fn cut_checked(text: &[u32], pool: &[u32], out: &mut [u32], scratch: &mut [u32],
 
 // Cuts a text by the words of a pool, plainly or in safe mode: the ends of the tokens, rising, at the front of the output. Answers their number and the
 // number of edges recorded in the whole call.
-pub fn cut(text: &[u32], pool: &[u32], out: &mut [u32], scratch: &mut [u32], mode: Mode) -> CutAnswer
+pub fn cut(
+    text: &[u32],
+    pool: &[u32],
+    out: &mut [u32],
+    scratch: &mut [u32],
+    mode: Mode,
+) -> CutAnswer
     ensures { λ r. ⌜ r ≡ cutAnswer mode (now (text .entry)) (meaning (now (pool .entry))) (length (now (scratch .entry))) (length (now (out .entry))) ⌝ }
     ensures { λ _. ⌜ now (out .exit) ≡ outAfter mode (now (text .entry)) (meaning (now (pool .entry))) (length (now (scratch .entry))) (now (out .entry)) ⌝ }
     ensures { λ _. ⌜ now (scratch .exit) ≡ scratchAfter (now (text .entry)) (meaning (now (pool .entry))) (now (scratch .entry)) ⌝ }

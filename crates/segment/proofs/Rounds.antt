@@ -224,8 +224,7 @@ module _ (space : ℕ → ℕ) (plain : Cutter) (f : Fits space) (right : Right 
         pub part-most : (0 < p .size) × (start + p .size ≤ length text) × (p .ends ≤ p .size) × (p .edges ≤ 2091 * p .size)
         part-most =
             let c = inside (drop start text) rest-long 0 in
-            let e = q .size in
-            (
+            let e = q .size in (
               omega (arith, c .0),
               omega (arith, c .1, length-drop start text, u .inside),
               omega (arith, q .ends, few (right (firstOf space plain (drop start text))), part-long),

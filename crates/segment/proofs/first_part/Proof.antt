@@ -30,8 +30,7 @@ slice-aggregate-cut-part c = sym (part-size (c .before .before .before .before .
 -- src/lib.rt:95:9
 cut-part-requires : tie.Need-cut-part-requires
 cut-part-requires c κs =
-    let right = plain-right (holds (c .before .before .before .before .before .before .before .before .before .args .pool .now)) in
-    (
+    let right = plain-right (holds (c .before .before .before .before .before .before .before .before .before .args .pool .now)) in (
       subst (λ (row : List ℕ). Ready (take (c .before .before .before .before .cut-at .result .at) (c .before .before .before .before .before .before .before .before .before .args .rest .now)) (c .before .before .before .before .before .before .before .before .before .args .pool .now) row) (sym (c .before .before .before .before .cut-at .ensures .1)) (part-ready (c .before .before .before .before .before .before .before .before .before .pre .0) (c .before .before .before .before .before .before .before .before .before .pre .1) (c .before .before .before .before .before .before .before .before .before .args .by) (c .before .before .before .before .before .before .before .before .before .pre .2) (c .before .before .before .before .before .before .before .before .before .pre .3) right (c .before .before .before .before .cut-at .ensures .0)),
       omega (arith, part-size (c .before .before .before .before .before .before .before .before .before .pre .0) (c .before .before .before .before .before .before .before .before .before .pre .1) (c .before .before .before .before .before .before .before .before .before .args .by) (c .before .before .before .before .before .before .before .before .before .pre .2) (c .before .before .before .before .before .before .before .before .before .pre .3) right (c .before .before .before .before .cut-at .ensures .0), part-inside (c .before .before .before .before .before .before .before .before .before .pre .0) (c .before .before .before .before .before .before .before .before .before .pre .1) (c .before .before .before .before .before .before .before .before .before .args .by) (c .before .before .before .before .before .before .before .before .before .pre .2) (c .before .before .before .before .before .before .before .before .before .pre .3) right (c .before .before .before .before .cut-at .ensures .0) .1, c .before .before .before .before .before .before .before .before .before .pre .4),
     )

@@ -27,7 +27,7 @@ enum-told-2 c = search needs
 
 -- src/lib.rt:133:17
 one-cut-requires-2 : tie.Need-one-cut-requires-2
-one-cut-requires-2 c κs = search needs
+one-cut-requires-2 c κs = lent (c .before .before .before .before .before .before .before .pre) (c .before .before .before .before .before .before .before .args .text .now) (omega arith)
 
 -- src/lib.rt:133:17
 same-length : tie.Need-same-length
@@ -35,7 +35,7 @@ same-length c = search needs
 
 -- src/lib.rt:133:17
 returns : tie.Need-returns
-returns c = search needs
+returns c = as-cut (short-is (holds (c .before .before .before .before .before .before .before .before .before .before .args .pool .now)) (c .before .before .before .before .before .before .before .before .before .before .args .text .now) (c .before .before .before .before .before .before .before .before .before .before .args .mode) (c .before .before .before .before .before .enum-told2 .given .1) (c .before .before .before .before .if1 .taken)) (written (c .before .before .one-cut2 .ensures))
 
 -- src/lib.rt:135:13
 in-parts-requires : tie.Need-in-parts-requires
@@ -47,7 +47,7 @@ same-length-2 c = search needs
 
 -- src/lib.rt:125:1
 returns-2 : tie.Need-returns-2
-returns-2 c = search needs
+returns-2 c = as-cut (plain-is (holds (c .before .before .before .before .before .before .before .before .before .args .pool .now)) (c .before .before .before .before .before .before .before .before .before .args .text .now) (c .before .before .before .before .before .before .before .before .before .args .mode) (c .before .before .before .before .enum-told .given .1)) (written (c .before .before .one-cut .ensures))
 
 -- src/lib.rt:125:1
 same-length-3 : tie.Need-same-length-3
@@ -55,7 +55,7 @@ same-length-3 c = search needs
 
 -- src/lib.rt:125:1
 returns-3 : tie.Need-returns-3
-returns-3 c = search needs
+returns-3 c = as-cut (parts-are (holds (c .before .before .before .before .before .before .before .before .before .before .args .pool .now)) (c .before .before .before .before .before .before .before .before .before .before .args .text .now) (c .before .before .before .before .before .before .before .before .before .before .args .mode) (c .before .before .before .before .before .enum-told2 .given .1)) (c .before .before .in-parts .ensures)
 
 pub segment-single-spec : {M : Type 1} → statement M
 segment-single-spec =
