@@ -4,10 +4,10 @@ use native.Mathlib.Omega.{arith}
 use native.Mathlib.Decide.{decLt}
 use mathlib.Core.Path.{_≡_, refl, sym, _∙_, ap, subst}
 use mathlib.Core.Bool.{Bool, true, false, cond}
-use mathlib.Core.List.{List, [], _∷_, _++_}
+use mathlib.Core.List.{List, [], _∷_, _++_, append-nil}
 use mathlib.Core.Option.{Option}
 use lib.ListN.{length, getD, take, drop, replicate, length-append, length-replicate, getD-replicate, List·getD-eq-default, replicate-append-replicate}
-use lib.Seq.{drop-at, take-length}
+use lib.Seq.{drop-at, drop-length, length-take-le, take-length}
 use lib.Dec.{ltb}
 use borrow.Author.Tests.{ltb-false, lt-ltb, le-ltb}
 use Rattle.refusal.specs.declared.Refusal.{Refusal}
@@ -20,16 +20,19 @@ use Rattle.pool.specs.Words.{holds}
 use Rattle.pool.specs.Rules.{isDictionary}
 use Rattle.pool.specs.Meaning.{Words, meaning}
 use Rattle.pool_lent.specs.Refusals.{held, readRows}
-use Rattle.pool_lent.proofs.Rows.{none-of, again, still, row-yes, row-kept, read-of}
+use Rattle.pool_lent.proofs.Rows.{None, none-of, again, still, row-yes, row-kept, read-of}
 use Rattle.pool_lent.proofs.Parts.{known-is, readable, held-part}
 use Rattle.cut_rules.specs.Cutting.{Cut}
 use Rattle.one_cut.specs.declared.Ends.{Ends}
 use Rattle.safe_rules.specs.declared.Mode.{Mode}
+use Rattle.safe_rules.proofs.Climbing.{few}
+use Rattle.safe_rules.proofs.Modes.{modes-climb}
+use Rattle.cut_answers.proofs.Plain.{plain-right}
 use Rattle.cut_answers.specs.declared.CutAnswer.{CutAnswer}
 use Rattle.cut_answers.specs.declared.CutAnswer.the-variants as variants
-use Rattle.cut_answers.specs.Answers.{cutOf, scratchRows, outRows, firstRows, accepts, told, cutAnswer, outAfter, cleared, scratchAfter}
+use Rattle.cut_answers.specs.Answers.{plainCut, cutOf, scratchRows, outRows, firstRows, accepts, told, cutAnswer, outAfter, cleared, scratchAfter}
 use Rattle.segment.specs.Rows.{Ready, Written}
-use Rattle.segment.proofs.Samples.{front, behind}
+use Rattle.segment.proofs.Samples.{front, behind, fits}
 use Rattle.newmm.specs.Calls.{Passes}
 
 -- ---- refusals 2 to 5
@@ -69,8 +72,12 @@ zeros-blank n k = go (decLt k n)
     go (yes h) = getD-replicate {A = ℕ} n k 0 0 h
     go (no h) = List·getD-eq-default (replicate {A = ℕ} n 0) 0 {n = k} (omega (arith, length-replicate {A = ℕ} n 0))
 
+-- all cells of a row are cleared
+pub cleared-all : (row : List ℕ) {row₁ : List ℕ} → row₁ ≡ replicate {A = ℕ} (length row) 0 ++ drop (length row) row → row₁ ≡ replicate {A = ℕ} (length row) 0
+cleared-all row e = e ∙ ap (λ (l : List ℕ). replicate {A = ℕ} (length row) 0 ++ l) (drop-length row) ∙ append-nil (replicate {A = ℕ} (length row) 0)
+
 module _ (mode : Mode) (text pool : List ℕ) (cells : ℕ) (p : Passes text pool cells) where
-  rows : _
+  rows : None (firstRows text (meaning pool) cells)
   rows = none-of (firstRows text (meaning pool) cells) 0 0 (p .accepted)
 
   known : isDictionary pool ≡ true
@@ -90,7 +97,10 @@ module _ (mode : Mode) (text pool : List ℕ) (cells : ℕ) (p : Passes text poo
     words : held (meaning pool) ≡ holds (take (8 * n) pool)
     words = held-part pool n n-is known
 
-    module _ (row : List ℕ) {r : Ends} (w : Written (cutOf mode (holds (take (8 * n) pool)) text) (replicate {A = ℕ} cells 0) row r) where
+    pub lent-ready : {row₁ : List ℕ} → row₁ ≡ replicate {A = ℕ} cells 0 → Ready text (take (8 * n) pool) row₁
+    lent-ready {row₁} z = subst (λ (l : List ℕ). Ready text (take (8 * n) pool) l) (sym z) ready
+
+    module _ {row₁ row : List ℕ} {r : Ends} (z : row₁ ≡ replicate {A = ℕ} cells 0) (w : Written (cutOf mode (holds (take (8 * n) pool)) text) row₁ row r) where
       abbrev whole : Cut
       whole = cutOf mode (held (meaning pool)) text
 
@@ -98,19 +108,32 @@ module _ (mode : Mode) (text pool : List ℕ) (cells : ℕ) (p : Passes text poo
       same = ap (λ (f : Words). cutOf mode f text) (sym words)
 
       v : Written whole (replicate {A = ℕ} cells 0) row r
-      v = subst (λ (c : Cut). Written c (replicate {A = ℕ} cells 0) row r) same w
+      v = subst (λ (c : Cut). Written c (replicate {A = ℕ} cells 0) row r) same (subst (λ (l : List ℕ). Written (cutOf mode (holds (take (8 * n) pool)) text) l row r) z w)
+
+      few-ends : length (whole .ends) ≤ length text
+      unfolding cutOf
+      few-ends = omega (arith, few (modes-climb (plainCut (held (meaning pool))) (plain-right (held (meaning pool))) text mode))
+
+      room : r .ends ≤ cells
+      room = omega (arith, v .ends, few-ends, ready .room, length-replicate {A = ℕ} cells 0)
+
+      pub ends-fit : r .ends ≤ length row
+      ends-fit = fits v (omega (arith, few-ends, ready .room))
+
+      pub ends-lent : length (take (r .ends) row) ≡ r .ends
+      ends-lent = length-take-le (r .ends) row ends-fit
 
       -- the ends are cleared again
-      pub all-zero : r .ends ≤ cells → (row′ : List ℕ) → row′ ≡ replicate {A = ℕ} (r .ends) 0 ++ drop (r .ends) row → row′ ≡ replicate {A = ℕ} cells 0
-      all-zero h row′ e =
-          let d : cells ≡ r .ends + (cells - r .ends) = omega arith in
-          let z : drop (length (whole .ends)) (replicate {A = ℕ} cells 0) ≡ replicate {A = ℕ} (cells - r .ends) 0 =
+      pub all-zero : (row′ : List ℕ) → row′ ≡ replicate {A = ℕ} (r .ends) 0 ++ drop (r .ends) row → row′ ≡ replicate {A = ℕ} cells 0
+      all-zero row′ e =
+          let d : cells ≡ r .ends + (cells - r .ends) = omega (arith, room) in
+          let y : drop (length (whole .ends)) (replicate {A = ℕ} cells 0) ≡ replicate {A = ℕ} (cells - r .ends) 0 =
           ap (λ (k : ℕ). drop k (replicate {A = ℕ} cells 0)) (sym (v .ends))
           ∙ ap (λ (k : ℕ). drop (r .ends) (replicate {A = ℕ} k 0)) d
           ∙ ap (drop (r .ends)) (sym (replicate-append-replicate {A = ℕ} (r .ends) (cells - r .ends) 0))
           ∙ drop-at (replicate {A = ℕ} (r .ends) 0) (replicate {A = ℕ} (cells - r .ends) 0) (r .ends) (length-replicate {A = ℕ} (r .ends) 0)
           in
-          e ∙ ap (λ (x : List ℕ). replicate {A = ℕ} (r .ends) 0 ++ x) (behind v ∙ z) ∙ replicate-append-replicate {A = ℕ} (r .ends) (cells - r .ends) 0 ∙ ap (λ (k : ℕ). replicate {A = ℕ} k 0) (sym d)
+          e ∙ ap (λ (x : List ℕ). replicate {A = ℕ} (r .ends) 0 ++ x) (behind v ∙ y) ∙ replicate-append-replicate {A = ℕ} (r .ends) (cells - r .ends) 0 ∙ ap (λ (k : ℕ). replicate {A = ℕ} k 0) (sym d)
 
       late : (room : ℕ) → accepts mode text (meaning pool) cells room ≡ answer (outRows (whole .ends) room) (length (whole .ends))
       late room = accepted-first (firstRows text (meaning pool) cells) (outRows (whole .ends) room) 0 (length (whole .ends)) (p .accepted)
