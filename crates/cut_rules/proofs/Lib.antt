@@ -8,5 +8,4 @@ pub mod Tokens
 pub mod Recording
 pub mod Turns
 pub mod Result
-pub mod Cases
 pub mod SameWords

@@ -4,4 +4,3 @@ pub mod Words
 pub mod Search
 pub mod NonDictionary
 pub mod Cutting
-pub mod Cases

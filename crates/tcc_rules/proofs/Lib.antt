@@ -11,4 +11,3 @@ pub mod StartsConsonant
 pub mod Bounds
 pub mod Ends
 pub mod Rising
-pub mod Cases

@@ -1,0 +1,1 @@
+// The demands on the whole as theorems: their statements stand in specs/, their proofs in proofs/.

@@ -1,0 +1,4 @@
+pub mod Climbing
+pub mod Samples
+pub mod Parts
+pub mod Modes

@@ -1,0 +1,4 @@
+pub mod Climbing
+pub mod Longest
+pub mod Parts
+pub mod Modes

@@ -1,0 +1,12 @@
+// Safe mode, after `segment_single` of newmm.rs: its rules stand in specs/, what follows from them in proofs/.
+
+// A text of fewer characters is one part. A longer one has a sample between these two positions.
+pub const TEXT_SCAN_BEGIN: usize = 100;
+
+pub const TEXT_SCAN_END: usize = 140;
+
+// How a text is cut.
+pub enum Mode {
+    Plain,
+    Safe,
+}

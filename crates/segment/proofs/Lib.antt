@@ -1,0 +1,5 @@
+pub mod Longest
+pub mod Samples
+pub mod Behind
+pub mod Rounds
+pub mod Modes
