@@ -1,3 +1,4 @@
 pub mod Small
 pub mod Rounds
+pub mod Bounds
 pub mod Whole

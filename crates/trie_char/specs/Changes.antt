@@ -9,7 +9,7 @@ use Rattle.refusal.specs.declared.Answer.the-variants.{Accepted, Refused}
 use Rattle.pool.specs.Rules.{capacity}
 use Rattle.pool.specs.Meaning.{Words, meaning}
 
--- the pool of these words: no second pool of the length fits (proofs/One: one-pool). Later cells and a part node are never written.
+-- The pool of these words, of which there is one (proofs/One.antt: one-after). Later cells and a part node are never written.
 pub record Became (old new : List ℕ) (words : Words) : Type 0 where
   pub means : meaning new ≡ some words
   pub later : drop (8 * capacity old) new ≡ drop (8 * capacity old) old

@@ -4,7 +4,8 @@ use native.Mathlib.Omega.{arith}
 use mathlib.Core.Path.{refl, sym, _∙_}
 use Rattle.cut_rules.proofs.Spans.{token-spans}
 use Rattle.word_walk.specs.Walks.{givenBy}
-use Rattle.one_cut.proofs.Rounds.{Round, b-inside, ends-few, committed-low, here, token-asks, token-round, start-one, round-one, round-more, still-sized, ends-fit, done, first-round, size₁, part-long}
+use Rattle.one_cut.proofs.Rounds.{Round, b-inside, ends-few, committed-low, here, token-asks, token-round, start-one, round-one, round-more, still-sized}
+use Rattle.one_cut.proofs.Bounds.{ends-fit, done, first-round, size₁, part-long}
 use Rattle.one_cut.proofs.cut_rows.Statement.{statement}
 use Rattle.one_cut.proofs.cut_rows.Tie as tie
 
