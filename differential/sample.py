@@ -41,19 +41,19 @@ def sampled():
         yield from fitting[:: max(1, len(fitting) // count)][:count]
 
 
-def standing(program):
+def written(program):
     """The lines of a test program, with their answers."""
-    sides_of = [open(os.path.join(sides.ROOT, "crates", program, name), encoding="ascii").read().splitlines() for name in ("stdin", "stdout")]
-    return [(line.split("\t"), answer) for line, answer in zip(*sides_of, strict=True)]
+    folder = os.path.join(sides.ROOT, "crates", program)
+    given, expected = [open(os.path.join(folder, name), encoding="ascii").read().splitlines() for name in ("stdin", "stdout")]
+    return [(line.split("\t"), answer) for line, answer in zip(given, expected, strict=True)]
 
 
 def main():
     lines = list(sampled())
-    answers = sides.rust(lines)
-    for program in sides.listed():
-        ops = [op for op in sides.PROGRAMS if sides.PROGRAMS[op] == program]
-        made = [(line.split("\t"), answer) for line, answer in zip(lines, answers) if sides.op(line) in ops]
-        vectors.write(program, standing(program) + made)
+    answered = list(zip(lines, sides.rust(lines)))
+    for program in sorted(set(sides.standing().values())):
+        made = [(line.split("\t"), answer) for line, answer in answered if sides.standing().get(sides.kind(line)) == program]
+        vectors.write(program, written(program) + made)
 
 
 main()

@@ -1,22 +1,33 @@
 """The two sides of a differential run: programs that read the input side of vector lines and write the answers."""
+import functools
 import os
 import subprocess
 
 ROOT = os.path.dirname(os.path.dirname(os.path.abspath(__file__)))
 RUST = os.path.join(ROOT, "target", "differential", "cargo", "release", "nlpo3-answers")
 
-# The proved program that answers an operation.
-PROGRAMS = {"clusters": "tcc_tests", "prefix": "trie_char_tests", "dict": "trie_char_tests", "cut": "cut_tests"}
+# The proved programs that can answer a kind of line, the best first.
+PROGRAMS = {
+    "clusters": ["tcc_tests"],
+    "prefix": ["trie_char_tests"],
+    "dict": ["trie_char_tests"],
+    "cut plain": ["cut_tests", "one_cut_tests"],
+    "cut safe": ["cut_tests"],
+}
 
 
-def listed():
-    """The programs that stand in crates.txt."""
+def kind(line):
+    """The operation of a line, and the mode of a cut."""
+    fields = line.split("\t", 2)
+    return "cut " + fields[1] if fields[0] == "cut" else fields[0]
+
+
+@functools.cache
+def standing():
+    """The program that answers each kind, of those that stand in crates.txt."""
     crates = {line.split(":")[0] for line in open(os.path.join(ROOT, "crates.txt"), encoding="utf-8")}
-    return sorted(crates & set(PROGRAMS.values()))
-
-
-def op(line):
-    return line.split("\t", 1)[0]
+    found = {kind: [program for program in programs if program in crates] for kind, programs in PROGRAMS.items()}
+    return {kind: programs[0] for kind, programs in found.items() if programs}
 
 
 def run(program, lines):
@@ -34,5 +45,5 @@ def rust(lines):
 
 
 def ours(lines):
-    """The answers of the program for the lines' operation, which is the same for all."""
-    return run(os.path.join(ROOT, "target", "bin", PROGRAMS[op(lines[0])]), lines)
+    """The answers of the program for the lines' kind, which is the same for all."""
+    return run(os.path.join(ROOT, "target", "bin", standing()[kind(lines[0])]), lines)
