@@ -1,0 +1,109 @@
+/* Fetlockice: a Thai word cutter whose every answer is proved. C99 and C++.
+ *
+ * Every call answers for any bytes, scalars, pool and scratch: 0 if it was accepted, else the number of the refusal. It
+ * also sets, in every case, each number that a pointer at the end of its parameters leads to:
+ *
+ *   *count   accepted: the count that the call tells of; refused: 0
+ *   *edges   accepted: the edges recorded in the whole cut; refused: 0
+ *   *detail  accepted: 0; refused: the refusal's detail, below
+ *
+ * Lent memory. A row that a call takes as const is only read. A refused call changes no output and no pool. An accepted
+ * one writes the first *count cells of the output and keeps the rest. Scratch is untouched after refusals 2 to 5, and all
+ * zero after refusal 6 and after an accepted cut, every lent cell of it; on entry it may hold anything. Nothing is kept
+ * from one call to the next, nothing is allocated and nothing is freed.
+ *
+ * THE CALLER'S DUTIES. Everything else about the contents is the library's to answer.
+ *
+ *   1. A row is a pointer and its length in elements (bytes for const uint8_t *, cells for uint32_t *), straight behind it.
+ *      That many elements are there, are initialised, and may be read, or written where the row isn't const.
+ *   2. No pointer is NULL, also where the length is 0. uint32_t rows and size_t numbers are aligned as C aligns them.
+ *   3. A row or number that a call may write overlaps no other row or number of that call. Two const rows may overlap.
+ *   4. While a call runs, no other thread writes what it was lent, or reads what it may write. So calls on different memory
+ *      may run at once, and so may calls that only read one pool.
+ */
+#ifndef FETLOCKICE_H
+#define FETLOCKICE_H
+
+#include <stddef.h>
+#include <stdint.h>
+
+#ifdef __cplusplus
+extern "C" {
+#endif
+
+/* The most scalars of a text, and of a word after trimming. */
+#define FETLOCKICE_MAX_SCALARS 65535
+#define FETLOCKICE_MAX_WORD 255
+
+/* A pool has eight cells to a node. Nodes in use are the root and one for each distinct non-empty prefix of the words
+ * held. Cells after the last whole node, and after this many nodes, are never read or written. */
+#define FETLOCKICE_NODE_CELLS 8
+#define FETLOCKICE_MAX_NODES 1048576
+
+/* The scratch cells that a cut of n scalars asks for. */
+#define FETLOCKICE_SCRATCH_CELLS(n) (9 * (size_t)(n) + 128)
+
+/* What a call answers. The lowest number that applies to the call is given. */
+enum fetlockice_answer {
+    FETLOCKICE_ACCEPTED = 0,
+    FETLOCKICE_ILL_FORMED = 1,        /* the bytes aren't well-formed UTF-8; the length of the longest well-formed prefix */
+    FETLOCKICE_TOO_MANY_SCALARS = 2,  /* more than 65,535 scalars; that number */
+    FETLOCKICE_NOT_A_SCALAR = 3,      /* a cell isn't a Unicode scalar value; the index of the first */
+    FETLOCKICE_NOT_A_DICTIONARY = 4,  /* the pool isn't a dictionary; 0 */
+    FETLOCKICE_SCRATCH_TOO_SHORT = 5, /* scratch has fewer than 9n+128 cells; 9n+128 */
+    FETLOCKICE_OUTPUT_TOO_SHORT = 6,  /* the output has fewer cells than the answer; the cells needed */
+    FETLOCKICE_WORD_TOO_LONG = 7,     /* the word is over 255 scalars after trimming; its trimmed length */
+    FETLOCKICE_TOO_FEW_NODES = 8      /* the pool has too few free nodes; the nodes missing */
+};
+
+/* Writes the scalars of UTF-8 bytes. *count: how many. Refusals 1, 2, 6. */
+uint32_t fetlockice_decode(const uint8_t *bytes, size_t bytes_len, uint32_t *out, size_t out_len, size_t *count,
+                           size_t *detail);
+
+/* Writes the ends of the text's clusters, in characters, rising, the last equal to the length. *count: how many, 0 for an
+ * empty text. An output as long as the text is always enough. Refusals 2, 3, 6. */
+uint32_t fetlockice_clusters(const uint32_t *text, size_t text_len, uint32_t *out, size_t out_len, size_t *count,
+                             size_t *detail);
+
+/* Makes the pool a dictionary without words, whatever it held. *count: 0. Refusal 8, one node missing, for a pool under
+ * eight cells. */
+uint32_t fetlockice_fresh(uint32_t *pool, size_t pool_len, size_t *count, size_t *detail);
+
+/* Adds the word, trimmed of U+0009 to U+000D and U+0020 at both edges. *count: 1 if the set of words changed, else 0. A
+ * word that is held, or is empty after trimming, changes nothing. Refusals 2, 3, 4, 7, 8. */
+uint32_t fetlockice_add(uint32_t *pool, size_t pool_len, const uint32_t *word, size_t word_len, size_t *count,
+                        size_t *detail);
+
+/* Removes the word, trimmed as above. *count: 1 if the set of words changed, else 0. Nodes that are freed serve again.
+ * Refusals 2, 3, 4, 7. */
+uint32_t fetlockice_remove(uint32_t *pool, size_t pool_len, const uint32_t *word, size_t word_len, size_t *count,
+                           size_t *detail);
+
+/* *count: 1 if the word is held, as it is and not trimmed, else 0. Refusals 2, 3, 4. */
+uint32_t fetlockice_contains(const uint32_t *pool, size_t pool_len, const uint32_t *word, size_t word_len, size_t *count,
+                             size_t *detail);
+
+/* Writes the lengths of the words that the text starts with, rising. *count: how many, at most 255. Refusals 2, 3, 4, 6. */
+uint32_t fetlockice_prefix_lengths(const uint32_t *pool, size_t pool_len, const uint32_t *text, size_t text_len,
+                                   uint32_t *out, size_t out_len, size_t *count, size_t *detail);
+
+/* *count: how many words the dictionary holds. Refusal 4. */
+uint32_t fetlockice_word_count(const uint32_t *pool, size_t pool_len, size_t *count, size_t *detail);
+
+/* Cuts the text plainly, by the words of the pool. Writes the ends of the tokens, in characters, rising, the last equal to
+ * the length. *count: how many, 0 for an empty text; *edges: the edges recorded. An output as long as the text is always
+ * enough. Scratch of FETLOCKICE_SCRATCH_CELLS(text_len) cells is enough, and no fewer. Refusals 2, 3, 4, 5, 6. */
+uint32_t fetlockice_cut_plain(const uint32_t *text, size_t text_len, const uint32_t *pool, size_t pool_len, uint32_t *out,
+                              size_t out_len, uint32_t *scratch, size_t scratch_len, size_t *count, size_t *edges,
+                              size_t *detail);
+
+/* The same in safe mode: a text of 140 characters or more is cut in parts. */
+uint32_t fetlockice_cut_safe(const uint32_t *text, size_t text_len, const uint32_t *pool, size_t pool_len, uint32_t *out,
+                             size_t out_len, uint32_t *scratch, size_t scratch_len, size_t *count, size_t *edges,
+                             size_t *detail);
+
+#ifdef __cplusplus
+}
+#endif
+
+#endif
