@@ -14,8 +14,9 @@
  *
  * THE CALLER'S DUTIES. Everything else about the contents is the library's to answer.
  *
- *   1. A row is a pointer and its length in elements (bytes for const uint8_t *, cells for uint32_t *), straight behind it.
- *      That many elements are there, are initialised, and may be read, or written where the row isn't const.
+ *   1. A row is a pointer and, straight behind it, its length in elements: bytes for const uint8_t *, cells for uint32_t *.
+ *      That many are there, and may be read, and written where the row isn't const. Const rows and the pools of add and
+ *      remove hold values; outputs, scratch and the pool of fresh may hold anything.
  *   2. No pointer is NULL, also where the length is 0. uint32_t rows and size_t numbers are aligned as C aligns them.
  *   3. A row or number that a call may write overlaps no other row or number of that call. Two const rows may overlap.
  *   4. While a call runs, no other thread writes what it was lent, or reads what it may write. So calls on different memory

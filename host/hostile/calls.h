@@ -1,0 +1,38 @@
+/* The exported functions, called with guarded rows and held to what every call must keep. */
+#ifndef CALLS_H
+#define CALLS_H
+
+#include <stddef.h>
+#include <stdint.h>
+
+enum op { DECODE, CLUSTERS, FRESH, ADD, REMOVE, CONTAINS, PREFIX_LENGTHS, WORD_COUNT, CUT_PLAIN, CUT_SAFE, OPS };
+
+struct call {
+    enum op op;
+    const void *text; /* bytes, text or word, and their number */
+    size_t n;
+    const uint32_t *pool;
+    size_t cells;
+    size_t room;    /* output cells */
+    size_t scratch; /* scratch cells */
+};
+
+struct answer {
+    uint32_t number;
+    size_t count, edges, detail;
+    const uint32_t *out;  /* the output and the pool, for as long as three more pairs of calls */
+    const uint32_t *pool;
+};
+
+int writes_output(enum op op);
+int writes_pool(enum op op);
+int cuts(enum op op);
+
+/* Calls twice, with different leftovers in output, scratch and numbers and at different places. Everything that must be kept
+ * was, and the two answers are equal, bit by bit. */
+struct answer call_twice(const struct call *call);
+
+/* How many calls each function had. */
+extern unsigned long calls_of[OPS];
+
+#endif

@@ -1,0 +1,179 @@
+/* hostile CALLS SEED: calls every exported function with hostile inputs until CALLS calls were made, and holds each answer to
+ * the rules. The first thing that isn't as it must be ends the run. */
+#include "calls.h"
+#include "inputs.h"
+#include "model.h"
+#include "rows.h"
+#include <signal.h>
+#include <stdio.h>
+#include <stdlib.h>
+#include <string.h>
+#include <unistd.h>
+
+static uint32_t pool[POOL_ROOM], text[TEXT_ROOM], scalars[TEXT_ROOM * 4];
+static uint8_t bytes[TEXT_ROOM * 4];
+static unsigned long answers[9];
+
+/* The refusal that is due by the model, 6 left out. */
+static struct refusal due(const struct call *c, int is_dict) {
+    size_t count, start, end;
+    int held;
+    if (c->op == DECODE) return utf8_refusal(c->text, c->n, scalars, TEXT_ROOM * 4, &count);
+    if (c->op == FRESH) return (struct refusal){c->cells < 8 ? 8 : 0, c->cells < 8};
+    struct refusal r = c->op == WORD_COUNT ? (struct refusal){0, 0} : text_refusal(c->text, c->n);
+    if (r.number != 0 || c->op == CLUSTERS) return r;
+    if (!is_dict) return (struct refusal){4, 0};
+    if (cuts(c->op) && c->scratch < 9 * c->n + 128) return (struct refusal){5, 9 * c->n + 128};
+    if (c->op != ADD && c->op != REMOVE) return r;
+    trimmed(c->text, c->n, &start, &end);
+    if (end - start > 255) return (struct refusal){7, end - start};
+    size_t nodes = c->pool[4] + lacking(c->pool, (const uint32_t *)c->text + start, end - start, &held);
+    if (c->op == ADD && nodes > nodes_of(c->cells)) return (struct refusal){8, nodes - nodes_of(c->cells)};
+    return r;
+}
+
+/* Refusal 6 is given exactly where the output is a cell too short. */
+static void check_fit(const struct call *c, const struct answer *a) {
+    struct call fit = *c;
+    size_t needed = a->number == 6 ? a->detail : a->count;
+    must(a->number != 6 || a->detail > c->room, "6 where the output has the room");
+    fit.room = needed;
+    struct answer b = call_twice(&fit);
+    must(b.number == 0 && b.count == needed && (a->number == 6 || b.edges == a->edges), "an output with just the room is refused");
+    must(a->number == 6 || memcmp(a->out, b.out, 4 * needed) == 0, "the room changes the answer");
+    if (needed == 0) return;
+    fit.room = needed - 1;
+    b = call_twice(&fit);
+    must(b.number == 6 && b.detail == needed, "an output a cell too short is not refused");
+}
+
+static void check_ends(const struct call *c, const struct answer *a) {
+    must((a->count == 0) == (c->n == 0), "no end, or ends of nothing");
+    for (size_t i = 0; i < a->count; i++) must(a->out[i] > (i > 0 ? a->out[i - 1] : 0), "ends don't rise");
+    must(a->count == 0 || a->out[a->count - 1] == c->n, "the last end isn't the length");
+    must(a->edges <= 51 * c->n, "more edges than can be recorded");
+}
+
+static void check_cut(const struct call *c, const struct answer *a) {
+    struct call other = *c;
+    check_ends(c, a);
+    other.op = c->op == CUT_PLAIN ? CUT_SAFE : CUT_PLAIN;
+    struct answer b = call_twice(&other);
+    must(b.number == 0 || b.number == 6, "the other mode is refused");
+    must(c->n >= 140 || (b.number == 0 && b.edges == a->edges && b.count == a->count && memcmp(a->out, b.out, 4 * a->count) == 0), "modes differ below 140");
+    other.scratch = 9 * c->n + 127;
+    b = call_twice(&other);
+    must(b.number == 5 && b.detail == 9 * c->n + 128, "scratch a cell too short is not refused");
+}
+
+static void check_prefixes(const struct call *c, const struct answer *a) {
+    size_t k = 0;
+    int held;
+    for (size_t n = 1; n <= c->n && n <= 255; n++) {
+        if (lacking(c->pool, c->text, n, &held) == 0 && held) must(k < a->count && a->out[k++] == n, "a prefix length is missing");
+    }
+    must(k == a->count, "a prefix length of no word");
+}
+
+/* An accepted add or remove changes its word alone, and undoing it leaves the pool as it was, bit by bit. */
+static void check_change(const struct call *c, const struct answer *a) {
+    static uint32_t changed[POOL_ROOM];
+    size_t start, end;
+    int before, after;
+    trimmed(c->text, c->n, &start, &end);
+    const uint32_t *word = (const uint32_t *)c->text + start;
+    size_t n = end - start, more = c->op == ADD;
+    lacking(c->pool, word, n, &before);
+    must(a->count == (n > 0 && before != (int)more), "the report is wrong");
+    must(is_dictionary(a->pool, c->cells), "the new pool is no dictionary");
+    lacking(a->pool, word, n, &after);
+    must(n == 0 || after == (int)more, "the word was not changed");
+    must(words_of(a->pool) + (more ? 0 : a->count) == words_of(c->pool) + (more ? a->count : 0), "another word was changed");
+    memcpy(changed, a->pool, 4 * c->cells);
+    if (a->count == 1) {
+        struct call back = *c;
+        back.op = more ? REMOVE : ADD;
+        back.pool = changed;
+        struct answer b = call_twice(&back);
+        must(b.number == 0 && b.count == 1 && memcmp(b.pool, c->pool, 4 * c->cells) == 0, "undoing a change leaves another pool");
+    }
+    if (drawn != NULL) memcpy(drawn->cells, changed, 4 * c->cells);
+}
+
+static void check_accepted(const struct call *c, const struct answer *a) {
+    int held;
+    size_t count;
+    switch (c->op) {
+    case DECODE:
+        utf8_refusal(c->text, c->n, scalars, TEXT_ROOM * 4, &count);
+        must(a->count == count && memcmp(a->out, scalars, 4 * count) == 0, "other scalars than the bytes have");
+        break;
+    case CLUSTERS: check_ends(c, a); break;
+    case FRESH: must(a->count == 0 && is_dictionary(a->pool, c->cells) && a->pool[4] == 1, "a fresh pool isn't the root alone"); break;
+    case CONTAINS:
+        lacking(c->pool, c->text, c->n, &held);
+        must(a->count == (size_t)held, "contains is wrong");
+        break;
+    case PREFIX_LENGTHS: check_prefixes(c, a); break;
+    case WORD_COUNT: must(a->count == words_of(c->pool), "the word count is wrong"); break;
+    case CUT_PLAIN:
+    case CUT_SAFE: check_cut(c, a); break;
+    default: check_change(c, a); break;
+    }
+}
+
+static struct call make_call(enum op op, int *is_dict) {
+    struct call c = {.op = op, .text = text, .pool = pool};
+    if (op != DECODE && op != CLUSTERS) c.cells = make_pool(pool);
+    *is_dict = is_dictionary(pool, c.cells);
+    if (op == DECODE) c.text = bytes, c.n = make_bytes(bytes);
+    else if (op == ADD || op == REMOVE || op == CONTAINS) c.n = make_word(text);
+    else if (op != FRESH && op != WORD_COUNT) c.n = make_sheet(text, pool, *is_dict);
+    if (writes_output(op)) c.room = make_room(op == PREFIX_LENGTHS ? below(4) : c.n);
+    if (cuts(op)) c.scratch = below(4) == 0 ? make_room(9 * c.n + 128) : 9 * c.n + 128 + below(4);
+    return c;
+}
+
+static void step(void) {
+    int is_dict;
+    struct call c = make_call((enum op)below(OPS), &is_dict);
+    struct refusal r = due(&c, is_dict);
+    struct answer a = call_twice(&c);
+    answers[a.number]++;
+    must(r.number == 0 ? a.number == 0 || (a.number == 6 && writes_output(c.op)) : a.number == r.number && a.detail == r.detail, "another refusal than is due");
+    if (a.number == 6) check_fit(&c, &a);
+    if (a.number != 0) return;
+    check_accepted(&c, &a);
+    if (writes_output(c.op)) check_fit(&c, &a);
+}
+
+/* A trap, or a call that doesn't end. */
+static void stopped(int signal) {
+    printf("hostile: call %lu: signal %d\n", calls, signal);
+    fflush(stdout);
+    _exit(1);
+}
+
+int main(int argc, char **argv) {
+    static const size_t nodes[LIVING] = {0, 1, 2, 5, 12, 40, 120, 260, 300, 600, 1500, 4500};
+    unsigned long most = argc > 1 ? strtoul(argv[1], NULL, 10) : 100000;
+    seed = argc > 2 ? strtoul(argv[2], NULL, 10) : 1;
+    printf("hostile: %lu calls, seed %lu\n", most, (unsigned long)seed);
+    signal(SIGSEGV, stopped);
+    signal(SIGALRM, stopped);
+    for (size_t i = 0; i < LIVING; i++) {
+        struct call fresh = {.op = FRESH, .cells = living[i].length = 8 * nodes[i] + below(8)};
+        struct answer a = call_twice(&fresh);
+        memcpy(living[i].cells, a.pool, 4 * living[i].length);
+    }
+    while (calls < most) {
+        alarm(300);
+        for (size_t k = 0; k < 100 && calls < most; k++) step();
+    }
+    printf("hostile: calls of each function:");
+    for (size_t i = 0; i < OPS; i++) printf(" %lu", calls_of[i]);
+    printf("\nhostile: answers 0 to 8:");
+    for (size_t i = 0; i < 9; i++) printf(" %lu", answers[i]);
+    printf("\nhostile: %lu calls, no error\n", calls);
+    return 0;
+}
