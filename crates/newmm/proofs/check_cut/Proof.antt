@@ -1,45 +1,32 @@
 -- Assumes nothing.
--- uses
 use native.Mathlib.Omega.{arith}
 use mathlib.Core.Path.{refl}
 use Rattle.newmm.proofs.Calls.{refused-early, size-is, short, refused-scratch, accepted-early}
--- end uses
 use borrow.Author.Needs.{needs}
 use Rattle.newmm.proofs.check_cut.Statement.{statement}
 use Rattle.newmm.proofs.check_cut.Tie as tie
-use Rattle.newmm.proofs.check_cut.Reads as reads
-use Rattle.newmm.proofs.check_cut.Lts as lts
-use Rattle.pool_lent.proofs.check.Reads as check-reads
 
--- src/lib.rt:22:9
 check-requires : tie.Need-check-requires
 check-requires c κs = search needs
 
--- src/lib.rt:24:25
 enum-known-first : tie.Need-enum-known-first
 enum-known-first c = search needs
 
--- src/lib.rt:25:26
 enum-known-first-2 : tie.Need-enum-known-first-2
 enum-known-first-2 c = search needs
 
--- src/lib.rt:26:26
 mul-needed : tie.Need-mul-needed
 mul-needed c = omega (arith, size-is (c .before .before .before .before .before .before .args .text .now) (c .before .before .before .before .before .before .args .pool .now) 0 (c .before .before .before .check .ensures) (c .before .first2 .given .1), short (c .before .before .before .before .before .before .args .text .now) (c .before .before .before .before .before .before .args .pool .now) 0 (c .before .before .before .check .ensures) (c .before .first2 .given .1))
 
--- src/lib.rt:26:26
 add-needed : tie.Need-add-needed
 add-needed c = omega (arith, size-is (c .before .before .before .before .before .before .args .text .now) (c .before .before .before .before .before .before .args .pool .now) 0 (c .before .before .before .check .ensures) (c .before .first2 .given .1), short (c .before .before .before .before .before .before .args .text .now) (c .before .before .before .before .before .before .args .pool .now) 0 (c .before .before .before .check .ensures) (c .before .first2 .given .1))
 
--- src/lib.rt:28:17
 returns : tie.Need-returns
 returns c = refused-scratch (c .before .before .before .before .before .before .before .args .text .now) (c .before .before .before .before .before .before .before .args .pool .now) (c .before .before .before .before .before .before .before .args .cells) (c .before .before .before .before .check .ensures) (c .before .before .first2 .given .1) _ refl (c .if1 .taken)
 
--- src/lib.rt:19:1
 returns-2 : tie.Need-returns-2
 returns-2 c = refused-early (c .before .before .before .before .before .before .args .text .now) (c .before .before .before .before .before .before .args .pool .now) (c .before .before .before .before .before .before .args .cells) (c .before .before .before .check .ensures) (c .before .first .given .1)
 
--- src/lib.rt:19:1
 returns-3 : tie.Need-returns-3
 returns-3 c = accepted-early (c .before .before .before .before .before .before .before .args .text .now) (c .before .before .before .before .before .before .before .args .pool .now) (c .before .before .before .before .before .before .before .args .cells) (c .before .before .before .before .check .ensures) (c .before .before .first2 .given .1) _ refl (c .if1 .left)
 

@@ -1,34 +1,23 @@
 -- Assumes nothing.
--- uses
-use mathlib.Core.Path.{_≡_, _∙_}
+use mathlib.Core.Path.{_∙_}
 use lib.ListN.{length}
 use Rattle.newmm.proofs.Calls.{passes, early-answer, early-out, early-scratch, late-scratch}
--- end uses
 use borrow.Author.Needs.{needs}
 use Rattle.newmm.proofs.cut.Statement.{statement}
 use Rattle.newmm.proofs.cut.Tie as tie
-use Rattle.newmm.proofs.cut.Reads as reads
-use Rattle.newmm.proofs.cut.Lts as lts
-use Rattle.newmm.proofs.check_cut.Reads as check-cut-reads
-use Rattle.newmm.proofs.cut_checked.Reads as cut-checked-reads
 
--- src/lib.rt:75:9
 check-cut-requires : tie.Need-check-cut-requires
 check-cut-requires c κs = search needs
 
--- src/lib.rt:77:25
 enum-known-first : tie.Need-enum-known-first
 enum-known-first c = search needs
 
--- src/lib.rt:78:56
 enum-told : tie.Need-enum-told
 enum-told c = search needs
 
--- src/lib.rt:78:32
 cut-checked-requires : tie.Need-cut-checked-requires
 cut-checked-requires c κs = passes (c .before .before .before .before .before .before .before .before .before .args .mode) (c .before .before .before .before .before .before .before .before .before .args .text .now) (c .before .before .before .before .before .before .before .before .before .args .pool .now) (c .before .before .before .before .before .before .before .before .before .args .scratch .now) (c .before .before .before .before .check-cut .ensures) (c .before .before .enum-told .given .1)
 
--- src/lib.rt:64:1
 returns : tie.Need-returns
 returns c = (
   early-answer (c .before .before .before .before .before .before .before .before .args .mode) (c .before .before .before .before .before .before .before .before .args .text .now) (c .before .before .before .before .before .before .before .before .args .pool .now) (c .before .before .before .before .before .before .before .before .args .scratch .now) (c .before .before .before .check-cut .ensures) (c .before .first .given .1) (length (c .before .before .before .before .before .before .before .before .args .out .now)),
@@ -38,15 +27,12 @@ returns c = (
   ),
 )
 
--- src/lib.rt:64:1
 same-length : tie.Need-same-length
 same-length c = search needs
 
--- src/lib.rt:64:1
 same-length-2 : tie.Need-same-length-2
 same-length-2 c = search needs
 
--- src/lib.rt:64:1
 returns-2 : tie.Need-returns-2
 returns-2 c = (
   c .before .before .before .before .cut-checked .ensures .0,

@@ -1,19 +1,13 @@
 -- Assumes nothing.
--- uses
 use native.Mathlib.Omega.{arith}
 use Prim.Native.Nat.{ℕ, _+_, _-_}
-use lib.ListN.{length, getD, drop}
-use mathlib.Core.Path.{_≡_, _∙_, ap, sym}
+use lib.ListN.{drop}
+use mathlib.Core.Path.{_∙_, ap, sym}
 use mathlib.Core.List.{List, _++_, map}
 use Rattle.rows.proofs.Filling.{Filled, filled-none, filled-more, filled-all, unmoved, long, map-take, map-long, map-at}
--- end uses
 use borrow.Author.Needs.{needs}
 use Rattle.rows.proofs.shift.Statement.{statement}
 use Rattle.rows.proofs.shift.Tie as tie
-use Rattle.rows.proofs.shift.Reads as reads
-use Rattle.rows.proofs.shift.Lts as lts
-use Rattle.pool.proofs.narrow.Reads as narrow-reads
-use Rattle.pool.proofs.wide.Reads as wide-reads
 
 abbrev Inv-loop : tie.InvT-loop
 Inv-loop row₀ k by i₀ row i = Filled (map (λ (e : ℕ). by + e) row₀) row₀ row k i
@@ -21,55 +15,42 @@ Inv-loop row₀ k by i₀ row i = Filled (map (λ (e : ℕ). by + e) row₀) row
 abbrev μ-loop : tie.MeasureT-loop
 μ-loop row₀ k by i₀ row i = k - i
 
--- src/lib.rt:15:5
 loop-holds : tie.Need-loop-holds Inv-loop μ-loop
 loop-holds c = filled-none (map (λ (e : ℕ). c .before .args .by + e) (c .before .args .row .now)) (c .before .args .row .now) _ (omega (arith, c .before .pre .0, map-long (λ (e : ℕ). c .before .args .by + e) (c .before .args .row .now))) (c .before .pre .0)
 
--- src/lib.rt:16:22
 mul-wide : tie.Need-mul-wide Inv-loop μ-loop
 mul-wide c = search needs
 
--- src/lib.rt:16:22
 slice-read-wide : tie.Need-slice-read-wide Inv-loop μ-loop
 slice-read-wide c = let f = c .before .before .loop .inv in omega (arith, long f, f .fits)
 
--- src/lib.rt:16:13
 wide-requires : tie.Need-wide-requires Inv-loop μ-loop
 wide-requires c κs = search needs
 
--- src/lib.rt:17:25
 add-narrow : tie.Need-add-narrow Inv-loop μ-loop
 add-narrow c = let f = c .before .before .before .loop .inv in omega (arith, c .wide .ensures, unmoved f (c .before .before .loop-test .taken), c .before .before .before .before .before .pre .1 (c .before .before .before .loop .i) (c .before .before .loop-test .taken))
 
--- src/lib.rt:17:18
 narrow-requires : tie.Need-narrow-requires Inv-loop μ-loop
 narrow-requires c κs = let f = c .before .before .before .loop .inv in omega (arith, c .wide .ensures, unmoved f (c .before .before .loop-test .taken), c .before .before .before .before .before .pre .1 (c .before .before .before .loop .i) (c .before .before .loop-test .taken))
 
--- src/lib.rt:17:9
 mul-row : tie.Need-mul-row Inv-loop μ-loop
 mul-row c = search needs
 
--- src/lib.rt:17:9
 slice-write-row : tie.Need-slice-write-row Inv-loop μ-loop
 slice-write-row c = let f = c .before .before .before .before .loop .inv in omega (arith, long f, f .fits)
 
--- src/lib.rt:18:9
 add-i : tie.Need-add-i Inv-loop μ-loop
 add-i c = search needs
 
--- src/lib.rt:15:5
 loop-less : tie.Need-loop-less Inv-loop μ-loop
 loop-less c = omega arith
 
--- src/lib.rt:15:5
 loop-again : tie.Need-loop-again Inv-loop μ-loop
 loop-again c = let f = c .before .before .before .before .loop .inv in filled-more f _ (c .before .before .before .loop-test .taken) (c .narrow .ensures ∙ ap (λ (e : ℕ). c .before .before .before .before .before .before .args .by + e) (c .before .wide .ensures ∙ unmoved f (c .before .before .before .loop-test .taken)) ∙ sym (map-at (λ (e : ℕ). c .before .before .before .before .before .before .args .by + e) (c .before .before .before .before .before .before .args .row .now) _ (omega (arith, f .fits))))
 
--- src/lib.rt:10:1
 same-length : tie.Need-same-length Inv-loop μ-loop
 same-length c = long (c .before .loop .inv)
 
--- src/lib.rt:10:1
 returns : tie.Need-returns Inv-loop μ-loop
 returns c = let f = c .before .loop .inv in filled-all f (c .loop-test .left) ∙ ap (λ (z : List ℕ). z ++ drop (c .before .before .before .args .k) (c .before .before .before .args .row .now)) (map-take (λ (e : ℕ). c .before .before .before .args .by + e) (c .before .before .before .args .k) (c .before .before .before .args .row .now))
 

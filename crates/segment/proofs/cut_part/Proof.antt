@@ -1,35 +1,25 @@
 -- Assumes nothing.
--- uses
 use native.Mathlib.Omega.{arith}
 use Rattle.pool.specs.Words.{holds}
 use Rattle.cut_answers.proofs.Plain.{plain-right}
 use Rattle.safe_rules.proofs.Climbing.{few}
 use Rattle.segment.proofs.Samples.{lent, written, fits, can-shift, shifted-is}
--- end uses
 use borrow.Author.Needs.{needs}
 use Rattle.segment.proofs.cut_part.Statement.{statement}
 use Rattle.segment.proofs.cut_part.Tie as tie
-use Rattle.segment.proofs.cut_part.Reads as reads
-use Rattle.segment.proofs.cut_part.Lts as lts
-use Rattle.one_cut.proofs.one_cut.Reads as one-cut-reads
-use Rattle.rows.proofs.shift.Reads as shift-reads
 
--- src/lib.rt:77:9
 one-cut-requires : tie.Need-one-cut-requires
 one-cut-requires c κs = lent (c .before .before .before .before .pre .0) (c .before .before .before .before .args .part .now) (omega arith)
 
--- src/lib.rt:78:5
 shift-requires : tie.Need-shift-requires
 shift-requires c κs =
     let w = written (c .before .before .before .one-cut .ensures) in
     let right = plain-right (holds (c .before .before .before .before .before .before .before .before .args .pool .now)) (c .before .before .before .before .before .before .before .before .args .part .now) in
     (fits w (omega (arith, few right, c .before .before .before .before .before .before .before .before .pre .0 .room)), can-shift _ _ _ _ _ w right (c .before .before .before .before .before .before .before .before .pre .1))
 
--- src/lib.rt:73:1
 same-length : tie.Need-same-length
 same-length c = search needs
 
--- src/lib.rt:73:1
 returns : tie.Need-returns
 returns c =
     let w = written (c .before .before .before .before .before .before .one-cut .ensures) in

@@ -1,33 +1,24 @@
 -- Assumes nothing.
--- uses
 use native.Mathlib.Omega.{arith}
-use Prim.Native.Nat.{ℕ, _+_}
-use mathlib.Core.Path.{_≡_, sym, subst}
+use Prim.Native.Nat.{ℕ}
+use mathlib.Core.Path.{sym, subst}
 use mathlib.Core.List.{List}
-use lib.ListN.{length, take}
+use lib.ListN.{take}
 use Rattle.pool.specs.Words.{holds}
 use Rattle.cut_answers.specs.Answers.{plainCut}
 use Rattle.cut_answers.proofs.Plain.{plain-right, plain-edges}
-use Rattle.segment.specs.Rows.{Ready, Written, shiftedCut}
+use Rattle.segment.specs.Rows.{Ready}
 use Rattle.segment.proofs.Samples.{sample-few, part-inside, part-ready, part-size, first-is}
--- end uses
 use borrow.Author.Needs.{needs}
 use Rattle.segment.proofs.first_part.Statement.{statement}
 use Rattle.segment.proofs.first_part.Tie as tie
-use Rattle.segment.proofs.first_part.Reads as reads
-use Rattle.segment.proofs.first_part.Lts as lts
-use Rattle.segment.proofs.cut_at.Reads as cut-at-reads
-use Rattle.segment.proofs.cut_part.Reads as cut-part-reads
 
--- src/lib.rt:93:9
 cut-at-requires : tie.Need-cut-at-requires
 cut-at-requires c κs = search needs
 
--- src/lib.rt:95:22
 slice-aggregate-cut-part : tie.Need-slice-aggregate-cut-part
 slice-aggregate-cut-part c = sym (part-size (c .before .before .before .before .before .before .before .before .pre .0) (c .before .before .before .before .before .before .before .before .pre .1) (c .before .before .before .before .before .before .before .before .args .by) (c .before .before .before .before .before .before .before .before .pre .2) (c .before .before .before .before .before .before .before .before .pre .3) (plain-right (holds (c .before .before .before .before .before .before .before .before .args .pool .now))) (c .before .before .before .cut-at .ensures .0))
 
--- src/lib.rt:95:9
 cut-part-requires : tie.Need-cut-part-requires
 cut-part-requires c κs =
     let right = plain-right (holds (c .before .before .before .before .before .before .before .before .before .args .pool .now)) in (
@@ -35,7 +26,6 @@ cut-part-requires c κs =
       omega (arith, part-size (c .before .before .before .before .before .before .before .before .before .pre .0) (c .before .before .before .before .before .before .before .before .before .pre .1) (c .before .before .before .before .before .before .before .before .before .args .by) (c .before .before .before .before .before .before .before .before .before .pre .2) (c .before .before .before .before .before .before .before .before .before .pre .3) right (c .before .before .before .before .cut-at .ensures .0), part-inside (c .before .before .before .before .before .before .before .before .before .pre .0) (c .before .before .before .before .before .before .before .before .before .pre .1) (c .before .before .before .before .before .before .before .before .before .args .by) (c .before .before .before .before .before .before .before .before .before .pre .2) (c .before .before .before .before .before .before .before .before .before .pre .3) right (c .before .before .before .before .cut-at .ensures .0) .1, c .before .before .before .before .before .before .before .before .before .pre .4),
     )
 
--- src/lib.rt:99:16
 add-t15 : tie.Need-add-t15
 add-t15 c =
     let right = plain-right (holds (c .before .before .before .before .before .before .before .before .before .before .before .before .before .before .args .pool .now)) in
@@ -49,11 +39,9 @@ add-t15 c =
       part-inside (c .before .before .before .before .before .before .before .before .before .before .before .before .before .before .pre .0) (c .before .before .before .before .before .before .before .before .before .before .before .before .before .before .pre .1) (c .before .before .before .before .before .before .before .before .before .before .before .before .before .before .args .by) (c .before .before .before .before .before .before .before .before .before .before .before .before .before .before .pre .2) (c .before .before .before .before .before .before .before .before .before .before .before .before .before .before .pre .3) right (c .before .before .before .before .before .before .before .before .before .cut-at .ensures .0) .1,
     )
 
--- src/lib.rt:89:1
 same-length : tie.Need-same-length
 same-length c = search needs
 
--- src/lib.rt:89:1
 returns : tie.Need-returns
 returns c =
     first-is (c .before .before .before .before .before .before .before .before .before .before .before .before .before .before .pre .0) (c .before .before .before .before .before .before .before .before .before .before .before .before .before .before .pre .1) (c .before .before .before .before .before .before .before .before .before .before .before .before .before .before .args .by) (c .before .before .before .before .before .before .before .before .before .before .before .before .before .before .pre .2) (c .before .before .before .before .before .before .before .before .before .before .before .before .before .before .pre .3) (plain-right (holds (c .before .before .before .before .before .before .before .before .before .before .before .before .before .before .args .pool .now))) (c .before .before .before .before .before .before .before .before .before .cut-at .ensures .0) (c .before .before .before .before .before .before .before .before .before .before .before .before .before .before .args .start) (c .before .before .before .before .before .before .before .before .before .cut-at .ensures .1) (c .before .before .before .before .cut-part .ensures)

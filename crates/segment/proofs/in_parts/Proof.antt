@@ -1,8 +1,7 @@
 -- Assumes nothing.
--- uses
 use native.Mathlib.Omega.{arith}
 use Prim.Native.Nat.{ℕ, _+_, _-_}
-use mathlib.Core.Path.{_≡_, _∙_}
+use mathlib.Core.Path.{_∙_}
 use lib.ListN.{length}
 use borrow.Rule.Slice.PartMut.{same-len-mid}
 use Rattle.pool.specs.Words.{holds}
@@ -10,14 +9,9 @@ use Rattle.cut_answers.specs.Answers.{plainCut}
 use Rattle.cut_answers.proofs.Plain.{plain-right, plain-edges}
 use Rattle.segment.proofs.Samples.{by-fits}
 use Rattle.segment.proofs.Rounds.{Until, until-none, room-left, rest-ready, rest-size, rest-short, row-long, few-ends, part-most, until-more, until-all, rest-most}
--- end uses
 use borrow.Author.Needs.{needs}
 use Rattle.segment.proofs.in_parts.Statement.{statement}
 use Rattle.segment.proofs.in_parts.Tie as tie
-use Rattle.segment.proofs.in_parts.Reads as reads
-use Rattle.segment.proofs.in_parts.Lts as lts
-use Rattle.segment.proofs.cut_part.Reads as cut-part-reads
-use Rattle.segment.proofs.first_part.Reads as first-part-reads
 
 abbrev Inv-loop : tie.InvT-loop
 Inv-loop text pool row₀ by start₀ count₀ edges₀ row start count edges = Until (λ (i : ℕ). i + by) (plainCut (holds pool)) text row₀ row start count edges
@@ -25,129 +19,100 @@ Inv-loop text pool row₀ by start₀ count₀ edges₀ row start count edges = 
 abbrev μ-loop : tie.MeasureT-loop
 μ-loop text pool row₀ by start₀ count₀ edges₀ row start count edges = length text - start
 
--- src/lib.rt:111:5
 loop-holds : tie.Need-loop-holds Inv-loop μ-loop
 loop-holds c = until-none _ _ _ _
 
--- src/lib.rt:111:28
 sub-loop : tie.Need-sub-loop Inv-loop μ-loop
 sub-loop c = let u = c .loop .inv in omega (arith, u .inside)
 
--- src/lib.rt:112:28
 mul-first-part : tie.Need-mul-first-part Inv-loop μ-loop
 mul-first-part c = search needs
 
--- src/lib.rt:112:28
 sub-first-part : tie.Need-sub-first-part Inv-loop μ-loop
 sub-first-part c = search needs
 
--- src/lib.rt:112:28
 part-first-part-start : tie.Need-part-first-part-start Inv-loop μ-loop
 part-first-part-start c = search needs
 
--- src/lib.rt:112:28
 part-first-part-end : tie.Need-part-first-part-end Inv-loop μ-loop
 part-first-part-end c = search needs
 
--- src/lib.rt:112:50
 mul-first-part-2 : tie.Need-mul-first-part-2 Inv-loop μ-loop
 mul-first-part-2 c = omega (arith, room-left (c .before .before .loop .inv) (c .before .before .before .before .before .before .pre .0) .1)
 
--- src/lib.rt:112:50
 sub-first-part-2 : tie.Need-sub-first-part-2 Inv-loop μ-loop
 sub-first-part-2 c = omega (arith, room-left (c .before .before .loop .inv) (c .before .before .before .before .before .before .pre .0) .0)
 
--- src/lib.rt:112:50
 part-first-part-start-2 : tie.Need-part-first-part-start-2 Inv-loop μ-loop
 part-first-part-start-2 c = omega (arith, room-left (c .before .before .loop .inv) (c .before .before .before .before .before .before .pre .0) .0)
 
--- src/lib.rt:112:50
 part-first-part-end-2 : tie.Need-part-first-part-end-2 Inv-loop μ-loop
 part-first-part-end-2 c = search needs
 
--- src/lib.rt:112:13
 first-part-requires : tie.Need-first-part-requires Inv-loop μ-loop
 first-part-requires c κs = (rest-ready (c .before .before .before .loop .inv) (c .before .before .before .before .before .before .before .pre .0), omega (arith, rest-size (c .before .before .before .loop .inv), c .before .before .loop-test .taken), c .before .before .before .before .before .before .before .pre .2, c .before .before .before .before .before .before .before .pre .3, rest-short (c .before .before .before .loop .inv) (c .before .before .before .before .before .before .before .pre .0 .short))
 
--- src/lib.rt:113:9
 add-start : tie.Need-add-start Inv-loop μ-loop
 add-start c = omega (arith, part-most _ _ (by-fits (c .before .before .before .before .before .before .before .before .before .before .before .args .by) (c .before .before .before .before .before .before .before .before .before .before .before .pre .2) (c .before .before .before .before .before .before .before .before .before .before .before .pre .3)) (plain-right (holds (c .before .before .before .before .before .before .before .before .before .before .before .args .pool .now))) (plain-edges (holds (c .before .before .before .before .before .before .before .before .before .before .before .args .pool .now))) _ _ (c .before .before .before .before .before .before .before .loop .inv) (c .before .before .before .before .before .before .loop-test .taken) _ _ (c .before .before .before .first-part .ensures) .1, c .before .before .before .before .before .before .before .before .before .before .before .pre .0 .short)
 
--- src/lib.rt:114:9
 add-count : tie.Need-add-count Inv-loop μ-loop
 add-count c =
     let m = part-most _ _ (by-fits (c .before .before .before .before .before .before .before .before .before .before .before .before .args .by) (c .before .before .before .before .before .before .before .before .before .before .before .before .pre .2) (c .before .before .before .before .before .before .before .before .before .before .before .before .pre .3)) (plain-right (holds (c .before .before .before .before .before .before .before .before .before .before .before .before .args .pool .now))) (plain-edges (holds (c .before .before .before .before .before .before .before .before .before .before .before .before .args .pool .now))) _ _ (c .before .before .before .before .before .before .before .before .loop .inv) (c .before .before .before .before .before .before .before .loop-test .taken) _ _ (c .before .before .before .before .first-part .ensures) in
     omega (arith, m .1, m .2, few-ends (c .before .before .before .before .before .before .before .before .loop .inv), c .before .before .before .before .before .before .before .before .before .before .before .before .pre .0 .short)
 
--- src/lib.rt:115:9
 add-edges : tie.Need-add-edges Inv-loop μ-loop
 add-edges c =
     let m = part-most _ _ (by-fits (c .before .before .before .before .before .before .before .before .before .before .before .before .before .args .by) (c .before .before .before .before .before .before .before .before .before .before .before .before .before .pre .2) (c .before .before .before .before .before .before .before .before .before .before .before .before .before .pre .3)) (plain-right (holds (c .before .before .before .before .before .before .before .before .before .before .before .before .before .args .pool .now))) (plain-edges (holds (c .before .before .before .before .before .before .before .before .before .before .before .before .before .args .pool .now))) _ _ (c .before .before .before .before .before .before .before .before .before .loop .inv) (c .before .before .before .before .before .before .before .before .loop-test .taken) _ _ (c .before .before .before .before .before .first-part .ensures) in
     omega (arith, m .1, m .3, c .before .before .before .before .before .before .before .before .before .loop .inv .few-edges, c .before .before .before .before .before .before .before .before .before .before .before .before .before .pre .0 .short)
 
--- src/lib.rt:111:5
 loop-less : tie.Need-loop-less Inv-loop μ-loop
 loop-less c =
     let m = part-most _ _ (by-fits (c .before .before .before .before .before .before .before .before .before .before .before .before .before .args .by) (c .before .before .before .before .before .before .before .before .before .before .before .before .before .pre .2) (c .before .before .before .before .before .before .before .before .before .before .before .before .before .pre .3)) (plain-right (holds (c .before .before .before .before .before .before .before .before .before .before .before .before .before .args .pool .now))) (plain-edges (holds (c .before .before .before .before .before .before .before .before .before .before .before .before .before .args .pool .now))) _ _ (c .before .before .before .before .before .before .before .before .before .loop .inv) (c .before .before .before .before .before .before .before .before .loop-test .taken) _ _ (c .before .before .before .before .before .first-part .ensures) in
     omega (arith, m .0, m .1)
 
--- src/lib.rt:111:5
 loop-again : tie.Need-loop-again Inv-loop μ-loop
 loop-again c = until-more _ _ (by-fits (c .before .before .before .before .before .before .before .before .before .before .before .before .before .args .by) (c .before .before .before .before .before .before .before .before .before .before .before .before .before .pre .2) (c .before .before .before .before .before .before .before .before .before .before .before .before .before .pre .3)) (plain-right (holds (c .before .before .before .before .before .before .before .before .before .before .before .before .before .args .pool .now))) (plain-edges (holds (c .before .before .before .before .before .before .before .before .before .before .before .before .before .args .pool .now))) _ _ (c .before .before .before .before .before .before .before .before .before .loop .inv) (c .before .before .before .before .before .before .before .before .loop-test .taken) _ _ (c .before .before .before .before .before .first-part .ensures)
 
--- src/lib.rt:117:22
 mul-cut-part : tie.Need-mul-cut-part Inv-loop μ-loop
 mul-cut-part c = search needs
 
--- src/lib.rt:117:22
 sub-cut-part : tie.Need-sub-cut-part Inv-loop μ-loop
 sub-cut-part c = search needs
 
--- src/lib.rt:117:22
 part-cut-part-start : tie.Need-part-cut-part-start Inv-loop μ-loop
 part-cut-part-start c = search needs
 
--- src/lib.rt:117:22
 part-cut-part-end : tie.Need-part-cut-part-end Inv-loop μ-loop
 part-cut-part-end c = search needs
 
--- src/lib.rt:117:44
 mul-cut-part-2 : tie.Need-mul-cut-part-2 Inv-loop μ-loop
 mul-cut-part-2 c = omega (arith, room-left (c .before .before .loop .inv) (c .before .before .before .before .before .before .pre .0) .1)
 
--- src/lib.rt:117:44
 sub-cut-part-2 : tie.Need-sub-cut-part-2 Inv-loop μ-loop
 sub-cut-part-2 c = omega (arith, room-left (c .before .before .loop .inv) (c .before .before .before .before .before .before .pre .0) .0)
 
--- src/lib.rt:117:44
 part-cut-part-start-2 : tie.Need-part-cut-part-start-2 Inv-loop μ-loop
 part-cut-part-start-2 c = omega (arith, room-left (c .before .before .loop .inv) (c .before .before .before .before .before .before .pre .0) .0)
 
--- src/lib.rt:117:44
 part-cut-part-end-2 : tie.Need-part-cut-part-end-2 Inv-loop μ-loop
 part-cut-part-end-2 c = search needs
 
--- src/lib.rt:117:9
 cut-part-requires : tie.Need-cut-part-requires Inv-loop μ-loop
 cut-part-requires c κs = (rest-ready (c .before .before .before .loop .inv) (c .before .before .before .before .before .before .before .pre .0), rest-short (c .before .before .before .loop .inv) (c .before .before .before .before .before .before .before .pre .0 .short))
 
--- src/lib.rt:119:15
 add-t21 : tie.Need-add-t21 Inv-loop μ-loop
 add-t21 c =
     let m = rest-most _ _ (by-fits (c .before .before .before .before .before .before .before .before .before .before .before .args .by) (c .before .before .before .before .before .before .before .before .before .before .before .pre .2) (c .before .before .before .before .before .before .before .before .before .before .before .pre .3)) (plain-right (holds (c .before .before .before .before .before .before .before .before .before .before .before .args .pool .now))) (plain-edges (holds (c .before .before .before .before .before .before .before .before .before .before .before .args .pool .now))) _ _ (c .before .before .before .before .before .before .before .loop .inv) (c .before .before .before .before .before .before .before .before .before .before .before .pre .1) (c .before .before .before .before .before .before .loop-test .left) _ _ (c .before .before .before .cut-part .ensures) in
     omega (arith, m .0, few-ends (c .before .before .before .before .before .before .before .loop .inv), c .before .before .before .before .before .before .before .loop .inv .inside, c .before .before .before .before .before .before .before .before .before .before .before .pre .0 .short)
 
--- src/lib.rt:120:16
 add-t28 : tie.Need-add-t28 Inv-loop μ-loop
 add-t28 c =
     let m = rest-most _ _ (by-fits (c .before .before .before .before .before .before .before .before .before .before .before .before .args .by) (c .before .before .before .before .before .before .before .before .before .before .before .before .pre .2) (c .before .before .before .before .before .before .before .before .before .before .before .before .pre .3)) (plain-right (holds (c .before .before .before .before .before .before .before .before .before .before .before .before .args .pool .now))) (plain-edges (holds (c .before .before .before .before .before .before .before .before .before .before .before .before .args .pool .now))) _ _ (c .before .before .before .before .before .before .before .before .loop .inv) (c .before .before .before .before .before .before .before .before .before .before .before .before .pre .1) (c .before .before .before .before .before .before .before .loop-test .left) _ _ (c .before .before .before .before .cut-part .ensures) in
     omega (arith, m .1, c .before .before .before .before .before .before .before .before .loop .inv .few-edges, c .before .before .before .before .before .before .before .before .loop .inv .inside, c .before .before .before .before .before .before .before .before .before .before .before .before .pre .0 .short)
 
--- src/lib.rt:104:1
 same-length : tie.Need-same-length Inv-loop μ-loop
 same-length c = same-len-mid {X = ℕ} (c .before .before .before .before .before .before .before .before .loop .count) (length (c .before .before .before .before .before .before .before .before .loop .row) - c .before .before .before .before .before .before .before .before .loop .count) (c .before .before .before .before .before .before .before .before .loop .row) (c .before .before .before .before .cut-part .last .1 .1 .0) (c .before .before .before .before .cut-part .kept .1 .1 .0) ∙ row-long (c .before .before .before .before .before .before .before .before .loop .inv) (omega (arith, c .before .before .before .before .before .before .before .before .before .before .before .before .pre .0 .room))
 
--- src/lib.rt:104:1
 returns : tie.Need-returns Inv-loop μ-loop
 returns c = until-all _ _ (by-fits (c .before .before .before .before .before .before .before .before .before .before .before .before .args .by) (c .before .before .before .before .before .before .before .before .before .before .before .before .pre .2) (c .before .before .before .before .before .before .before .before .before .before .before .before .pre .3)) (plain-right (holds (c .before .before .before .before .before .before .before .before .before .before .before .before .args .pool .now))) (plain-edges (holds (c .before .before .before .before .before .before .before .before .before .before .before .before .args .pool .now))) _ _ (c .before .before .before .before .before .before .before .before .loop .inv) (c .before .before .before .before .before .before .before .before .before .before .before .before .pre .1) (c .before .before .before .before .before .before .before .loop-test .left) _ _ (c .before .before .before .before .cut-part .ensures)
 

@@ -1,17 +1,12 @@
 -- Assumes nothing.
--- uses
 use native.Mathlib.Omega.{arith}
 use Prim.Native.Nat.{ℕ, _+_, _-_}
-use lib.ListN.{length, getD}
-use mathlib.Core.Path.{_≡_, sym, subst}
+use lib.ListN.{length}
+use mathlib.Core.Path.{sym, subst}
 use Rattle.segment.proofs.Longest.{Met, met-none, met-yes, met-no, met-all, above}
--- end uses
 use borrow.Author.Needs.{needs}
 use Rattle.segment.proofs.longest_start.Statement.{statement}
 use Rattle.segment.proofs.longest_start.Tie as tie
-use Rattle.segment.proofs.longest_start.Reads as reads
-use Rattle.segment.proofs.longest_start.Lts as lts
-use Rattle.pool.proofs.wide.Reads as wide-reads
 
 abbrev Inv-loop : tie.InvT-loop
 Inv-loop ends start₀ most₀ from₀ i₀ start most from i = Met ends start most from i
@@ -19,51 +14,39 @@ Inv-loop ends start₀ most₀ from₀ i₀ start most from i = Met ends start m
 abbrev μ-loop : tie.MeasureT-loop
 μ-loop ends start₀ most₀ from₀ i₀ start most from i = length ends - i
 
--- src/lib.rt:36:5
 loop-holds : tie.Need-loop-holds Inv-loop μ-loop
 loop-holds c = met-none _ (c .before .pre)
 
--- src/lib.rt:38:21
 mul-wide : tie.Need-mul-wide Inv-loop μ-loop
 mul-wide c = search needs
 
--- src/lib.rt:38:21
 shared-slice-read-wide : tie.Need-shared-slice-read-wide Inv-loop μ-loop
 shared-slice-read-wide c = search needs
 
--- src/lib.rt:38:9
 wide-requires : tie.Need-wide-requires Inv-loop μ-loop
 wide-requires c κs = search needs
 
--- src/lib.rt:39:9
 add-i : tie.Need-add-i Inv-loop μ-loop
 add-i c = search needs
 
--- src/lib.rt:40:20
 sub-if1 : tie.Need-sub-if1 Inv-loop μ-loop
 sub-if1 c = omega (arith, c .wide .ensures, above (c .before .before .before .loop .inv) (c .before .before .loop-test .taken))
 
--- src/lib.rt:42:20
 sub-most : tie.Need-sub-most Inv-loop μ-loop
 sub-most c = omega (arith, c .before .wide .ensures, above (c .before .before .before .before .loop .inv) (c .before .before .before .loop-test .taken))
 
--- src/lib.rt:36:5
 loop-less : tie.Need-loop-less Inv-loop μ-loop
 loop-less c = omega arith
 
--- src/lib.rt:36:5
 loop-again : tie.Need-loop-again Inv-loop μ-loop
 loop-again c = subst (λ (z : ℕ). Met (c .before .before .before .before .before .before .args .ends .now) (c .before .before .before .before .loop .from) (z - c .before .before .before .before .loop .from) z (c .before .before .before .before .loop .i + 1)) (sym (c .before .wide .ensures)) (met-yes (c .before .before .before .before .loop .inv) (c .before .before .before .loop-test .taken) (omega (arith, c .before .wide .ensures, c .if1 .taken)))
 
--- src/lib.rt:36:5
 loop-less-2 : tie.Need-loop-less-2 Inv-loop μ-loop
 loop-less-2 c = omega arith
 
--- src/lib.rt:36:5
 loop-again-2 : tie.Need-loop-again-2 Inv-loop μ-loop
 loop-again-2 c = subst (λ (z : ℕ). Met (c .before .before .before .before .before .before .args .ends .now) (c .before .before .before .before .loop .start) (c .before .before .before .before .loop .most) z (c .before .before .before .before .loop .i + 1)) (sym (c .before .wide .ensures)) (met-no (c .before .before .before .before .loop .inv) (c .before .before .before .loop-test .taken) (omega (arith, c .before .wide .ensures, c .if1 .left)))
 
--- src/lib.rt:28:1
 returns : tie.Need-returns Inv-loop μ-loop
 returns c = met-all (c .before .loop .inv) (c .loop-test .left)
 

@@ -1,0 +1,105 @@
+"""Checks that every name in docs/TRACE.md exists: python3 docs/check_trace.py
+
+A definition or a theorem stands in the file before it, a contract's function in its crate's src/, a must-fail edit in
+its crate, and an op of a test in the first fields of the test's stdin.
+"""
+import os
+import re
+import sys
+
+ROOT = os.path.dirname(os.path.dirname(os.path.abspath(__file__)))
+CRATES = os.path.join(ROOT, "crates")
+COLUMNS = ["Sentence", "Definition", "Contract", "Theorem", "Test", "Must-fail"]
+
+# What a cell may say in words, with no name to look up.
+WORDS = re.compile(r"–|no public function has a `requires`; .*|the equations of each operation|those (of each operation|above)")
+
+
+def text(*path):
+    with open(os.path.join(*path), encoding="utf-8") as file:
+        return file.read()
+
+
+def antt(cell):
+    """Problems of `crate/specs/File `name` `name`; ..`: files of definitions or theorems with the names that stand in them."""
+    for item in cell.split("; "):
+        path, *rest = item.split(" `")
+        file = path if path.endswith(".md") else os.path.join("crates", path + ".antt")
+        if not os.path.exists(os.path.join(ROOT, file)):
+            yield "no file " + file
+            continue
+        for name in rest:
+            name = name.rstrip("` ")
+            if not re.search(r"(?m)^\s*(pub )?(data |record |abbrev |opaque )*%s(\s|$)" % re.escape(name), text(ROOT, file)):
+                yield "%s has no %s" % (file, name)
+
+
+def functions(cell):
+    """Problems of `crate::function` names; `crate` alone is a crate."""
+    for name in re.findall(r"`([^`]+)`", cell):
+        crate, *rest = name.split("::")
+        folder = os.path.join(CRATES, crate, "src")
+        if not os.path.isdir(folder):
+            yield "no crate " + crate
+            continue
+        source = "".join(text(folder, file) for file in sorted(os.listdir(folder)))
+        if rest and not re.search(r"\bfn %s\(" % re.escape(rest[-1]), source):
+            yield "%s has no function %s" % (crate, rest[-1])
+
+
+def tests(cell):
+    """Problems of `program `op`, `op`; ..`."""
+    for item in cell.split("; "):
+        words = item.replace("its sample in ", "").split(", ")
+        program = ""
+        for word in words:
+            found = re.fullmatch(r"(?:([\w/.]+) ?)?(?:`(\w+)`)?", word)
+            if not found:
+                yield "cannot read the test " + word
+                continue
+            program = found[1] or program
+            if "/" in program:
+                if not os.path.exists(os.path.join(ROOT, program)):
+                    yield "no file " + program
+                continue
+            stdin = os.path.join(CRATES, program, "stdin")
+            if not os.path.exists(stdin):
+                yield "no test program " + program
+            elif found[2] and not re.search(r"(?m)^%s\t" % found[2], text(stdin)):
+                yield "%s has no line %s" % (program, found[2])
+
+
+def edits(cell):
+    """Problems of `crate/must-fail/edit, edit; ..`."""
+    for item in cell.split("; "):
+        folder, _, names = item.rpartition("/")
+        for name in names.split(", "):
+            if not os.path.exists(os.path.join(CRATES, folder, name + ".edit")):
+                yield "no edit %s/%s" % (folder, name)
+
+
+CHECKS = {"Definition": antt, "Contract": functions, "Theorem": antt, "Test": tests, "Must-fail": edits}
+
+
+def main():
+    problems = names = 0
+    for number, line in enumerate(text(ROOT, "docs", "TRACE.md").splitlines(), 1):
+        if not line.startswith("| ") or line.startswith("| Sentence"):
+            continue
+        cells = [cell.strip() for cell in line.strip().strip("|").split(" | ")]
+        if len(cells) != len(COLUMNS):
+            print("line %d: %d cells" % (number, len(cells)))
+            problems += 1
+            continue
+        for column, cell in zip(COLUMNS[1:], cells[1:]):
+            if WORDS.fullmatch(cell):
+                continue
+            names += 1
+            for problem in CHECKS[column](cell):
+                print("line %d, %s: %s" % (number, column, problem))
+                problems += 1
+    print("%d cells with names, %d problems" % (names, problems))
+    sys.exit(problems > 0)
+
+
+main()
