@@ -1,0 +1,23 @@
+//! cut_sheet WORDS SHEET: writes the lines of the file SHEET with | between tokens, cut in safe mode by the words of the file
+//! WORDS, one to a line.
+use fetlockice::{Cutter, Dictionary, Mode};
+use std::{env, error::Error, fs};
+
+fn main() -> Result<(), Box<dyn Error>> {
+    let paths: Vec<String> = env::args().skip(1).collect();
+    if paths.len() != 2 {
+        return Err("usage: cut_sheet WORDS SHEET".into());
+    }
+    let (words, sheet) = (
+        fs::read_to_string(&paths[0])?,
+        fs::read_to_string(&paths[1])?,
+    );
+    let dictionary = Dictionary::from_words(words.split_terminator('\n'))?;
+    let mut cutter = Cutter::new();
+    for line in sheet.split_terminator('\n') {
+        let cut = cutter.cut(&dictionary, line, Mode::Safe)?;
+        let tokens: Vec<&str> = cut.tokens.iter().map(|token| token.text).collect();
+        println!("{}", tokens.join("|"));
+    }
+    Ok(())
+}

@@ -1,0 +1,100 @@
+use crate::{error::Error, ffi, scalars};
+
+/// The most nodes of a dictionary: the root, and one for each distinct non-empty prefix of its words.
+pub const MAX_NODES: usize = 1_048_576;
+
+const NODE_CELLS: usize = 8;
+
+/// A set of words, in a pool of its own that grows as words need it.
+#[derive(Clone, Debug, PartialEq, Eq)]
+pub struct Dictionary {
+    pool: Vec<u32>,
+}
+
+impl Dictionary {
+    /// A dictionary without words.
+    pub fn new() -> Dictionary {
+        Dictionary::with_nodes(64)
+    }
+
+    /// A dictionary without words, of at least one node and at most [`MAX_NODES`] to begin with.
+    pub fn with_nodes(nodes: usize) -> Dictionary {
+        let mut pool = vec![0; NODE_CELLS * nodes.clamp(1, MAX_NODES)];
+        ffi::fresh(&mut pool).expect("a pool of a node or more");
+        Dictionary { pool }
+    }
+
+    /// The words of an iterator.
+    pub fn from_words<'w>(words: impl IntoIterator<Item = &'w str>) -> Result<Dictionary, Error> {
+        let mut dictionary = Dictionary::new();
+        for word in words {
+            dictionary.add(word)?;
+        }
+        Ok(dictionary)
+    }
+
+    /// Takes over the cells of a pool, refused with 4 where they aren't a dictionary.
+    pub fn from_pool(pool: Vec<u32>) -> Result<Dictionary, Error> {
+        ffi::word_count(&pool)?;
+        Ok(Dictionary { pool })
+    }
+
+    /// The pool's cells. Equal words and an equal length give equal cells.
+    pub fn pool(&self) -> &[u32] {
+        &self.pool
+    }
+
+    /// Adds a word, trimmed at both edges; true if the set changed. Refused with 2, 7, and 8 where the pool can't grow.
+    pub fn add(&mut self, word: &str) -> Result<bool, Error> {
+        let word = scalars(word)?;
+        loop {
+            match ffi::add(&mut self.pool, &word) {
+                Err(Error::TooFewNodes(missing)) if self.grow(missing) => {}
+                answer => return Ok(answer? == 1),
+            }
+        }
+    }
+
+    /// Removes a word, trimmed at both edges; true if the set changed. Refused with 2 and 7.
+    pub fn remove(&mut self, word: &str) -> Result<bool, Error> {
+        Ok(ffi::remove(&mut self.pool, &scalars(word)?)? == 1)
+    }
+
+    /// True if the word is held, as it is and not trimmed. Refused with 2.
+    pub fn contains(&self, word: &str) -> Result<bool, Error> {
+        Ok(ffi::contains(&self.pool, &scalars(word)?)? == 1)
+    }
+
+    /// The lengths, in characters and rising, of the words that the text starts with. Refused with 2.
+    pub fn prefix_lengths(&self, text: &str) -> Result<Vec<usize>, Error> {
+        let mut lengths = [0; 255];
+        let count = ffi::prefix_lengths(&self.pool, &scalars(text)?, &mut lengths)?;
+        Ok(lengths[..count].iter().map(|&n| n as usize).collect())
+    }
+
+    /// How many words there are.
+    pub fn len(&self) -> usize {
+        ffi::word_count(&self.pool).expect("the pool is a dictionary")
+    }
+
+    pub fn is_empty(&self) -> bool {
+        self.len() == 0
+    }
+
+    /// Gives the pool at least so many more nodes, where it may have them. New nodes are zero, as those not in use must be.
+    fn grow(&mut self, missing: usize) -> bool {
+        let nodes = self.pool.len() / NODE_CELLS;
+        if nodes + missing > MAX_NODES {
+            return false;
+        }
+        self.pool.truncate(NODE_CELLS * nodes);
+        self.pool.resize(NODE_CELLS * (nodes + missing).max(2 * nodes).min(MAX_NODES), 0);
+        true
+    }
+}
+
+impl Default for Dictionary {
+    fn default() -> Dictionary {
+        Dictionary::new()
+    }
+}

@@ -1,0 +1,72 @@
+use std::fmt;
+
+/// Why a call was refused, with its detail.
+#[derive(Clone, Copy, Debug, PartialEq, Eq, Hash)]
+#[non_exhaustive]
+pub enum Error {
+    /// 1: the bytes aren't well-formed UTF-8. The length of the longest well-formed prefix.
+    IllFormed(usize),
+    /// 2: more than 65,535 scalars. That number.
+    TooManyScalars(usize),
+    /// 3: a cell isn't a Unicode scalar value. The index of the first. No call on a `str` has it.
+    NotAScalar(usize),
+    /// 4: the pool isn't a dictionary.
+    NotADictionary,
+    /// 5: scratch has fewer than 9n+128 cells. 9n+128. A `Cutter`'s own scratch always suffices.
+    ScratchTooShort(usize),
+    /// 6: the output has fewer cells than the answer. The cells needed. The outputs of this crate always suffice.
+    OutputTooShort(usize),
+    /// 7: the word is over 255 scalars after trimming. Its trimmed length.
+    WordTooLong(usize),
+    /// 8: the dictionary would pass 1,048,576 nodes. The nodes missing.
+    TooFewNodes(usize),
+}
+
+impl Error {
+    /// The refusal's number.
+    pub fn number(self) -> u32 {
+        match self {
+            Error::IllFormed(_) => 1,
+            Error::TooManyScalars(_) => 2,
+            Error::NotAScalar(_) => 3,
+            Error::NotADictionary => 4,
+            Error::ScratchTooShort(_) => 5,
+            Error::OutputTooShort(_) => 6,
+            Error::WordTooLong(_) => 7,
+            Error::TooFewNodes(_) => 8,
+        }
+    }
+}
+
+impl fmt::Display for Error {
+    fn fmt(&self, f: &mut fmt::Formatter<'_>) -> fmt::Result {
+        match self {
+            Error::IllFormed(n) => write!(f, "the bytes aren't well-formed UTF-8 after the first {n}"),
+            Error::TooManyScalars(n) => write!(f, "{n} characters are more than 65535"),
+            Error::NotAScalar(n) => write!(f, "the cell at {n} isn't a Unicode scalar value"),
+            Error::NotADictionary => write!(f, "the pool isn't a dictionary"),
+            Error::ScratchTooShort(n) => write!(f, "scratch needs {n} cells"),
+            Error::OutputTooShort(n) => write!(f, "the output needs {n} cells"),
+            Error::WordTooLong(n) => write!(f, "a word of {n} characters is longer than 255"),
+            Error::TooFewNodes(n) => write!(f, "the dictionary has {n} nodes too few"),
+        }
+    }
+}
+
+impl std::error::Error for Error {}
+
+/// The answer, where the number is that of an accepted call.
+pub(crate) fn accepted<T>(number: u32, detail: usize, answer: T) -> Result<T, Error> {
+    Err(match number {
+        0 => return Ok(answer),
+        1 => Error::IllFormed(detail),
+        2 => Error::TooManyScalars(detail),
+        3 => Error::NotAScalar(detail),
+        4 => Error::NotADictionary,
+        5 => Error::ScratchTooShort(detail),
+        6 => Error::OutputTooShort(detail),
+        7 => Error::WordTooLong(detail),
+        8 => Error::TooFewNodes(detail),
+        other => unreachable!("the library has no refusal {other}"),
+    })
+}

@@ -1,0 +1,176 @@
+//! The functions of ../include/fetlockice.h, and safe calls of them: a slice is a row of the length that it has, and Rust's
+//! borrowing keeps the caller's duties.
+use crate::error::{accepted, Error};
+
+extern "C" {
+    fn fetlockice_decode(
+        bytes: *const u8,
+        bytes_len: usize,
+        out: *mut u32,
+        out_len: usize,
+        count: &mut usize,
+        detail: &mut usize,
+    ) -> u32;
+    fn fetlockice_clusters(
+        text: *const u32,
+        text_len: usize,
+        out: *mut u32,
+        out_len: usize,
+        count: &mut usize,
+        detail: &mut usize,
+    ) -> u32;
+    fn fetlockice_fresh(pool: *mut u32, pool_len: usize, count: &mut usize, detail: &mut usize) -> u32;
+    fn fetlockice_add(
+        pool: *mut u32,
+        pool_len: usize,
+        word: *const u32,
+        word_len: usize,
+        count: &mut usize,
+        detail: &mut usize,
+    ) -> u32;
+    fn fetlockice_remove(
+        pool: *mut u32,
+        pool_len: usize,
+        word: *const u32,
+        word_len: usize,
+        count: &mut usize,
+        detail: &mut usize,
+    ) -> u32;
+    fn fetlockice_contains(
+        pool: *const u32,
+        pool_len: usize,
+        word: *const u32,
+        word_len: usize,
+        count: &mut usize,
+        detail: &mut usize,
+    ) -> u32;
+    fn fetlockice_prefix_lengths(
+        pool: *const u32,
+        pool_len: usize,
+        text: *const u32,
+        text_len: usize,
+        out: *mut u32,
+        out_len: usize,
+        count: &mut usize,
+        detail: &mut usize,
+    ) -> u32;
+    fn fetlockice_word_count(pool: *const u32, pool_len: usize, count: &mut usize, detail: &mut usize) -> u32;
+    fn fetlockice_cut_plain(
+        text: *const u32,
+        text_len: usize,
+        pool: *const u32,
+        pool_len: usize,
+        out: *mut u32,
+        out_len: usize,
+        scratch: *mut u32,
+        scratch_len: usize,
+        count: &mut usize,
+        edges: &mut usize,
+        detail: &mut usize,
+    ) -> u32;
+    fn fetlockice_cut_safe(
+        text: *const u32,
+        text_len: usize,
+        pool: *const u32,
+        pool_len: usize,
+        out: *mut u32,
+        out_len: usize,
+        scratch: *mut u32,
+        scratch_len: usize,
+        count: &mut usize,
+        edges: &mut usize,
+        detail: &mut usize,
+    ) -> u32;
+}
+
+pub fn decode(bytes: &[u8], out: &mut [u32]) -> Result<usize, Error> {
+    let (mut count, mut detail) = (0, 0);
+    let number =
+        unsafe { fetlockice_decode(bytes.as_ptr(), bytes.len(), out.as_mut_ptr(), out.len(), &mut count, &mut detail) };
+    accepted(number, detail, count)
+}
+
+pub fn clusters(text: &[u32], out: &mut [u32]) -> Result<usize, Error> {
+    let (mut count, mut detail) = (0, 0);
+    let number =
+        unsafe { fetlockice_clusters(text.as_ptr(), text.len(), out.as_mut_ptr(), out.len(), &mut count, &mut detail) };
+    accepted(number, detail, count)
+}
+
+pub fn fresh(pool: &mut [u32]) -> Result<usize, Error> {
+    let (mut count, mut detail) = (0, 0);
+    let number = unsafe { fetlockice_fresh(pool.as_mut_ptr(), pool.len(), &mut count, &mut detail) };
+    accepted(number, detail, count)
+}
+
+pub fn add(pool: &mut [u32], word: &[u32]) -> Result<usize, Error> {
+    let (mut count, mut detail) = (0, 0);
+    let number =
+        unsafe { fetlockice_add(pool.as_mut_ptr(), pool.len(), word.as_ptr(), word.len(), &mut count, &mut detail) };
+    accepted(number, detail, count)
+}
+
+pub fn remove(pool: &mut [u32], word: &[u32]) -> Result<usize, Error> {
+    let (mut count, mut detail) = (0, 0);
+    let number =
+        unsafe { fetlockice_remove(pool.as_mut_ptr(), pool.len(), word.as_ptr(), word.len(), &mut count, &mut detail) };
+    accepted(number, detail, count)
+}
+
+pub fn contains(pool: &[u32], word: &[u32]) -> Result<usize, Error> {
+    let (mut count, mut detail) = (0, 0);
+    let number =
+        unsafe { fetlockice_contains(pool.as_ptr(), pool.len(), word.as_ptr(), word.len(), &mut count, &mut detail) };
+    accepted(number, detail, count)
+}
+
+pub fn prefix_lengths(pool: &[u32], text: &[u32], out: &mut [u32]) -> Result<usize, Error> {
+    let (mut count, mut detail) = (0, 0);
+    let number = unsafe {
+        fetlockice_prefix_lengths(
+            pool.as_ptr(),
+            pool.len(),
+            text.as_ptr(),
+            text.len(),
+            out.as_mut_ptr(),
+            out.len(),
+            &mut count,
+            &mut detail,
+        )
+    };
+    accepted(number, detail, count)
+}
+
+pub fn word_count(pool: &[u32]) -> Result<usize, Error> {
+    let (mut count, mut detail) = (0, 0);
+    let number = unsafe { fetlockice_word_count(pool.as_ptr(), pool.len(), &mut count, &mut detail) };
+    accepted(number, detail, count)
+}
+
+/// The number of ends, and of edges.
+pub fn cut(
+    safe: bool,
+    text: &[u32],
+    pool: &[u32],
+    out: &mut [u32],
+    scratch: &mut [u32],
+) -> Result<(usize, usize), Error> {
+    let (mut count, mut edges, mut detail) = (0, 0, 0);
+    let call = if safe { fetlockice_cut_safe } else { fetlockice_cut_plain };
+    let number = unsafe {
+        call(
+            text.as_ptr(),
+            text.len(),
+            pool.as_ptr(),
+            pool.len(),
+            out.as_mut_ptr(),
+            out.len(),
+            scratch.as_mut_ptr(),
+            scratch.len(),
+            &mut count,
+            &mut edges,
+            &mut detail,
+        )
+    };
+    accepted(number, detail, (count, edges))
+}

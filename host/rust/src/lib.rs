@@ -1,0 +1,42 @@
+//! Thai word cutting whose every answer is proved: a safe interface over the library of the repository's crates.
+//!
+//! ```
+//! use fetlockice::{Cutter, Dictionary, Mode};
+//!
+//! let words = Dictionary::from_words(["กข", "กขค", "คง", "ง"])?;
+//! let cut = Cutter::new().cut(&words, "กขคง", Mode::Safe)?;
+//! let tokens: Vec<&str> = cut.tokens.iter().map(|token| token.text).collect();
+//! assert_eq!(tokens, ["กข", "คง"]);
+//! # Ok::<(), fetlockice::Error>(())
+//! ```
+mod cutter;
+mod dictionary;
+mod error;
+mod ffi;
+
+pub use cutter::{Cut, Cutter, Mode, Token};
+pub use dictionary::{Dictionary, MAX_NODES};
+pub use error::Error;
+
+/// The most scalars of a text.
+pub const MAX_SCALARS: usize = 65_535;
+
+/// The scalars of UTF-8 bytes. Refused with 1 and 2.
+pub fn decode(bytes: &[u8]) -> Result<Vec<u32>, Error> {
+    let mut out = vec![0; bytes.len().min(MAX_SCALARS)];
+    let count = ffi::decode(bytes, &mut out)?;
+    out.truncate(count);
+    Ok(out)
+}
+
+/// Where the clusters of a text end, in characters. Refused with 2.
+pub fn clusters(text: &str) -> Result<Vec<usize>, Error> {
+    let text = scalars(text)?;
+    let mut out = vec![0; text.len()];
+    let count = ffi::clusters(&text, &mut out)?;
+    Ok(out[..count].iter().map(|&end| end as usize).collect())
+}
+
+fn scalars(text: &str) -> Result<Vec<u32>, Error> {
+    decode(text.as_bytes())
+}

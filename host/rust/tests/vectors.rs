@@ -1,0 +1,180 @@
+//! The answers of this crate against those that the test programs of crates/ are held to: an independent model's and the
+//! Rust's. Lines that a `str`, a growing pool or rows of one's own can't bring about are left out.
+use fetlockice::{clusters, decode, Cutter, Dictionary, Error, Mode};
+use std::fs;
+
+/// The lines of a test program with that operation, in fields, each with its answer.
+fn lines(program: &str, operation: &str) -> Vec<(Vec<String>, String)> {
+    let folder = format!("{}/../../crates/{program}", env!("CARGO_MANIFEST_DIR"));
+    let read = |name| fs::read_to_string(format!("{folder}/{name}")).expect("the test program's files");
+    let (asked, told) = (read("stdin"), read("stdout"));
+    let fields = asked.lines().map(|line| line.split('\t').map(String::from).collect::<Vec<_>>());
+    fields.zip(told.lines().map(String::from)).filter(|(line, _)| line[0] == operation).collect()
+}
+
+/// Holds the answer to each line, where there is one, to what is expected. At least so many lines have one.
+fn hold(lines: Vec<(Vec<String>, String)>, least: usize, mut answer: impl FnMut(&[String]) -> Option<String>) {
+    let mut held = 0;
+    for (line, expected) in lines {
+        if let Some(answer) = answer(&line) {
+            assert_eq!(answer, expected, "{line:?}");
+            held += 1;
+        }
+    }
+    assert!(held >= least, "{held} lines");
+}
+
+/// The row is as long as needed, as those of this crate are.
+fn roomy(field: &str) -> Option<()> {
+    (field == "*").then(|| ())
+}
+
+/// `E01.20*3` as four scalars; `-` as none.
+fn cells(field: &str) -> Vec<u32> {
+    let run = |part: &str| {
+        let (cell, times) = part.split_once('*').unwrap_or((part, "1"));
+        vec![u32::from_str_radix(cell, 16).expect("a cell"); times.parse().expect("a number")]
+    };
+    if field == "-" {
+        Vec::new()
+    } else {
+        field.split('.').flat_map(run).collect()
+    }
+}
+
+/// Scalars as a field has them: four or more equal ones as `cell*count`.
+fn spelled(cells: &[u32]) -> String {
+    let (mut parts, mut rest) = (Vec::new(), cells);
+    while let Some(&cell) = rest.first() {
+        let run = rest.iter().take_while(|&&next| next == cell).count();
+        let taken = if run < 4 { 1 } else { run };
+        parts.push(if run < 4 { format!("{cell:X}") } else { format!("{cell:X}*{run}") });
+        rest = &rest[taken..];
+    }
+    if parts.is_empty() {
+        "-".into()
+    } else {
+        parts.join(".")
+    }
+}
+
+/// `c3a9.61*3` as five bytes; `-` as none.
+fn bytes(field: &str) -> Vec<u8> {
+    let byte = |digits: &str, at| u8::from_str_radix(&digits[at..at + 2], 16).expect("a byte");
+    let run = |part: &str| {
+        let (digits, times) = part.split_once('*').unwrap_or((part, "1"));
+        let once: Vec<u8> = (0..digits.len()).step_by(2).map(|at| byte(digits, at)).collect();
+        once.repeat(times.parse().expect("a number"))
+    };
+    if field == "-" {
+        Vec::new()
+    } else {
+        field.split('.').flat_map(run).collect()
+    }
+}
+
+/// A text of scalars, where they are.
+fn text(field: &str) -> Option<String> {
+    cells(field).into_iter().map(char::from_u32).collect()
+}
+
+fn words(field: &str) -> Option<Dictionary> {
+    let word = |part: &str| text(part.split_once(':').expect("a word and its class").0);
+    let all = if field == "-" { Some(Vec::new()) } else { field.split(',').map(word).collect::<Option<Vec<_>>>() }?;
+    Some(Dictionary::from_words(all.iter().map(String::as_str)).expect("words that can be held"))
+}
+
+fn row(numbers: &[usize], between: &str) -> String {
+    let all: Vec<String> = numbers.iter().map(usize::to_string).collect();
+    if all.is_empty() {
+        "-".into()
+    } else {
+        all.join(between)
+    }
+}
+
+fn detail(error: Error) -> usize {
+    match error {
+        Error::IllFormed(n) | Error::TooManyScalars(n) | Error::WordTooLong(n) => n,
+        other => panic!("{other}: this can't arise here"),
+    }
+}
+
+/// A line's answer.
+fn told<T>(answer: Result<T, Error>, accepted: impl FnOnce(T) -> String) -> String {
+    answer.map_or_else(|e| format!("! {} {}", e.number(), detail(e)), |all| format!("ok {}", accepted(all)))
+}
+
+#[test]
+fn decoding() {
+    hold(lines("char_string_tests", "decode"), 5000, |line| {
+        roomy(&line[2])?;
+        Some(told(decode(&bytes(&line[1])), |out| format!("{} {}", out.len(), spelled(&out))))
+    });
+}
+
+#[test]
+fn cluster_ends() {
+    hold(lines("tcc_tests", "clusters"), 1000, |line| {
+        roomy(&line[2])?;
+        Some(told(clusters(&text(&line[1])?), |ends| row(&ends, ",")))
+    });
+}
+
+#[test]
+fn prefixes() {
+    hold(lines("trie_char_tests", "prefix"), 100, |line| {
+        roomy(&line[3])?;
+        Some(told(words(&line[1])?.prefix_lengths(&text(&line[2])?), |lengths| row(&lengths, ",")))
+    });
+}
+
+/// The answer to a step of a dictionary's script.
+fn step(dictionary: &mut Dictionary, step: &str) -> Option<String> {
+    let (operation, field) = step.split_at(1);
+    let answer = match operation {
+        "f" => {
+            *dictionary = Dictionary::with_nodes(1);
+            Ok("0".into())
+        }
+        "+" => dictionary.add(&text(field)?).map(|yes| u8::from(yes).to_string()),
+        "-" => dictionary.remove(&text(field)?).map(|yes| u8::from(yes).to_string()),
+        "?" => dictionary.contains(&text(field)?).map(|yes| format!("{}.0", u8::from(yes))),
+        "#" => Ok(dictionary.len().to_string()),
+        "n" => Ok(dictionary.pool()[4].to_string()),
+        "p" => dictionary.prefix_lengths(&text(field)?).map(|all| row(&all, ".")),
+        _ => return None,
+    };
+    Some(answer.unwrap_or_else(|error| format!("!{}.{}", error.number(), detail(error))))
+}
+
+#[test]
+fn dictionaries() {
+    // a pool of a fixed size meets refusals 4 and 8, and this crate's doesn't
+    let grown = |expected: &str| !expected.contains("!4") && !expected.contains("!8");
+    let lines = lines("trie_char_tests", "dict").into_iter().filter(|(_, expected)| grown(expected)).collect();
+    hold(lines, 300, |line| {
+        let mut dictionary = Dictionary::new();
+        let answers: Option<Vec<_>> = line[2].split(';').map(|part| step(&mut dictionary, part)).collect();
+        Some(format!("ok {}", answers?.join(";")))
+    });
+}
+
+#[test]
+fn cuts() {
+    let mut cutter = Cutter::new();
+    hold(lines("cut_tests", "cut"), 2000, |line| {
+        roomy(&line[4]).and(roomy(&line[5]))?;
+        let (words, text) = (words(&line[2])?, text(&line[3])?);
+        let mode = if line[1] == "safe" { Mode::Safe } else { Mode::Plain };
+        Some(told(cutter.cut(&words, &text, mode), |cut| {
+            assert_eq!(cut.tokens.iter().map(|token| token.text).collect::<String>(), text);
+            for token in &cut.tokens {
+                let front = &text[..token.byte_end];
+                assert!(front.ends_with(token.text) && front.chars().count() == token.end);
+            }
+            let ends: Vec<usize> = cut.tokens.iter().map(|token| token.end).collect();
+            format!("{} {}", row(&ends, ","), cut.edges)
+        }))
+    });
+}
