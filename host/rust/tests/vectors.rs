@@ -26,7 +26,7 @@ fn hold(lines: Vec<(Vec<String>, String)>, least: usize, mut answer: impl FnMut(
 
 /// The row is as long as needed, as those of this crate are.
 fn roomy(field: &str) -> Option<()> {
-    (field == "*").then(|| ())
+    (field == "*").then_some(())
 }
 
 /// `E01.20*3` as four scalars; `-` as none.
