@@ -27,8 +27,8 @@ pub extern "C" fn fetlockice_cut_plain(
     ensures { λ _. ⌜ now (out .exit) ≡ outAfter Plain (now (text .entry)) (meaning (now (pool .entry))) (length (now (scratch .entry))) (now (out .entry)) ⌝ }
     ensures { λ _. ⌜ now (scratch .exit) ≡ scratchAfter (now (text .entry)) (meaning (now (pool .entry))) (now (scratch .entry)) ⌝ }
 {
-    let a = cut(text, pool, out, scratch, Mode::Plain);
-    tell_cut(a, count, edges, detail)
+    let plain = cut(text, pool, out, scratch, Mode::Plain);
+    tell_cut(plain, count, edges, detail)
 }
 
 // Cuts a text in safe mode; the rest as in the plain cut.
@@ -49,6 +49,6 @@ pub extern "C" fn fetlockice_cut_safe(
     ensures { λ _. ⌜ now (out .exit) ≡ outAfter Safe (now (text .entry)) (meaning (now (pool .entry))) (length (now (scratch .entry))) (now (out .entry)) ⌝ }
     ensures { λ _. ⌜ now (scratch .exit) ≡ scratchAfter (now (text .entry)) (meaning (now (pool .entry))) (now (scratch .entry)) ⌝ }
 {
-    let a = cut(text, pool, out, scratch, Mode::Safe);
-    tell_cut(a, count, edges, detail)
+    let safe = cut(text, pool, out, scratch, Mode::Safe);
+    tell_cut(safe, count, edges, detail)
 }

@@ -21,8 +21,8 @@ pub extern "C" fn fetlockice_fresh(pool: &mut [u32], count: &mut usize, detail: 
     ensures { λ _. ⌜ now (detail .exit) ≡ detailTold (freshAnswer (now (pool .entry))) ⌝ }
     ensures { λ _. ⌜ After (freshAnswer (now (pool .entry))) (now (pool .entry)) (now (pool .exit)) noWord ⌝ }
 {
-    let a = fresh(pool);
-    tell(a, count, detail)
+    let made = fresh(pool);
+    tell(made, count, detail)
 }
 
 // Adds the trimmed word; accepted with 1 if the set changed, else 0. Refusals 2, 3, 4, 7, 8.
@@ -38,8 +38,8 @@ pub extern "C" fn fetlockice_add(
     ensures { λ _. ⌜ now (detail .exit) ≡ detailTold (addAnswer (now (word .entry)) (now (pool .entry))) ⌝ }
     ensures { λ _. ⌜ After (addAnswer (now (word .entry)) (now (pool .entry))) (now (pool .entry)) (now (pool .exit)) (added (now (word .entry)) (now (pool .entry))) ⌝ }
 {
-    let a = add(pool, word);
-    tell(a, count, detail)
+    let added = add(pool, word);
+    tell(added, count, detail)
 }
 
 // Removes the trimmed word; accepted with 1 if the set changed, else 0. Refusals 2, 3, 4, 7.
@@ -55,8 +55,8 @@ pub extern "C" fn fetlockice_remove(
     ensures { λ _. ⌜ now (detail .exit) ≡ detailTold (removeAnswer (now (word .entry)) (now (pool .entry))) ⌝ }
     ensures { λ _. ⌜ After (removeAnswer (now (word .entry)) (now (pool .entry))) (now (pool .entry)) (now (pool .exit)) (removed (now (word .entry)) (now (pool .entry))) ⌝ }
 {
-    let a = remove(pool, word);
-    tell(a, count, detail)
+    let removed = remove(pool, word);
+    tell(removed, count, detail)
 }
 
 // Accepted with 1 if the word is held as it is, else 0. Refusals 2, 3, 4.
@@ -71,8 +71,8 @@ pub extern "C" fn fetlockice_contains(
     ensures { λ _. ⌜ now (count .exit) ≡ countTold (containsAnswer (now (word .entry)) (now (pool .entry))) ⌝ }
     ensures { λ _. ⌜ now (detail .exit) ≡ detailTold (containsAnswer (now (word .entry)) (now (pool .entry))) ⌝ }
 {
-    let a = contain(pool, word);
-    tell(a, count, detail)
+    let held = contain(pool, word);
+    tell(held, count, detail)
 }
 
 // The lengths of the words that a text starts with, rising, at the front of out; accepted with their number. Refusals 2, 3, 4, 6.
@@ -89,8 +89,8 @@ pub extern "C" fn fetlockice_prefix_lengths(
     ensures { λ _. ⌜ now (detail .exit) ≡ detailTold (prefixesAnswer (now (text .entry)) (now (pool .entry)) (now (out .entry))) ⌝ }
     ensures { λ _. ⌜ now (out .exit) ≡ output (prefixesAnswer (now (text .entry)) (now (pool .entry)) (now (out .entry))) (prefixes (now (text .entry)) (now (pool .entry))) (now (out .entry)) ⌝ }
 {
-    let a = prefix_lengths(pool, text, out);
-    tell(a, count, detail)
+    let lengths = prefix_lengths(pool, text, out);
+    tell(lengths, count, detail)
 }
 
 // Accepted with the number of words. Refusal 4.
@@ -100,6 +100,6 @@ pub extern "C" fn fetlockice_word_count(pool: &[u32], count: &mut usize, detail:
     ensures { λ _. ⌜ now (count .exit) ≡ countTold (wordCountAnswer (now (pool .entry))) ⌝ }
     ensures { λ _. ⌜ now (detail .exit) ≡ detailTold (wordCountAnswer (now (pool .entry))) ⌝ }
 {
-    let a = amount_of_words(pool);
-    tell(a, count, detail)
+    let words = amount_of_words(pool);
+    tell(words, count, detail)
 }

@@ -23,8 +23,8 @@ pub extern "C" fn fetlockice_decode(
     ensures { λ _. ⌜ now (detail .exit) ≡ detailTold (decoded (now (bytes .entry)) (length (now (out .entry)))) ⌝ }
     ensures { λ _. ⌜ now (out .exit) ≡ output (decoded (now (bytes .entry)) (length (now (out .entry)))) (scalarsOf (now (bytes .entry))) (now (out .entry)) ⌝ }
 {
-    let a = decode(bytes, out);
-    tell(a, count, detail)
+    let scalars = decode(bytes, out);
+    tell(scalars, count, detail)
 }
 
 // The ends of a text's clusters, in characters, at the front of out; accepted with their number. Refusals 2, 3, 6.
@@ -40,6 +40,6 @@ pub extern "C" fn fetlockice_clusters(
     ensures { λ _. ⌜ now (detail .exit) ≡ detailTold (clustersAnswer (now (text .entry)) (length (now (out .entry)))) ⌝ }
     ensures { λ _. ⌜ now (out .exit) ≡ output (clustersAnswer (now (text .entry)) (length (now (out .entry)))) (clusterEnds (now (text .entry))) (now (out .entry)) ⌝ }
 {
-    let a = tcc_pos(text, out);
-    tell(a, count, detail)
+    let ends = tcc_pos(text, out);
+    tell(ends, count, detail)
 }
