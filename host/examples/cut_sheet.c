@@ -37,7 +37,8 @@ int main(int argc, char **argv) {
     while (next_line(words) != NULL) {
         size_t n = count;
         uint32_t number;
-        while ((number = fetlockice_add(pool, cells, text, n, &count, &detail)) == FETLOCKICE_TOO_FEW_NODES && cells < most) {
+        while ((number = fetlockice_add(pool, cells, text, n, &count, &detail)) == FETLOCKICE_TOO_FEW_NODES &&
+               cells < most) {
             memset(pool + cells, 0, cells * sizeof *pool); /* nodes that aren't in use are zero */
             cells *= 2;
         }
@@ -45,9 +46,13 @@ int main(int argc, char **argv) {
     }
     for (char *line; (line = next_line(sheet)) != NULL;) {
         size_t n = count;
-        accepted(fetlockice_cut_safe(text, n, pool, cells, ends, n, scratch, FETLOCKICE_SCRATCH_CELLS(n), &count, &edges, &detail));
+        accepted(fetlockice_cut_safe(text, n, pool, cells, ends, n, scratch, FETLOCKICE_SCRATCH_CELLS(n), &count,
+                                     &edges, &detail));
         for (size_t token = 0, at = 0; token < count; token++) {
-            for (; at < ends[token]; at++) do putchar(*line++); while ((*line & 0xC0) == 0x80);
+            while (at < ends[token]) {
+                putchar(*line++);
+                if ((*line & 0xC0) != 0x80) at++; /* the next byte starts a character */
+            }
             if (token + 1 < count) putchar('|');
         }
         putchar('\n');

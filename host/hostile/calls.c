@@ -34,7 +34,8 @@ struct numbers {
     size_t guard0, count, guard1, edges, guard2, detail, guard3;
 };
 
-static uint32_t exported(const struct call *c, const void *text, uint32_t *pool, uint32_t *out, uint32_t *scratch, struct numbers *to) {
+static uint32_t exported(const struct call *c, const void *text, uint32_t *pool, uint32_t *out, uint32_t *scratch,
+                         struct numbers *to) {
     switch (c->op) {
     case DECODE: return fetlockice_decode(text, c->n, out, c->room, &to->count, &to->detail);
     case CLUSTERS: return fetlockice_clusters(text, c->n, out, c->room, &to->count, &to->detail);
@@ -42,10 +43,15 @@ static uint32_t exported(const struct call *c, const void *text, uint32_t *pool,
     case ADD: return fetlockice_add(pool, c->cells, text, c->n, &to->count, &to->detail);
     case REMOVE: return fetlockice_remove(pool, c->cells, text, c->n, &to->count, &to->detail);
     case CONTAINS: return fetlockice_contains(pool, c->cells, text, c->n, &to->count, &to->detail);
-    case PREFIX_LENGTHS: return fetlockice_prefix_lengths(pool, c->cells, text, c->n, out, c->room, &to->count, &to->detail);
+    case PREFIX_LENGTHS:
+        return fetlockice_prefix_lengths(pool, c->cells, text, c->n, out, c->room, &to->count, &to->detail);
     case WORD_COUNT: return fetlockice_word_count(pool, c->cells, &to->count, &to->detail);
-    case CUT_PLAIN: return fetlockice_cut_plain(text, c->n, pool, c->cells, out, c->room, scratch, c->scratch, &to->count, &to->edges, &to->detail);
-    default: return fetlockice_cut_safe(text, c->n, pool, c->cells, out, c->room, scratch, c->scratch, &to->count, &to->edges, &to->detail);
+    case CUT_PLAIN:
+        return fetlockice_cut_plain(text, c->n, pool, c->cells, out, c->room, scratch, c->scratch, &to->count,
+                                    &to->edges, &to->detail);
+    default:
+        return fetlockice_cut_safe(text, c->n, pool, c->cells, out, c->room, scratch, c->scratch, &to->count,
+                                   &to->edges, &to->detail);
     }
 }
 
@@ -67,12 +73,16 @@ static void check_rows(const struct call *c, const struct rows *rows, const stru
     must(untouched || all_zero(&rows->scratch), "scratch isn't all zero");
 }
 
-static void check_numbers(const struct call *c, const struct answer *a, const struct numbers *before, const struct numbers *after) {
-    must(before->guard0 == after->guard0 && before->guard1 == after->guard1 && before->guard2 == after->guard2 && before->guard3 == after->guard3,
+static void check_numbers(const struct call *c, const struct answer *a, const struct numbers *before,
+                          const struct numbers *after) {
+    must(before->guard0 == after->guard0 && before->guard1 == after->guard1 && before->guard2 == after->guard2 &&
+             before->guard3 == after->guard3,
          "a guard between two numbers was written");
     must(cuts(c->op) || before->edges == after->edges, "edges were told of where none are");
-    must(a->number == 0 || (a->number < 32 && (refusals[c->op] >> a->number & 1) != 0), "a refusal that the function doesn't have");
-    must(a->number == 0 ? a->detail == 0 : a->count == 0 && (!cuts(c->op) || a->edges == 0), "a number isn't 0 that must be");
+    must(a->number == 0 || (a->number < 32 && (refusals[c->op] >> a->number & 1) != 0),
+         "a refusal that the function doesn't have");
+    must(a->number == 0 ? a->detail == 0 : a->count == 0 && (!cuts(c->op) || a->edges == 0),
+         "a number isn't 0 that must be");
 }
 
 static struct answer call_once(const struct call *c, struct rows *rows) {
@@ -98,7 +108,8 @@ struct answer call_twice(const struct call *c) {
     static size_t turn;
     struct rows *own = rows[turn++ % 4];
     struct answer a = call_once(c, &own[0]), b = call_once(c, &own[1]);
-    must(a.number == b.number && a.count == b.count && a.edges == b.edges && a.detail == b.detail, "two calls told different numbers");
+    must(a.number == b.number && a.count == b.count && a.edges == b.edges && a.detail == b.detail,
+         "two calls told different numbers");
     must(!writes_output(c->op) || memcmp(a.out, b.out, 4 * a.count) == 0, "two calls wrote different outputs");
     size_t same = c->op == FRESH ? (a.number == 0 ? 32 * nodes_of(c->cells) : 0) : 4 * c->cells;
     must(memcmp(a.pool, b.pool, same) == 0, "two calls left different pools");

@@ -20,7 +20,7 @@ struct call {
 struct answer {
     uint32_t number;
     size_t count, edges, detail;
-    const uint32_t *out;  /* the output and the pool, for as long as three more pairs of calls */
+    const uint32_t *out; /* the output and the pool, for as long as three more pairs of calls */
     const uint32_t *pool;
 };
 
@@ -28,8 +28,8 @@ int writes_output(enum op op);
 int writes_pool(enum op op);
 int cuts(enum op op);
 
-/* Calls twice, with different leftovers in output, scratch and numbers and at different places. Everything that must be kept
- * was, and the two answers are equal, bit by bit. */
+/* Calls twice, with different leftovers in output, scratch and numbers and at different places. Everything that must be
+ * kept was, and the two answers are equal, bit by bit. */
 struct answer call_twice(const struct call *call);
 
 /* How many calls each function had. */

@@ -1,7 +1,9 @@
 /* Wrong libraries: each FAULT changes one function a little, from outside. The run must find every one. */
 #include "../include/fetlockice.h"
 
-#define CUT const uint32_t *text, size_t n, const uint32_t *pool, size_t cells, uint32_t *out, size_t room, uint32_t *scratch, size_t len, size_t *count, size_t *edges, size_t *detail
+#define CUT                                                                                                            \
+    const uint32_t *text, size_t n, const uint32_t *pool, size_t cells, uint32_t *out, size_t room, uint32_t *scratch, \
+        size_t len, size_t *count, size_t *edges, size_t *detail
 #define CUT_WITH text, n, pool, cells, out, room, scratch, len, count, edges, detail
 
 uint32_t __real_fetlockice_decode(const uint8_t *, size_t, uint32_t *, size_t, size_t *, size_t *);
@@ -10,20 +12,23 @@ uint32_t __real_fetlockice_fresh(uint32_t *, size_t, size_t *, size_t *);
 uint32_t __real_fetlockice_add(uint32_t *, size_t, const uint32_t *, size_t, size_t *, size_t *);
 uint32_t __real_fetlockice_remove(uint32_t *, size_t, const uint32_t *, size_t, size_t *, size_t *);
 uint32_t __real_fetlockice_contains(const uint32_t *, size_t, const uint32_t *, size_t, size_t *, size_t *);
-uint32_t __real_fetlockice_prefix_lengths(const uint32_t *, size_t, const uint32_t *, size_t, uint32_t *, size_t, size_t *, size_t *);
+uint32_t __real_fetlockice_prefix_lengths(const uint32_t *, size_t, const uint32_t *, size_t, uint32_t *, size_t,
+                                          size_t *, size_t *);
 uint32_t __real_fetlockice_word_count(const uint32_t *, size_t, size_t *, size_t *);
 uint32_t __real_fetlockice_cut_plain(CUT);
 uint32_t __real_fetlockice_cut_safe(CUT);
 
 /* 1: the detail of a refusal is one too high */
-uint32_t __wrap_fetlockice_decode(const uint8_t *bytes, size_t n, uint32_t *out, size_t room, size_t *count, size_t *detail) {
+uint32_t __wrap_fetlockice_decode(const uint8_t *bytes, size_t n, uint32_t *out, size_t room, size_t *count,
+                                  size_t *detail) {
     uint32_t number = __real_fetlockice_decode(bytes, n, out, room, count, detail);
     if (FAULT == 1 && number != 0) *detail += 1;
     return number;
 }
 
 /* 2: a refused call writes to the output */
-uint32_t __wrap_fetlockice_clusters(const uint32_t *text, size_t n, uint32_t *out, size_t room, size_t *count, size_t *detail) {
+uint32_t __wrap_fetlockice_clusters(const uint32_t *text, size_t n, uint32_t *out, size_t room, size_t *count,
+                                    size_t *detail) {
     uint32_t number = __real_fetlockice_clusters(text, n, out, room, count, detail);
     if (FAULT == 2 && number != 0 && room > 0) out[room - 1] ^= 1;
     return number;
@@ -37,27 +42,31 @@ uint32_t __wrap_fetlockice_fresh(uint32_t *pool, size_t cells, size_t *count, si
 }
 
 /* 4: a refused call writes to the pool */
-uint32_t __wrap_fetlockice_add(uint32_t *pool, size_t cells, const uint32_t *word, size_t n, size_t *count, size_t *detail) {
+uint32_t __wrap_fetlockice_add(uint32_t *pool, size_t cells, const uint32_t *word, size_t n, size_t *count,
+                               size_t *detail) {
     uint32_t number = __real_fetlockice_add(pool, cells, word, n, count, detail);
     if (FAULT == 4 && number == FETLOCKICE_TOO_FEW_NODES) pool[cells - 1] ^= 1;
     return number;
 }
 
 /* 5: a cell behind the last whole node is written */
-uint32_t __wrap_fetlockice_remove(uint32_t *pool, size_t cells, const uint32_t *word, size_t n, size_t *count, size_t *detail) {
+uint32_t __wrap_fetlockice_remove(uint32_t *pool, size_t cells, const uint32_t *word, size_t n, size_t *count,
+                                  size_t *detail) {
     uint32_t number = __real_fetlockice_remove(pool, cells, word, n, count, detail);
     if (FAULT == 5 && number == 0 && cells % 8 != 0) pool[cells - 1] ^= 1;
     return number;
 }
 
 /* 6: a cell behind the pool is read */
-uint32_t __wrap_fetlockice_contains(const uint32_t *pool, size_t cells, const uint32_t *word, size_t n, size_t *count, size_t *detail) {
+uint32_t __wrap_fetlockice_contains(const uint32_t *pool, size_t cells, const uint32_t *word, size_t n, size_t *count,
+                                    size_t *detail) {
     if (FAULT == 6) (void)*(const volatile uint32_t *)(pool + cells);
     return __real_fetlockice_contains(pool, cells, word, n, count, detail);
 }
 
 /* 7: a refused call tells of a count */
-uint32_t __wrap_fetlockice_prefix_lengths(const uint32_t *pool, size_t cells, const uint32_t *text, size_t n, uint32_t *out, size_t room, size_t *count, size_t *detail) {
+uint32_t __wrap_fetlockice_prefix_lengths(const uint32_t *pool, size_t cells, const uint32_t *text, size_t n,
+                                          uint32_t *out, size_t room, size_t *count, size_t *detail) {
     uint32_t number = __real_fetlockice_prefix_lengths(pool, cells, text, n, out, room, count, detail);
     if (FAULT == 7 && number == FETLOCKICE_OUTPUT_TOO_SHORT) *count = *detail;
     return number;

@@ -1,5 +1,5 @@
-/* hostile CALLS SEED: calls every exported function with hostile inputs until CALLS calls were made, and holds each answer to
- * the rules. The first thing that isn't as it must be ends the run. */
+/* hostile CALLS SEED: calls every exported function with hostile inputs until CALLS calls were made, and holds each
+ * answer to the rules. The first thing that isn't as it must be ends the run. */
 #include "calls.h"
 #include "inputs.h"
 #include "model.h"
@@ -39,7 +39,8 @@ static void check_fit(const struct call *c, const struct answer *a) {
     must(a->number != 6 || a->detail > c->room, "6 where the output has the room");
     fit.room = needed;
     struct answer b = call_twice(&fit);
-    must(b.number == 0 && b.count == needed && (a->number == 6 || b.edges == a->edges), "an output with just the room is refused");
+    must(b.number == 0 && b.count == needed && (a->number == 6 || b.edges == a->edges),
+         "an output with just the room is refused");
     must(a->number == 6 || memcmp(a->out, b.out, 4 * needed) == 0, "the room changes the answer");
     if (needed == 0) return;
     fit.room = needed - 1;
@@ -60,7 +61,9 @@ static void check_cut(const struct call *c, const struct answer *a) {
     other.op = c->op == CUT_PLAIN ? CUT_SAFE : CUT_PLAIN;
     struct answer b = call_twice(&other);
     must(b.number == 0 || b.number == 6, "the other mode is refused");
-    must(c->n >= 140 || (b.number == 0 && b.edges == a->edges && b.count == a->count && memcmp(a->out, b.out, 4 * a->count) == 0), "modes differ below 140");
+    must(c->n >= 140 ||
+             (b.number == 0 && b.edges == a->edges && b.count == a->count && memcmp(a->out, b.out, 4 * a->count) == 0),
+         "modes differ below 140");
     other.scratch = 9 * c->n + 127;
     b = call_twice(&other);
     must(b.number == 5 && b.detail == 9 * c->n + 128, "scratch a cell too short is not refused");
@@ -70,7 +73,8 @@ static void check_prefixes(const struct call *c, const struct answer *a) {
     size_t k = 0;
     int held;
     for (size_t n = 1; n <= c->n && n <= 255; n++) {
-        if (lacking(c->pool, c->text, n, &held) == 0 && held) must(k < a->count && a->out[k++] == n, "a prefix length is missing");
+        if (lacking(c->pool, c->text, n, &held) == 0 && held)
+            must(k < a->count && a->out[k++] == n, "a prefix length is missing");
     }
     must(k == a->count, "a prefix length of no word");
 }
@@ -88,14 +92,16 @@ static void check_change(const struct call *c, const struct answer *a) {
     must(is_dictionary(a->pool, c->cells), "the new pool is no dictionary");
     lacking(a->pool, word, n, &after);
     must(n == 0 || after == (int)more, "the word was not changed");
-    must(words_of(a->pool) + (more ? 0 : a->count) == words_of(c->pool) + (more ? a->count : 0), "another word was changed");
+    must(words_of(a->pool) + (more ? 0 : a->count) == words_of(c->pool) + (more ? a->count : 0),
+         "another word was changed");
     memcpy(changed, a->pool, 4 * c->cells);
     if (a->count == 1) {
         struct call back = *c;
         back.op = more ? REMOVE : ADD;
         back.pool = changed;
         struct answer b = call_twice(&back);
-        must(b.number == 0 && b.count == 1 && memcmp(b.pool, c->pool, 4 * c->cells) == 0, "undoing a change leaves another pool");
+        must(b.number == 0 && b.count == 1 && memcmp(b.pool, c->pool, 4 * c->cells) == 0,
+             "undoing a change leaves another pool");
     }
     if (drawn != NULL) memcpy(drawn->cells, changed, 4 * c->cells);
 }
@@ -109,7 +115,9 @@ static void check_accepted(const struct call *c, const struct answer *a) {
         must(a->count == count && memcmp(a->out, scalars, 4 * count) == 0, "other scalars than the bytes have");
         break;
     case CLUSTERS: check_ends(c, a); break;
-    case FRESH: must(a->count == 0 && is_dictionary(a->pool, c->cells) && a->pool[4] == 1, "a fresh pool isn't the root alone"); break;
+    case FRESH:
+        must(a->count == 0 && is_dictionary(a->pool, c->cells) && a->pool[4] == 1, "a fresh pool isn't the root alone");
+        break;
     case CONTAINS:
         lacking(c->pool, c->text, c->n, &held);
         must(a->count == (size_t)held, "contains is wrong");
@@ -126,9 +134,12 @@ static struct call make_call(enum op op, int *is_dict) {
     struct call c = {.op = op, .text = text, .pool = pool};
     if (op != DECODE && op != CLUSTERS) c.cells = make_pool(pool);
     *is_dict = is_dictionary(pool, c.cells);
-    if (op == DECODE) c.text = bytes, c.n = make_bytes(bytes);
-    else if (op == ADD || op == REMOVE || op == CONTAINS) c.n = make_word(text);
-    else if (op != FRESH && op != WORD_COUNT) c.n = make_sheet(text, pool, *is_dict);
+    if (op == DECODE)
+        c.text = bytes, c.n = make_bytes(bytes);
+    else if (op == ADD || op == REMOVE || op == CONTAINS)
+        c.n = make_word(text);
+    else if (op != FRESH && op != WORD_COUNT)
+        c.n = make_sheet(text, pool, *is_dict);
     if (writes_output(op)) c.room = make_room(op == PREFIX_LENGTHS ? below(4) : c.n);
     if (cuts(op)) c.scratch = below(4) == 0 ? make_room(9 * c.n + 128) : 9 * c.n + 128 + below(4);
     return c;
@@ -140,7 +151,9 @@ static void step(void) {
     struct refusal r = due(&c, is_dict);
     struct answer a = call_twice(&c);
     answers[a.number]++;
-    must(r.number == 0 ? a.number == 0 || (a.number == 6 && writes_output(c.op)) : a.number == r.number && a.detail == r.detail, "another refusal than is due");
+    must(r.number == 0 ? a.number == 0 || (a.number == 6 && writes_output(c.op))
+                       : a.number == r.number && a.detail == r.detail,
+         "another refusal than is due");
     if (a.number == 6) check_fit(&c, &a);
     if (a.number != 0) return;
     check_accepted(&c, &a);

@@ -7,7 +7,8 @@ struct living *drawn;
 
 static const uint32_t letters[] = {0xE01, 0xE02, 0xE04, 0xE07, 0xE23, 0xE2D};
 static const uint32_t signs[] = {0xE30, 0xE31, 0xE32, 0xE34, 0xE35, 0xE38, 0xE40, 0xE44, 0xE47, 0xE48, 0xE49, 0xE4C};
-static const uint32_t others[] = {' ', '\t', '\r', '\n', '1', '2', 0xE52, 'a', 'Z', '-', ',', '.', 0xA0, 0xFEFF, 0x1F600, 0x10FFFF, 0};
+static const uint32_t others[] = {' ', '\t', '\r', '\n', '1',    '2',     0xE52,    'a', 'Z',
+                                  '-', ',',  '.',  0xA0, 0xFEFF, 0x1F600, 0x10FFFF, 0};
 static const uint32_t wrong[] = {0xD800, 0xDFFF, 0x110000, 0x7FFFFFFF, 0x80000000, 0xFFFFFFFF};
 
 #define ONE_OF(row) row[below(sizeof row / sizeof *row)]
@@ -105,11 +106,16 @@ static size_t damage(uint32_t *pool, size_t n) {
     for (size_t k = 1 + below(2); k > 0 && used > 0; k--) {
         uint32_t *cell = pool + 8 * below(used) + below(8);
         size_t kind = below(5);
-        if (kind == 0) *cell = (uint32_t)draw();
-        else if (kind == 1) *cell = 0;
-        else if (kind == 2) *cell += 1;
-        else if (kind == 3) *cell -= 1;
-        else *cell = pool[below(8 * used)];
+        if (kind == 0)
+            *cell = (uint32_t)draw();
+        else if (kind == 1)
+            *cell = 0;
+        else if (kind == 2)
+            *cell += 1;
+        else if (kind == 3)
+            *cell -= 1;
+        else
+            *cell = pool[below(8 * used)];
     }
     if (below(4) == 0) n = below(2) == 0 ? below(n + 1) : n - n / 8;
     return n;
@@ -123,6 +129,7 @@ size_t make_pool(uint32_t *pool) {
     drawn = NULL;
     if (kind < 18) return damage(pool, n);
     n = below(200);
-    for (size_t i = 0; i < n; i++) pool[i] = kind == 18 ? (uint32_t)draw() : (uint32_t)(below(4) == 0 ? below(n / 8 + 2) : 0);
+    for (size_t i = 0; i < n; i++)
+        pool[i] = kind == 18 ? (uint32_t)draw() : (uint32_t)(below(4) == 0 ? below(n / 8 + 2) : 0);
     return n;
 }

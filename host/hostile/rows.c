@@ -62,6 +62,7 @@ void *lend(struct row *row, const void *content, size_t size) {
 
 void check_kept(const struct row *row, size_t from, const char *what) {
     must(memcmp(row->lent - row->low, row->before, row->low) == 0, "the guard before a row was written");
-    must(memcmp(row->lent + row->size, row->before + row->low + row->size, row->high) == 0, "the guard behind a row was written");
+    must(memcmp(row->lent + row->size, row->before + row->low + row->size, row->high) == 0,
+         "the guard behind a row was written");
     must(from <= row->size && memcmp(row->lent + from, row->before + row->low + from, row->size - from) == 0, what);
 }

@@ -26,9 +26,9 @@ struct row {
     size_t low, high;      /* guard bytes before and after it */
 };
 
-/* Places a row of that many bytes: against the page before or behind it, where even a read past it is a trap; or between guard
- * cells; or as a block of the heap, whose edges valgrind and the address sanitizer know. It holds the content, or noise where
- * that is NULL. */
+/* Places a row of that many bytes: against the page before or behind it, where even a read past it is a trap; or
+ * between guard cells; or as a block of the heap, whose edges valgrind and the address sanitizer know. It holds the
+ * content, or noise where that is NULL. */
 void *lend(struct row *row, const void *content, size_t size);
 
 /* The guards are untouched, and so are the row's bytes from the first one given on. */

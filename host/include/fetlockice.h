@@ -7,20 +7,20 @@
  *   *edges   accepted: the edges recorded in the whole cut; refused: 0
  *   *detail  accepted: 0; refused: the refusal's detail, below
  *
- * Lent memory. A row that a call takes as const is only read. A refused call changes no output and no pool. An accepted
- * one writes the first *count cells of the output and keeps the rest. Scratch is untouched after refusals 2 to 5, and all
- * zero after refusal 6 and after an accepted cut, every lent cell of it; on entry it may hold anything. Nothing is kept
- * from one call to the next, nothing is allocated and nothing is freed.
+ * Lent memory. A row that a call takes as const is only read. A refused call changes no output and no pool. An
+ * accepted one writes the first *count cells of the output and keeps the rest. Scratch is untouched after refusals 2
+ * to 5, and all zero after refusal 6 and after an accepted cut, every lent cell of it; on entry it may hold anything.
+ * Nothing is kept from one call to the next, nothing is allocated and nothing is freed.
  *
  * THE CALLER'S DUTIES. Everything else about the contents is the library's to answer.
  *
- *   1. A row is a pointer and, straight behind it, its length in elements: bytes for const uint8_t *, cells for uint32_t *.
- *      That many are there, and may be read, and written where the row isn't const. Const rows and the pools of add and
- *      remove hold values; outputs, scratch and the pool of fresh may hold anything.
+ *   1. A row is a pointer and, straight behind it, its length in elements: bytes for const uint8_t *, cells for
+ *      uint32_t *. That many are there, and may be read, and written where the row isn't const. Const rows and the
+ *      pools of add and remove hold values; outputs, scratch and the pool of fresh may hold anything.
  *   2. No pointer is NULL, also where the length is 0. uint32_t rows and size_t numbers are aligned as C aligns them.
  *   3. A row or number that a call may write overlaps no other row or number of that call. Two const rows may overlap.
- *   4. While a call runs, no other thread writes what it was lent, or reads what it may write. So calls on different memory
- *      may run at once, and so may calls that only read one pool.
+ *   4. While a call runs, no other thread writes what it was lent, or reads what it may write. So calls on different
+ *      memory may run at once, and so may calls that only read one pool.
  */
 #ifndef FETLOCKICE_H
 #define FETLOCKICE_H
@@ -47,7 +47,7 @@ extern "C" {
 /* What a call answers. The lowest number that applies to the call is given. */
 enum fetlockice_answer {
     FETLOCKICE_ACCEPTED = 0,
-    FETLOCKICE_ILL_FORMED = 1,        /* the bytes aren't well-formed UTF-8; the length of the longest well-formed prefix */
+    FETLOCKICE_ILL_FORMED = 1,        /* the bytes aren't well-formed UTF-8; length of the longest well-formed prefix */
     FETLOCKICE_TOO_MANY_SCALARS = 2,  /* more than 65,535 scalars; that number */
     FETLOCKICE_NOT_A_SCALAR = 3,      /* a cell isn't a Unicode scalar value; the index of the first */
     FETLOCKICE_NOT_A_DICTIONARY = 4,  /* the pool isn't a dictionary; 0 */
@@ -61,8 +61,8 @@ enum fetlockice_answer {
 uint32_t fetlockice_decode(const uint8_t *bytes, size_t bytes_len, uint32_t *out, size_t out_len, size_t *count,
                            size_t *detail);
 
-/* Writes the ends of the text's clusters, in characters, rising, the last equal to the length. *count: how many, 0 for an
- * empty text. An output as long as the text is always enough. Refusals 2, 3, 6. */
+/* Writes the ends of the text's clusters, in characters, rising, the last equal to the length. *count: how many, 0 for
+ * an empty text. An output as long as the text is always enough. Refusals 2, 3, 6. */
 uint32_t fetlockice_clusters(const uint32_t *text, size_t text_len, uint32_t *out, size_t out_len, size_t *count,
                              size_t *detail);
 
@@ -81,27 +81,28 @@ uint32_t fetlockice_remove(uint32_t *pool, size_t pool_len, const uint32_t *word
                            size_t *detail);
 
 /* *count: 1 if the word is held, as it is and not trimmed, else 0. Refusals 2, 3, 4. */
-uint32_t fetlockice_contains(const uint32_t *pool, size_t pool_len, const uint32_t *word, size_t word_len, size_t *count,
-                             size_t *detail);
+uint32_t fetlockice_contains(const uint32_t *pool, size_t pool_len, const uint32_t *word, size_t word_len,
+                             size_t *count, size_t *detail);
 
-/* Writes the lengths of the words that the text starts with, rising. *count: how many, at most 255. Refusals 2, 3, 4, 6. */
+/* Writes the lengths of the words that the text starts with, rising. *count: how many, at most 255. Refusals 2, 3, 4
+ * and 6. */
 uint32_t fetlockice_prefix_lengths(const uint32_t *pool, size_t pool_len, const uint32_t *text, size_t text_len,
                                    uint32_t *out, size_t out_len, size_t *count, size_t *detail);
 
 /* *count: how many words the dictionary holds. Refusal 4. */
 uint32_t fetlockice_word_count(const uint32_t *pool, size_t pool_len, size_t *count, size_t *detail);
 
-/* Cuts the text plainly, by the words of the pool. Writes the ends of the tokens, in characters, rising, the last equal to
- * the length. *count: how many, 0 for an empty text; *edges: the edges recorded. An output as long as the text is always
- * enough. Scratch of FETLOCKICE_SCRATCH_CELLS(text_len) cells is enough, and no fewer. Refusals 2, 3, 4, 5, 6. */
-uint32_t fetlockice_cut_plain(const uint32_t *text, size_t text_len, const uint32_t *pool, size_t pool_len, uint32_t *out,
-                              size_t out_len, uint32_t *scratch, size_t scratch_len, size_t *count, size_t *edges,
-                              size_t *detail);
+/* Cuts the text plainly, by the words of the pool. Writes the ends of the tokens, in characters, rising, the last equal
+ * to the length. *count: how many, 0 for an empty text; *edges: the edges recorded. An output as long as the text is
+ * always enough. Scratch of FETLOCKICE_SCRATCH_CELLS(text_len) cells is enough, and no fewer. Refusals 2, 3, 4, 5, 6. */
+uint32_t fetlockice_cut_plain(const uint32_t *text, size_t text_len, const uint32_t *pool, size_t pool_len,
+                              uint32_t *out, size_t out_len, uint32_t *scratch, size_t scratch_len, size_t *count,
+                              size_t *edges, size_t *detail);
 
 /* The same in safe mode: a text of 140 characters or more is cut in parts. */
-uint32_t fetlockice_cut_safe(const uint32_t *text, size_t text_len, const uint32_t *pool, size_t pool_len, uint32_t *out,
-                             size_t out_len, uint32_t *scratch, size_t scratch_len, size_t *count, size_t *edges,
-                             size_t *detail);
+uint32_t fetlockice_cut_safe(const uint32_t *text, size_t text_len, const uint32_t *pool, size_t pool_len,
+                             uint32_t *out, size_t out_len, uint32_t *scratch, size_t scratch_len, size_t *count,
+                             size_t *edges, size_t *detail);
 
 #ifdef __cplusplus
 }
