@@ -5,7 +5,7 @@ pub const MAX_NODES: usize = 1_048_576;
 
 const NODE_CELLS: usize = 8;
 
-/// A set of words, in a pool of its own that grows as words need it.
+/// A set of words, in a pool of its own that grows as words need it. Every call reads the whole pool once.
 #[derive(Clone, Debug, PartialEq, Eq)]
 pub struct Dictionary {
     pool: Vec<u32>,

@@ -57,13 +57,14 @@ fn a_word_is_trimmed_and_at_most_255_long() {
     assert_eq!(words.len(), 1);
 }
 
-/// A pool of a node for each of the first characters that a word may start with, as many as there may be.
+/// A pool of a node for each of the first characters that a word may start with, as many as there may be, and later cells.
 fn full_pool() -> Vec<u32> {
     let mut pool = vec![0, 1, MAX_NODES as u32 - 1, 0, MAX_NODES as u32, 0, 0, 0];
     let letters = (0..=0x10FFFF).filter(|&cell| char::from_u32(cell).is_some() && !matches!(cell, 9..=13 | 32));
     for letter in letters.take(MAX_NODES - 1) {
         pool.extend([letter, MAX_NODES as u32, 0, 1, 0, 0, 0, 0]);
     }
+    pool.extend([7; 21]);
     pool
 }
 
@@ -75,4 +76,5 @@ fn a_full_pool_is_refused() {
     assert_eq!(words.add("กขค"), Err(Error::TooFewNodes(2)));
     assert_eq!(words.pool(), full_pool());
     assert_eq!((words.remove("ข"), words.remove("ค"), words.add("กขค")), (Ok(true), Ok(true), Ok(true)));
+    assert_eq!(words.pool()[8 * MAX_NODES..], [7; 21]);
 }
