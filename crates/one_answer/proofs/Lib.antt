@@ -1,0 +1,6 @@
+pub mod Shapes
+pub mod Decoding
+pub mod Texts
+pub mod Clusters
+pub mod Dictionary
+pub mod Cut
