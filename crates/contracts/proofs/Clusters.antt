@@ -4,8 +4,8 @@ use mathlib.Core.List.{List}
 use Rattle.refusal.specs.declared.Answer.{Answer}
 use Rattle.tcc.proofs.tcc_pos.Kinds as tcc-pos-kinds
 use Rattle.tcc.proofs.tcc_pos.Reads as tcc-pos-contract
-use Rattle.one_answer.specs.OneAnswer.{OneAnswer}
-use Rattle.one_answer.proofs.Shapes.{answer-and-output}
+use Rattle.contracts.specs.OneAnswer.{OneAnswer}
+use Rattle.contracts.proofs.Shapes.{answer-and-output}
 
 -- the answer and the output
 pub tcc-pos-one : OneAnswer {A = Answer × List ℕ} 2 tcc-pos-kinds.ps tcc-pos-kinds.r tcc-pos-contract.Post (λ κs x s. (x, s .1 .0 .now))

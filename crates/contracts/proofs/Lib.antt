@@ -4,3 +4,4 @@ pub mod Texts
 pub mod Clusters
 pub mod Dictionary
 pub mod Cut
+pub mod Demand3

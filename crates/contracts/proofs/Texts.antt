@@ -27,8 +27,8 @@ use Rattle.char_string.proofs.trimmed.Kinds as trimmed-kinds
 use Rattle.char_string.proofs.trimmed.Reads as trimmed-contract
 use Rattle.char_string.proofs.rfind_space_char_index.Kinds as rfind-space-char-index-kinds
 use Rattle.char_string.proofs.rfind_space_char_index.Reads as rfind-space-char-index-contract
-use Rattle.one_answer.specs.OneAnswer.{OneAnswer}
-use Rattle.one_answer.proofs.Shapes.{answer, both}
+use Rattle.contracts.specs.OneAnswer.{OneAnswer}
+use Rattle.contracts.proofs.Shapes.{answer, both}
 
 pub is-scalar-one : OneAnswer 0 is-scalar-kinds.ps is-scalar-kinds.r is-scalar-contract.Post (λ κs x s. x)
 is-scalar-one κs a x y s t p q = answer p q

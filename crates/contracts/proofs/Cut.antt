@@ -4,8 +4,8 @@ use mathlib.Core.List.{List}
 use Rattle.cut_answers.specs.declared.CutAnswer.{CutAnswer}
 use Rattle.newmm.proofs.cut.Kinds as cut-kinds
 use Rattle.newmm.proofs.cut.Reads as cut-contract
-use Rattle.one_answer.specs.OneAnswer.{OneAnswer}
-use Rattle.one_answer.proofs.Shapes.{answer-and-two-rows}
+use Rattle.contracts.specs.OneAnswer.{OneAnswer}
+use Rattle.contracts.proofs.Shapes.{answer-and-two-rows}
 
 -- the answer, the output and the scratch
 pub cut-one : OneAnswer {A = CutAnswer × List ℕ × List ℕ} 4 cut-kinds.ps cut-kinds.r cut-contract.Post (λ κs x s. (x, s .1 .1 .0 .now, s .1 .1 .1 .0 .now))

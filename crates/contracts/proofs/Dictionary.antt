@@ -16,8 +16,8 @@ use Rattle.trie_char.proofs.prefix_lengths.Kinds as prefix-lengths-kinds
 use Rattle.trie_char.proofs.prefix_lengths.Reads as prefix-lengths-contract
 use Rattle.trie_char.proofs.amount_of_words.Kinds as amount-of-words-kinds
 use Rattle.trie_char.proofs.amount_of_words.Reads as amount-of-words-contract
-use Rattle.one_answer.specs.OneAnswer.{OneAnswer, OneAnswerKept}
-use Rattle.one_answer.proofs.Shapes.{answer, answer-and-output, answer-and-pool}
+use Rattle.contracts.specs.OneAnswer.{OneAnswer, OneAnswerKept}
+use Rattle.contracts.proofs.Shapes.{answer, answer-and-output, answer-and-pool}
 
 -- the answer and the pool
 pub fresh-one : OneAnswerKept {A = Answer × List ℕ} 1 fresh-kinds.ps fresh-kinds.r (λ κs a s. length (s .0 .now) ≡ length (a .0 .now)) fresh-contract.Post (λ κs x s. (x, s .0 .now))

@@ -4,8 +4,8 @@ use mathlib.Core.List.{List}
 use Rattle.refusal.specs.declared.Answer.{Answer}
 use Rattle.utf8.proofs.decode.Kinds as decode-kinds
 use Rattle.utf8.proofs.decode.Reads as decode-contract
-use Rattle.one_answer.specs.OneAnswer.{OneAnswer}
-use Rattle.one_answer.proofs.Shapes.{answer-and-output}
+use Rattle.contracts.specs.OneAnswer.{OneAnswer}
+use Rattle.contracts.proofs.Shapes.{answer-and-output}
 
 -- the answer and the output
 pub decode-one : OneAnswer {A = Answer × List ℕ} 2 decode-kinds.ps decode-kinds.r decode-contract.Post (λ κs x s. (x, s .1 .0 .now))

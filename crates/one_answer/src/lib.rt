@@ -1,1 +1,0 @@
-// No second answer fits the contract of a public operation: the theorems stand in proofs/.
