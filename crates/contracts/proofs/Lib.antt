@@ -1,0 +1,7 @@
+pub mod Shapes
+pub mod Decoding
+pub mod Texts
+pub mod Clusters
+pub mod Dictionary
+pub mod Cut
+pub mod Demand3
