@@ -5,3 +5,4 @@ pub mod Clusters
 pub mod Dictionary
 pub mod Cut
 pub mod Demand3
+pub mod Hosts
