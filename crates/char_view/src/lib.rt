@@ -4,7 +4,7 @@ use char_string::CharAt;
 ghost use mathlib.Core.Path.{_≡_};
 ghost use lib.ListN.{length};
 ghost use denote.Ref.{ptr};
-ghost use Rattle.char_string.specs.Parts.{charAt};
+ghost use Rattle.char_string.specs.Parts.{partOf, fitted, cellAt, charAt, subView};
 ghost use Rattle.char_view.specs.Views.{viewOf, shown, shownAt, subViewOf};
 
 pub struct CharView<'a> {
@@ -53,4 +53,40 @@ impl<'a> CharView<'a> {
     {
         char_string::substring(self.text, self.start, self.end)
     }
+}
+
+// The view of a view. The functions below ask it, and their parameters are plain: whoever calls them needs no view.
+fn sub_of<'a>(text: &'a [u32], start: usize, end: usize, from: usize, to: usize) -> CharView<'a>
+    ensures { λ v. ⌜ v ≡ subViewOf (viewOf (text .entry) start end) from to ⌝ }
+{
+    CharView::new(text, start, end).sub_view(from, to)
+}
+
+// The number of characters of a part of a part.
+pub fn sub_chars_len(text: &[u32], start: usize, end: usize, from: usize, to: usize) -> usize
+    ensures { λ n. ⌜ n ≡ length (partOf (partOf (now (text .entry)) start end) from to) ⌝ }
+{
+    sub_of(text, start, end, from, to).chars_len()
+}
+
+// The character of a part of a part at an index, if it has one there.
+pub fn sub_get_char_at(
+    text: &[u32],
+    start: usize,
+    end: usize,
+    from: usize,
+    to: usize,
+    index: usize,
+) -> CharAt
+    ensures { λ r. ⌜ r ≡ charAt (partOf (partOf (now (text .entry)) start end) from to) index ⌝ }
+{
+    sub_of(text, start, end, from, to).get_char_at(index)
+}
+
+// A part of a part: the caller's cells themselves, no copy.
+pub fn sub_part(text: &[u32], start: usize, end: usize, from: usize, to: usize) -> &[u32]
+    ensures { λ r. ⌜ now r ≡ partOf (partOf (now (text .entry)) start end) from to ⌝ }
+    ensures { λ r. ⌜ ptr r ≡ cellAt (ptr (text .entry)) (subView (fitted (length (now (text .entry))) start end) from to .start) ⌝ }
+{
+    sub_of(text, start, end, from, to).part()
 }
