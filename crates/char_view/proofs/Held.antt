@@ -4,7 +4,7 @@
 --     fields                  a view's fields' values
 --     own, own-fields         what a view owns, and what its fields own together
 --     opens                   a view is Copy: what it owns is kept, and what its fields own is had beside it
---     behind                  what the fields own and F, as a callee asks it that takes the fields and then what F is about
+--     fields-then, behind     what a callee asks that takes the fields and then what F is about, and that it is had of the two
 --     numbers, Fits, made     what numbers own as arguments that follow each other, that each fits, and that it is had then
 --     says-both               the walk's end, where the contract has two clauses that state facts
 -- `opens`, `behind`, `made` and `says-both` take `Given`. The rest assumes nothing.
@@ -60,6 +60,9 @@ own κs d = Row κs .own d (T′.lowered d ∷ [])
 abbrev pub own-fields : Lfts 1 → CharView → Fml
 own-fields κs d = all-own (Type-of κs .parts) (Laws-of κs) (fields κs d)
 
+abbrev pub fields-then : Lfts 1 → CharView → Fml → Fml
+fields-then κs d F = fsep (ownAt (Type-of κs .parts) (Laws-of κs) 0 (d .text)) (fsep (ownAt (Type-of κs .parts) (Laws-of κs) 1 (d .start)) (fsep (ownAt (Type-of κs .parts) (Laws-of κs) 2 (d .end)) F))
+
 abbrev pub numbers : List ℕ → Fml
 numbers [] = ftrue
 numbers (x ∷ xs) = fsep (usize .own x (vint w64 x ∷ [])) (numbers xs)
@@ -80,10 +83,7 @@ module _ {M : Type 1} (𝓤 : URA M) (H : Heap 𝓤) (A : Atoms 𝓤) (W : Given
       use1 W (‵ (own κs d) ⊛ ‵ (own κs d)) (LL.copy (Type-of κs) (T′.the-copy (namedLft 1 0 tt κs)) 𝓤 H A W .twice d (T′.lowered d ∷ [])) $ split ! $
       use1 W (given (T′.lowered d ∷ [] ≡ T′.lowered d ∷ []) (‵ (own-fields κs d))) (own-open 𝓤 H A W (Type-of κs) (Laws-of κs) (fields κs d) (T′.lowered d)) $ learn ! (λ _. done !)
 
-  abbrev pub then : Fml → Fml
-  then F = fsep (ownAt (Type-of κs .parts) (Laws-of κs) 0 (d .text)) (fsep (ownAt (Type-of κs .parts) (Laws-of κs) 1 (d .start)) (fsep (ownAt (Type-of κs .parts) (Laws-of κs) 2 (d .end)) F))
-
-  pub behind : (F : Fml) → ent 𝓤 (sep 𝓤 (sem 𝓤 H A (own-fields κs d)) (sem 𝓤 H A F)) (sem 𝓤 H A (then F))
+  pub behind : (F : Fml) → ent 𝓤 (sep 𝓤 (sem 𝓤 H A (own-fields κs d)) (sem 𝓤 H A F)) (sem 𝓤 H A (fields-then κs d F))
   behind F =
       qed W (‵ (own-fields κs d) ∷ ‵ F ∷ []) ∵
       fsplit ! $ move ! (1 ∷ []) $ fsplit ! $ move ! (1 ∷ []) $ fsplit ! $ move ! (1 ∷ []) $ drop ! $

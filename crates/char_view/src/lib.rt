@@ -14,6 +14,7 @@ pub struct CharView<'a> {
 }
 
 impl<'a> CharView<'a> {
+    // Any two numbers make a view.
     pub fn new(text: &'a [u32], start: usize, end: usize) -> CharView<'a>
         ensures { λ v. ⌜ v ≡ viewOf (text .entry) start end ⌝ }
     {
@@ -55,8 +56,14 @@ impl<'a> CharView<'a> {
     }
 }
 
-// The view of a view. The functions below ask it, and their parameters are plain: whoever calls them needs no view.
-fn sub_of<'a>(text: &'a [u32], start: usize, end: usize, from: usize, to: usize) -> CharView<'a>
+// The view of a view. The functions below make one and ask it. Their parameters are plain, so a caller holds no view.
+fn sub_view_of<'a>(
+    text: &'a [u32],
+    start: usize,
+    end: usize,
+    from: usize,
+    to: usize,
+) -> CharView<'a>
     ensures { λ v. ⌜ v ≡ subViewOf (viewOf (text .entry) start end) from to ⌝ }
 {
     CharView::new(text, start, end).sub_view(from, to)
@@ -66,7 +73,7 @@ fn sub_of<'a>(text: &'a [u32], start: usize, end: usize, from: usize, to: usize)
 pub fn sub_chars_len(text: &[u32], start: usize, end: usize, from: usize, to: usize) -> usize
     ensures { λ n. ⌜ n ≡ length (partOf (partOf (now (text .entry)) start end) from to) ⌝ }
 {
-    sub_of(text, start, end, from, to).chars_len()
+    sub_view_of(text, start, end, from, to).chars_len()
 }
 
 // The character of a part of a part at an index, if it has one there.
@@ -80,7 +87,7 @@ pub fn sub_get_char_at(
 ) -> CharAt
     ensures { λ r. ⌜ r ≡ charAt (partOf (partOf (now (text .entry)) start end) from to) index ⌝ }
 {
-    sub_of(text, start, end, from, to).get_char_at(index)
+    sub_view_of(text, start, end, from, to).get_char_at(index)
 }
 
 // A part of a part: the caller's cells themselves, no copy.
@@ -88,5 +95,5 @@ pub fn sub_part(text: &[u32], start: usize, end: usize, from: usize, to: usize) 
     ensures { λ r. ⌜ now r ≡ partOf (partOf (now (text .entry)) start end) from to ⌝ }
     ensures { λ r. ⌜ ptr r ≡ cellAt (ptr (text .entry)) (subView (fitted (length (now (text .entry))) start end) from to .start) ⌝ }
 {
-    sub_of(text, start, end, from, to).part()
+    sub_view_of(text, start, end, from, to).part()
 }

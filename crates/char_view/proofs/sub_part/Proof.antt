@@ -1,4 +1,4 @@
--- A walk of the MIR, by hand. The view of a view is made by `sub_of`, held in a local and asked by `part`. All that the proof knows
+-- A walk of the MIR, by hand. The view of a view is made by `sub_view_of`, held in a local and asked by `part`. All that the proof knows
 -- of the two is that each meets its contract. What it says of the view is said of the text by proofs/Shows.
 -- Assumes nothing.
 use mathlib.Core.Path.{_≡_, refl, ap, _∙_}
@@ -41,10 +41,10 @@ use Rattle.char_view.specs.declared.CharView.{CharView}
 use Rattle.char_view.specs.Views.{viewOf, shown, shownAt, subViewOf}
 use Rattle.char_view.proofs.Held.{Row, Local, Local-laws, Fits, numbers, made, says-both}
 use Rattle.char_view.proofs.Shows.{sub-shows, sub-shown-at}
-use Rattle.char_view.proofs.sub_of as make
-use Rattle.char_view.proofs.sub_of.Symbol as make-def
-use Rattle.char_view.proofs.sub_of.Symbol.{name as #make}
-use Rattle.char_view.proofs.sub_of.Met as make-thm
+use Rattle.char_view.proofs.sub_view_of as make
+use Rattle.char_view.proofs.sub_view_of.Symbol as make-def
+use Rattle.char_view.proofs.sub_view_of.Symbol.{name as #make}
+use Rattle.char_view.proofs.sub_view_of.Met as make-thm
 use Rattle.char_view.proofs.CharView.part as ask
 use Rattle.char_view.proofs.CharView.part.Symbol as ask-def
 use Rattle.char_view.proofs.CharView.part.Symbol.{name as #ask}
@@ -157,5 +157,5 @@ sub-part-spec 𝓤 H 𝓜 𝓖 𝓡 =
     entered 𝓤 H (tripleOf 𝓤 H (𝓖 .A) fn.signature (fn.spec 𝓤 H (𝓖 .A) (𝓜 .mem) (𝓡 .run)))
     (tables 𝓤 H 𝓜 𝓡 code.env .C) (tables 𝓤 H 𝓜 𝓡 code.env .Λ) #own code.function (code.unfolded 𝓤 H 𝓜 𝓡)
     (meets 𝓤 H (𝓖 .A) (givenOf 𝓤 H 𝓜 𝓖) (𝓜 .mem) (𝓡 .run) (tablesOf 𝓤 H 𝓜 (tables 𝓤 H 𝓜 𝓡 code.env))
-    (cited 𝓤 H (Make 𝓤 H (𝓖 .A) (𝓜 .mem) (𝓡 .run)) 𝓜 𝓡 code.env #make make-def.routine code.calls-char-view·sub-of (make-thm.met 𝓤 H 𝓜 𝓖 𝓡))
+    (cited 𝓤 H (Make 𝓤 H (𝓖 .A) (𝓜 .mem) (𝓡 .run)) 𝓜 𝓡 code.env #make make-def.routine code.calls-char-view·sub-view-of (make-thm.met 𝓤 H 𝓜 𝓖 𝓡))
     (cited 𝓤 H (Ask 𝓤 H (𝓖 .A) (𝓜 .mem) (𝓡 .run)) 𝓜 𝓡 code.env #ask ask-def.routine code.calls-char-view·CharView·part (ask-thm.met 𝓤 H 𝓜 𝓖 𝓡)))

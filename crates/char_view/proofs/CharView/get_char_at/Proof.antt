@@ -47,7 +47,7 @@ use Rattle.char_string.proofs.get_char_at.Symbol.{name as #callee}
 use Rattle.char_string.proofs.get_char_at.Met as callee-thm
 use Rattle.char_view.specs.declared.CharView.{CharView}
 use Rattle.char_view.specs.Views.{shown}
-use Rattle.char_view.proofs.Held.{Row, Type-of, Laws-of, own, own-fields, opens, then, behind, numbers, made}
+use Rattle.char_view.proofs.Held.{Row, Type-of, Laws-of, own, own-fields, fields-then, opens, behind, numbers, made}
 use Rattle.char_view.proofs.CharView.Laws as T′
 use Rattle.char_view.proofs.CharView.get_char_at.Key.{name as #own}
 use Rattle.char_view.proofs.CharView.get_char_at as fn
@@ -91,7 +91,7 @@ module _ {M : Type 1} (𝓤 : URA M) (H : Heap 𝓤) (A : Atoms 𝓤) (W : Given
       qed W ((‵ (flft κ q) ⊛ ‵ ftrue) ∷ ‵ (owns (Row (κ, tt) ∷ usize ∷ []) (d, (i, tt)) at) ∷ []) ∵
       move ! (1 ∷ []) $ fsplit ! $ move ! (1 ∷ []) $ drop ! $ use1 W (‵ (own-fields (κ, tt) d) ⊛ ‵ (own (κ, tt) d)) (opens 𝓤 H A W (κ, tt) d) $ split ! $
       -- [what the fields own together; what the view owns; the token]
-      use0 W (‵ (numbers (i ∷ []))) (made 𝓤 H A W (i ∷ []) (i-fits, tt)) $ move ! (1 ∷ 0 ∷ []) $ use2 W (‵ (then 𝓤 H A W (κ, tt) d (numbers (i ∷ [])))) (behind 𝓤 H A W (κ, tt) d (numbers (i ∷ []))) $
+      use0 W (‵ (numbers (i ∷ []))) (made 𝓤 H A W (i ∷ []) (i-fits, tt)) $ move ! (1 ∷ 0 ∷ []) $ use2 W (‵ (fields-then (κ, tt) d (numbers (i ∷ [])))) (behind 𝓤 H A W (κ, tt) d (numbers (i ∷ []))) $
       move ! (2 ∷ 0 ∷ []) $ use2 W (raw (Callee 𝓤 H A mem run .pre to)) asked $ frame ! $ done !
 
   -- of the callee's `ensured`, the clause alone: it has no `&mut`, so what is said of last values is dropped

@@ -48,7 +48,7 @@ use Rattle.char_string.proofs.sub_view.Symbol.{name as #callee}
 use Rattle.char_string.proofs.sub_view.Met as callee-thm
 use Rattle.char_view.specs.declared.CharView.{CharView}
 use Rattle.char_view.specs.Views.{viewOf, positions}
-use Rattle.char_view.proofs.Held.{Row, Type-of, Laws-of, fields, own, own-fields, opens, then, behind, numbers, made}
+use Rattle.char_view.proofs.Held.{Row, Type-of, Laws-of, fields, own, own-fields, fields-then, opens, behind, numbers, made}
 use Rattle.char_view.proofs.CharView.Laws as T′
 use Rattle.char_view.proofs.CharView.sub_view.Key.{name as #own}
 use Rattle.char_view.proofs.CharView.sub_view as fn
@@ -96,7 +96,7 @@ module _ {M : Type 1} (𝓤 : URA M) (H : Heap 𝓤) (A : Atoms 𝓤) (W : Given
       qed W ((‵ (flft κ q) ⊛ ‵ ftrue) ∷ ‵ (owns (Row (κ, tt) ∷ usize ∷ usize ∷ []) (d, (m, (n, tt))) at) ∷ []) ∵
       move ! (1 ∷ []) $ fsplit ! $ move ! (1 ∷ []) $ drop ! $ use1 W (‵ (own-fields (κ, tt) d) ⊛ ‵ (own (κ, tt) d)) (opens 𝓤 H A W (κ, tt) d) $ split ! $
       -- [what the fields own together; what the view owns; the token]
-      use0 W (‵ (numbers (m ∷ n ∷ []))) (made 𝓤 H A W (m ∷ n ∷ []) (m-fits, (n-fits, tt))) $ move ! (1 ∷ 0 ∷ []) $ use2 W (‵ (then 𝓤 H A W (κ, tt) d (numbers (m ∷ n ∷ [])))) (behind 𝓤 H A W (κ, tt) d (numbers (m ∷ n ∷ []))) $
+      use0 W (‵ (numbers (m ∷ n ∷ []))) (made 𝓤 H A W (m ∷ n ∷ []) (m-fits, (n-fits, tt))) $ move ! (1 ∷ 0 ∷ []) $ use2 W (‵ (fields-then (κ, tt) d (numbers (m ∷ n ∷ [])))) (behind 𝓤 H A W (κ, tt) d (numbers (m ∷ n ∷ []))) $
       move ! (2 ∷ 0 ∷ []) $ use2 W (raw (Callee 𝓤 H A mem run .pre to)) asked $ frame ! $ done !
 
   -- of the callee's `ensured`, the clause alone: it has no `&mut`, so what is said of last values is dropped

@@ -48,10 +48,10 @@ use Rattle.char_view.proofs.CharView.sub_view as ask
 use Rattle.char_view.proofs.CharView.sub_view.Symbol as ask-def
 use Rattle.char_view.proofs.CharView.sub_view.Symbol.{name as #ask}
 use Rattle.char_view.proofs.CharView.sub_view.Met as ask-thm
-use Rattle.char_view.proofs.sub_of.Key.{name as #own}
-use Rattle.char_view.proofs.sub_of as fn
-use Rattle.char_view.proofs.sub_of.Statement as stated
-use Rattle.char_view.proofs.sub_of.Code as code
+use Rattle.char_view.proofs.sub_view_of.Key.{name as #own}
+use Rattle.char_view.proofs.sub_view_of as fn
+use Rattle.char_view.proofs.sub_view_of.Statement as stated
+use Rattle.char_view.proofs.sub_view_of.Code as code
 
 abbrev stayed : Stays (fn.ended .signature .params) (fn.ended .kept)
 stayed = (stay-none-slice (0 ∷ []) tt (plain (λ _. u32)) yes, (stay-none (λ _. usize) yes, (stay-none (λ _. usize) yes, (stay-none (λ _. usize) yes, (stay-none (λ _. usize) yes, tt)))))
@@ -147,9 +147,9 @@ meets 𝓤 H A W mem run 𝓣 known-make known-ask = walk-meets 𝓤 H A fn.ende
     (fn.clauses 𝓤 H A mem run) (WpFn 𝓤 H (𝓣 .C) (𝓣 .Λ) code.function) (WpFn-mono 𝓤 H (W .laws) 𝓣 code.function)
     (walks 𝓤 H A W mem run (𝓣 .C) (𝓣 .Λ) (fmOf 𝓤 H (W .laws) 𝓣) known-make known-ask)
 
-pub sub-of-spec : {M : Type 1} → stated.statement M
+pub sub-view-of-spec : {M : Type 1} → stated.statement M
 unfolding code.routine tablesOf
-sub-of-spec 𝓤 H 𝓜 𝓖 𝓡 =
+sub-view-of-spec 𝓤 H 𝓜 𝓖 𝓡 =
     entered 𝓤 H (tripleOf 𝓤 H (𝓖 .A) fn.signature (fn.spec 𝓤 H (𝓖 .A) (𝓜 .mem) (𝓡 .run)))
     (tables 𝓤 H 𝓜 𝓡 code.env .C) (tables 𝓤 H 𝓜 𝓡 code.env .Λ) #own code.function (code.unfolded 𝓤 H 𝓜 𝓡)
     (meets 𝓤 H (𝓖 .A) (givenOf 𝓤 H 𝓜 𝓖) (𝓜 .mem) (𝓡 .run) (tablesOf 𝓤 H 𝓜 (tables 𝓤 H 𝓜 𝓡 code.env))
