@@ -1,0 +1,160 @@
+-- Assumes nothing.
+use borrow.Author.Needs.{needs}
+use Rattle.sheets.proofs.reply.answer_line.Statement.{statement}
+use Rattle.sheets.proofs.reply.answer_line.Tie as tie
+use Rattle.sheets.proofs.reply.answer_line.Reads as reads
+use Rattle.sheets.proofs.reply.answer_line.Lts as lts
+use Rattle.sheets.proofs.reply.add.Reads as add-reads
+use Rattle.sheets.proofs.reply.asks.Reads as asks-reads
+use Rattle.sheets.proofs.reply.cut.Reads as cut-reads
+use Rattle.sheets.proofs.reply.remove.Reads as remove-reads
+
+-- src/reply.rt:149:9
+asks-requires : tie.Need-asks-requires
+asks-requires c κs = search needs
+
+-- src/reply.rt:151:27
+enum-told : tie.Need-enum-told
+enum-told c = search needs
+
+-- src/reply.rt:152:27
+enum-told-2 : tie.Need-enum-told-2
+enum-told-2 c = search needs
+
+-- src/reply.rt:152:27
+sub-add : tie.Need-sub-add
+sub-add c = search needs
+
+-- src/reply.rt:152:27
+part-add-start : tie.Need-part-add-start
+part-add-start c = search needs
+
+-- src/reply.rt:152:27
+part-add-end : tie.Need-part-add-end
+part-add-end c = search needs
+
+-- src/reply.rt:152:23
+add-requires : tie.Need-add-requires
+add-requires c κs = search needs
+
+-- src/reply.rt:153:33
+enum-told-3 : tie.Need-enum-told-3
+enum-told-3 c = search needs
+
+-- src/reply.rt:153:33
+sub-remove : tie.Need-sub-remove
+sub-remove c = search needs
+
+-- src/reply.rt:153:33
+part-remove-start : tie.Need-part-remove-start
+part-remove-start c = search needs
+
+-- src/reply.rt:153:33
+part-remove-end : tie.Need-part-remove-end
+part-remove-end c = search needs
+
+-- src/reply.rt:153:26
+remove-requires : tie.Need-remove-requires
+remove-requires c κs = search needs
+
+-- src/reply.rt:154:20
+enum-known-asked : tie.Need-enum-known-asked
+enum-known-asked c = search needs
+
+-- src/reply.rt:154:33
+sub-cut : tie.Need-sub-cut
+sub-cut c = search needs
+
+-- src/reply.rt:154:33
+part-cut-start : tie.Need-part-cut-start
+part-cut-start c = search needs
+
+-- src/reply.rt:154:33
+part-cut-end : tie.Need-part-cut-end
+part-cut-end c = search needs
+
+-- src/reply.rt:154:29
+cut-requires : tie.Need-cut-requires
+cut-requires c κs = search needs
+
+-- src/reply.rt:136:1
+returns : tie.Need-returns
+returns c = search needs
+
+-- src/reply.rt:136:1
+same-length : tie.Need-same-length
+same-length c = search needs
+
+-- src/reply.rt:136:1
+same-length-2 : tie.Need-same-length-2
+same-length-2 c = search needs
+
+-- src/reply.rt:136:1
+returns-2 : tie.Need-returns-2
+returns-2 c = search needs
+
+-- src/reply.rt:136:1
+same-length-3 : tie.Need-same-length-3
+same-length-3 c = search needs
+
+-- src/reply.rt:136:1
+same-length-4 : tie.Need-same-length-4
+same-length-4 c = search needs
+
+-- src/reply.rt:136:1
+returns-3 : tie.Need-returns-3
+returns-3 c = search needs
+
+-- src/reply.rt:136:1
+same-length-5 : tie.Need-same-length-5
+same-length-5 c = search needs
+
+-- src/reply.rt:136:1
+same-length-6 : tie.Need-same-length-6
+same-length-6 c = search needs
+
+-- src/reply.rt:136:1
+same-length-7 : tie.Need-same-length-7
+same-length-7 c = search needs
+
+-- src/reply.rt:136:1
+same-length-8 : tie.Need-same-length-8
+same-length-8 c = search needs
+
+-- src/reply.rt:136:1
+returns-4 : tie.Need-returns-4
+returns-4 c = search needs
+
+pub answer-line-spec : {M : Type 1} → statement M
+answer-line-spec =
+    tie.close
+    (tie.spec
+    asks-requires
+    enum-told
+    enum-told-2
+    sub-add
+    part-add-start
+    part-add-end
+    add-requires
+    enum-told-3
+    sub-remove
+    part-remove-start
+    part-remove-end
+    remove-requires
+    enum-known-asked
+    sub-cut
+    part-cut-start
+    part-cut-end
+    cut-requires
+    returns
+    same-length
+    same-length-2
+    returns-2
+    same-length-3
+    same-length-4
+    returns-3
+    same-length-5
+    same-length-6
+    same-length-7
+    same-length-8
+    returns-4)

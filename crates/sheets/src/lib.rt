@@ -1,0 +1,22 @@
+// The line program, on slices: the bytes of a line, what the line asks, and the text of its reply.
+//   feed         takes bytes up to the first line feed, and writes the reply of the line that ends there
+//   finish       writes the reply of a last line without a line feed
+//   line_end     where the first line feed stands
+//   keep         adds bytes to those at the front of a row
+//   front        the first bytes of a row
+//   answer_line  a line's reply
+//   write_reply  the reply as a line of text
+mod input;
+mod line;
+mod reply;
+mod text;
+
+pub use input::Fed;
+pub use input::feed;
+pub use input::finish;
+pub use line::front;
+pub use line::keep;
+pub use line::line_end;
+pub use reply::Reply;
+pub use reply::answer_line;
+pub use text::write_reply;
