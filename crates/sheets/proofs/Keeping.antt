@@ -27,9 +27,9 @@ copied-more {row₀} {part} {row} {used} {n} {i} v h k =
       inside = omega arith;
       same = length-set row n (getD part i 0) ∙ v .same;
       is =
-        ap (λ (r : List ℕ). set r n (getD part i 0)) (v .is) ∙ ap (λ (x : ℕ). set (paste row₀ used part i) x (getD part i 0)) (v .place)
-        ∙ paste-suc row₀ used part i 0 (omega (arith, v .place, v .same)) k
-        ∙ ap (paste row₀ used part) (sym (add-one i));
+          ap (λ (r : List ℕ). set r n (getD part i 0)) (v .is) ∙ ap (λ (x : ℕ). set (paste row₀ used part i) x (getD part i 0)) (v .place)
+          ∙ paste-suc row₀ used part i 0 (omega (arith, v .place, v .same)) k
+          ∙ ap (paste row₀ used part) (sym (add-one i));
     }
 
 module _ {row₀ part row : List ℕ} {used n i : ℕ} (v : Copied row₀ used part row n i) where
@@ -41,11 +41,10 @@ module _ {row₀ part row : List ℕ} {used n i : ℕ} (v : Copied row₀ used p
 
   -- what is kept is what was copied
   copied-is : kept row₀ used part ≡ take used row₀ ++ take i part → (n ≡ length (kept row₀ used part)) × (row ≡ laid (kept row₀ used part) row₀)
-  copied-is e =
-      (
-        sym (ap length e ∙ size),
-        v .is ∙ ap (λ (k : ℕ). (take used row₀ ++ take i part) ++ drop k row₀) (sym (v .place) ∙ sym size) ∙ sym (ap (λ (l : List ℕ). laid l row₀) e),
-      )
+  copied-is e = (
+    sym (ap length e ∙ size),
+    v .is ∙ ap (λ (k : ℕ). (take used row₀ ++ take i part) ++ drop k row₀) (sym (v .place) ∙ sym size) ∙ sym (ap (λ (l : List ℕ). laid l row₀) e),
+  )
 
   -- the part is at its end
   pub copied-all : length part ≤ i → (n ≡ length (kept row₀ used part)) × (row ≡ laid (kept row₀ used part) row₀)

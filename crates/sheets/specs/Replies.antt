@@ -108,3 +108,10 @@ scratchAfter Nothing text pool room row = row
 scratchAfter Add text pool room row = row
 scratchAfter Remove text pool room row = row
 scratchAfter (Cut mode) text pool room row = cleared (next (decoded text room) (answer (firstRows (scalarsOf text) (meaning pool) (length row)) 0)) row
+
+-- the rows that are lent to a line, before and after
+pub record RowsAfter (what : Asked) (text pool pool₁ scalars scalars₁ ends ends₁ scratch scratch₁ : List ℕ) : Type 0 where
+  pub pool-is : PoolAfter what text pool pool₁ (length scalars)
+  pub scalars-are : scalars₁ ≡ scalarsAfter what text scalars
+  pub ends-are : ends₁ ≡ endsAfter what text pool (length scalars) (length scratch) ends
+  pub scratch-is : scratch₁ ≡ scratchAfter what text pool (length scalars) scratch

@@ -12,7 +12,7 @@ ghost use Rattle.pool.specs.Meaning.{meaning, withWord, withoutWord};
 ghost use Rattle.pool_lent.specs.Refusals.{held};
 ghost use Rattle.trie_char.specs.Changes.{After};
 ghost use Rattle.cut_answers.specs.Answers.{cutOf, firstRows, cleared};
-ghost use Rattle.sheets.specs.Replies.{asked as askedOf, next, addText, removeText, cutText, reported as reportedOf, ended as endedOf, endedBy, textOf, replyOf, PoolAfter, scalarsAfter, endsAfter, scratchAfter};
+ghost use Rattle.sheets.specs.Replies.{asked as askedOf, next, addText, removeText, cutText, reported as reportedOf, ended as endedOf, endedBy, textOf, replyOf, RowsAfter};
 
 // The most bytes that a line may have, without its line feed.
 const MAX_LINE: usize = 1024;
@@ -141,10 +141,8 @@ pub fn answer_line(
     scratch: &mut [u32],
 ) -> Reply
     ensures { λ r. ⌜ r ≡ replyOf (now (line .entry)) (now (pool .entry)) (length (now (scalars .entry))) (length (now (scratch .entry))) (length (now (ends .entry))) ⌝ }
-    ensures { λ _. ⌜ PoolAfter (askedOf (now (line .entry))) (textOf (now (line .entry))) (now (pool .entry)) (now (pool .exit)) (length (now (scalars .entry))) ⌝ }
-    ensures { λ _. ⌜ now (scalars .exit) ≡ scalarsAfter (askedOf (now (line .entry))) (textOf (now (line .entry))) (now (scalars .entry)) ⌝ }
-    ensures { λ _. ⌜ now (ends .exit) ≡ endsAfter (askedOf (now (line .entry))) (textOf (now (line .entry))) (now (pool .entry)) (length (now (scalars .entry))) (length (now (scratch .entry))) (now (ends .entry)) ⌝ }
-    ensures { λ _. ⌜ now (scratch .exit) ≡ scratchAfter (askedOf (now (line .entry))) (textOf (now (line .entry))) (now (pool .entry)) (length (now (scalars .entry))) (now (scratch .entry)) ⌝ }
+    ensures { λ _. ⌜ RowsAfter (askedOf (now (line .entry))) (textOf (now (line .entry)))
+        (now (pool .entry)) (now (pool .exit)) (now (scalars .entry)) (now (scalars .exit)) (now (ends .entry)) (now (ends .exit)) (now (scratch .entry)) (now (scratch .exit)) ⌝ }
 {
     let asked = asks(line);
     match asked {
