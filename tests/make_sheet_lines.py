@@ -26,16 +26,15 @@ MAX_LINE = 1024
 PARTS = (1, 2, 3, 7, 1023, 1024, 1025, 4096)
 
 
-def letters(op, n, times=b"a"):
-    """A line of n bytes without its line feed, by document 01: with no words a row of letters is one token."""
-    text = times * (n - 1)
+def letters(op, n):
+    """A line of n bytes: with no words a row of letters is one token, and a word of more than 255 letters is refused with 7."""
     if n > MAX_LINE:
         answer = b"?"
-    elif op in b"=":
+    elif op == b"=":
         answer = b"%d" % (n - 1)
     else:
         answer = b"! 7 %d" % (n - 1)
-    return op + text, answer
+    return op + b"a" * (n - 1), answer
 
 
 def framing():
@@ -47,18 +46,17 @@ def framing():
     yield [(b"+", b"0"), (b"-", b"0"), (b"=", b""), (b"~", b"")]
     yield [(b"+ \t", b"0"), (b"-\r", b"0")]
     # every first byte that is no operator, alone and before a text
-    for first in range(256):
-        if first not in b"\n+-=~":
-            yield [(bytes([first]), b"?"), (bytes([first]) + b"+a", b"?"), (b"=a", b"1")]
+    others = [bytes([first]) for first in range(256) if first not in b"\n+-=~"]
+    yield [(first, b"?") for first in others] + [(first + b"+a", b"?") for first in others] + [(b"-a", b"0")]
     # \r and NUL belong to the text
     yield [(b"=\r", b"1"), (b"=\0", b"1"), (b"+a\r", b"1"), (b"-a", b"1"), (b"+a\0", b"1"), (b"-a", b"0"), (b"-a\0", b"1")]
     # bytes that aren't UTF-8: the detail counts from the byte after the operator
     yield [(b"=\xff", b"! 1 0"), (b"+a\xe0\xb8", b"! 1 1"), (b"~ab\xc3", b"! 1 2"), (b"-abc\x80", b"! 1 3")]
     # a line of 1,024 bytes is the longest; a longer one changes nothing, whatever stands in it
-    for n in 2, 256, 257, 1022, 1023, 1024, 1025, 1026, 2047, 2048, 2049, 4097, 65536, 70000, 131072:
+    for n in 2, 256, 257, 1022, 1023, 1024, 1025, 1026, 2047, 2048, 2049, 2050, 4097, 70000:
         yield [letters(b"=", n), (b"=a", b"1")]
-        if n > 256:
-            yield [letters(b"+", n), letters(b"-", n), (b"=a", b"1")]
+    for n in 257, 1023, 1024, 1025, 1026:
+        yield [letters(b"+", n), letters(b"-", n), (b"=a", b"1")]
     yield [(b"=" + b"a" * 1023 + b"\r", b"?"), (b"=" + b"\xff" * 1024, b"?"), (b"=" + b"\xff" * 1023, b"! 1 0")]
     yield [(b"?" * 3000, b"?"), (b"+a", b"1"), (b"+b" + b"c" * 5000, b"?"), (b"-b", b"0"), (b"-a", b"1")]
 

@@ -11,6 +11,7 @@ use vector_lines::part_at;
 use vector_lines::print;
 use vector_lines::read_bytes;
 use vector_lines::read_input;
+ghost use Prim.Native.Nat.{_<_};
 
 const INPUT: usize = 524288;
 
@@ -52,13 +53,19 @@ fn answer(line: &[u8], run: &mut [u8], written: &mut [u8]) {
     }
     let n = read_bytes(field(line, 1), run);
     let most = lent(field(line, 2), run.len());
+    if most == 0 {
+        print(b"?");
+        return;
+    }
     let k = program(&run[..n], most, written);
     print(b"ok ");
     print_bytes(front(written, k), run);
 }
 
 // A run from a fresh pool. Answers how many bytes are written.
-fn program(bytes: &[u8], most: usize, written: &mut [u8]) -> usize {
+fn program(bytes: &[u8], most: usize, written: &mut [u8]) -> usize
+    requires { ⌜ 0 < most ⌝ }
+{
     let mut line = [0u8; LINE];
     let mut pool = [0u32; POOL];
     let mut scalars = [0u32; TEXT];
@@ -66,35 +73,44 @@ fn program(bytes: &[u8], most: usize, written: &mut [u8]) -> usize {
     let mut scratch = [0u32; SCRATCH];
     let mut out = [0u8; REPLY];
     trie_char::fresh(&mut pool);
-    let mut used = 0;
-    let mut kept = 0;
-    let mut at = 0;
-    while at < bytes.len() {
-        let part = front(&bytes[at..], most);
-        let fed = feed(
-            part,
-            &mut line,
-            kept,
-            &mut pool,
-            &mut scalars,
-            &mut ends,
-            &mut scratch,
-            &mut out,
-        );
-        used = keep(written, used, front(&out, fed.written));
-        kept = fed.kept;
-        at += fed.taken;
-    }
-    let n = finish(
-        &line,
-        kept,
+    feed_all(
+        bytes,
+        most,
+        written,
+        &mut line,
         &mut pool,
         &mut scalars,
         &mut ends,
         &mut scratch,
         &mut out,
-    );
-    keep(written, used, front(&out, n))
+    )
+}
+
+fn feed_all(
+    bytes: &[u8],
+    most: usize,
+    written: &mut [u8],
+    line: &mut [u8],
+    pool: &mut [u32],
+    scalars: &mut [u32],
+    ends: &mut [u32],
+    scratch: &mut [u32],
+    out: &mut [u8],
+) -> usize
+    requires { ⌜ 0 < most ⌝ }
+{
+    let mut used = 0;
+    let mut kept = 0;
+    let mut at = 0;
+    while at < bytes.len() {
+        let part = front(&bytes[at..], most);
+        let fed = feed(part, line, kept, pool, scalars, ends, scratch, out);
+        used = keep(written, used, front(out, fed.written));
+        kept = fed.kept;
+        at += fed.taken;
+    }
+    let n = finish(line, kept, pool, scalars, ends, scratch, out);
+    keep(written, used, front(out, n))
 }
 
 // The bytes in hexadecimal, two digits each, `-` for none.
@@ -107,9 +123,13 @@ fn print_bytes(bytes: &[u8], space: &mut [u8]) {
     let mut used = 0;
     let mut i = 0;
     while i < bytes.len() {
-        io::hex(bytes[i] as u64, 2, &mut digits);
-        used = keep(space, used, &digits[0..2]);
+        let k = io::hex(wide(bytes[i]), 2, &mut digits);
+        used = keep(space, used, &digits[..k]);
         i += 1;
     }
     print(front(space, used));
+}
+
+fn wide(b: u8) -> u64 {
+    b as u64
 }

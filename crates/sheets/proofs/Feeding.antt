@@ -7,7 +7,7 @@ use mathlib.Core.List.{List, [], _∷_, _++_}
 use lib.Dec.{ltb, eqb}
 use lib.ListN.{length, take, drop}
 use lib.Seq.{take-append-seam}
-use borrow.Author.Tests.{lt-ltb, le-ltb, eq-eqb, ne-eqb}
+use borrow.Author.Tests.{lt-ltb, le-ltb, eq-eqb, ne-eqb, ltb-true, ltb-false}
 use Rattle.basics.proofs.Scans.{leading-inside}
 use Rattle.sheets.specs.declared.input.Fed.{Fed}
 use Rattle.sheets.specs.declared.reply.Asked.{Asked}
@@ -100,6 +100,17 @@ module _ (bytes line : List ℕ) (used : ℕ) {end n : ℕ} {line₁ : List ℕ}
       end-rows {pool₁} {scalars₁} {ends₁} {scratch₁} q =
           subst (λ (b : Bool). RowsAfter (askedIf b (lineWith bytes line used)) (textOf (lineWith bytes line used)) pool pool₁ scalars scalars₁ ends ends₁ scratch scratch₁) (sym ends-here)
           (subst (λ (l : List ℕ). RowsAfter (asked l) (textOf l) pool pool₁ scalars scalars₁ ends ends₁ scratch scratch₁) whole-is q)
+
+-- Bytes are taken, where there are any, and no more than there are.
+pub taken-some : (bytes : List ℕ) (n k : ℕ) {r : Fed} → r ≡ fedWith (hasEnd bytes) (lineEnd bytes) n k → 0 < length bytes → (1 ≤ r .taken) × (r .taken ≤ length bytes)
+taken-some bytes n k {r} e h = go (hasEnd bytes) refl (ap (λ (f : Fed). f .taken) e)
+  where
+    inside : lineEnd bytes ≤ length bytes
+    inside = end-inside bytes refl
+
+    go : (b : Bool) → hasEnd bytes ≡ b → r .taken ≡ fedWith b (lineEnd bytes) n k .taken → (1 ≤ r .taken) × (r .taken ≤ length bytes)
+    go true t q = (omega (arith, q), omega (arith, q, ltb-true (lineEnd bytes) (length bytes) t))
+    go false t q = (omega (arith, q, ltb-false (lineEnd bytes) (length bytes) t), omega (arith, q, inside))
 
 -- ---- a last line
 

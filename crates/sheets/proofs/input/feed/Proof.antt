@@ -1,42 +1,27 @@
 -- Assumes nothing.
--- uses
-use Prim.Native.Nat.{_≤_}
 use native.Mathlib.Omega.{arith}
 use mathlib.Core.Path.{sym}
-use lib.ListN.{length, take}
+use lib.ListN.{length}
 use lib.Seq.{length-take-le}
-use Rattle.sheets.specs.Lines.{lineEnd}
-use Rattle.sheets.specs.Texts.{written, amount}
+use Rattle.sheets.specs.Texts.{amount}
 use Rattle.sheets.specs.Feeding.{told, lineWith}
 use Rattle.sheets.proofs.Feeding.{end-inside, end-below, line-is, open-fed, open-out, open-rows, end-fed, end-out, end-rows}
--- end uses
 use borrow.Author.Needs.{needs}
 use Rattle.sheets.proofs.input.feed.Statement.{statement}
 use Rattle.sheets.proofs.input.feed.Tie as tie
-use Rattle.sheets.proofs.input.feed.Reads as reads
-use Rattle.sheets.proofs.input.feed.Lts as lts
-use Rattle.sheets.proofs.input.told.Reads as told-reads
-use Rattle.sheets.proofs.line.front.Reads as front-reads
-use Rattle.sheets.proofs.line.keep.Reads as keep-reads
-use Rattle.sheets.proofs.line.line_end.Reads as line-end-reads
 
--- src/input.rt:63:9
 line-end-requires : tie.Need-line-end-requires
 line-end-requires c κs = search needs
 
--- src/input.rt:64:30
 slice-aggregate-keep : tie.Need-slice-aggregate-keep
 slice-aggregate-keep c = sym (length-take-le (c .before .before .line-end .result) (c .before .before .before .before .before .before .before .before .before .before .args .bytes .now) (end-inside (c .before .before .before .before .before .before .before .before .before .before .args .bytes .now) (c .before .before .line-end .ensures)))
 
--- src/input.rt:64:9
 keep-requires : tie.Need-keep-requires
 keep-requires c κs = search needs
 
--- src/input.rt:66:9
 same-length : tie.Need-same-length
 same-length c = search needs
 
--- src/input.rt:66:9
 returns : tie.Need-returns
 returns c = (
   open-fed (c .before .before .before .before .before .before .before .before .before .before .before .before .before .before .args .bytes .now) (c .before .before .before .before .before .before .before .before .before .before .before .before .before .before .args .line .now) (c .before .before .before .before .before .before .before .before .before .before .before .before .before .before .args .kept) (c .before .before .before .before .before .before .line-end .ensures) (c .before .before .before .keep .ensures .0) (c .before .before .before .keep .ensures .1) (c .if1 .taken) (amount (told (lineWith (c .before .before .before .before .before .before .before .before .before .before .before .before .before .before .args .bytes .now) (c .before .before .before .before .before .before .before .before .before .before .before .before .before .before .args .line .now) (c .before .before .before .before .before .before .before .before .before .before .before .before .before .before .args .kept)) (c .before .before .before .before .before .before .before .before .before .before .before .before .before .before .args .pool .now) (length (c .before .before .before .before .before .before .before .before .before .before .before .before .before .before .args .scalars .now)) (length (c .before .before .before .before .before .before .before .before .before .before .before .before .before .before .args .scratch .now)) (c .before .before .before .before .before .before .before .before .before .before .before .before .before .before .args .ends .now)) (c .before .before .before .before .before .before .before .before .before .before .before .before .before .before .args .out .now)),
@@ -49,43 +34,33 @@ returns c = (
   ),
 )
 
--- src/input.rt:72:24
 front-requires : tie.Need-front-requires
 front-requires c κs = search needs
 
--- src/input.rt:72:9
 told-requires : tie.Need-told-requires
 told-requires c κs = search needs
 
--- src/input.rt:74:16
 add-t16 : tie.Need-add-t16
 add-t16 c = omega (arith, end-below (c .before .before .before .before .before .before .before .before .before .before .before .before .before .before .before .before .before .before .before .before .before .before .before .before .before .before .before .before .before .before .before .before .args .bytes .now) (c .before .before .before .before .before .before .before .before .before .before .before .before .before .before .before .before .before .before .before .before .before .before .before .before .line-end .ensures) (c .before .before .before .before .before .before .before .before .before .before .before .before .before .before .before .before .before .before .if1 .left))
 
--- src/input.rt:45:1
 same-length-2 : tie.Need-same-length-2
 same-length-2 c = search needs
 
--- src/input.rt:45:1
 same-length-3 : tie.Need-same-length-3
 same-length-3 c = search needs
 
--- src/input.rt:45:1
 same-length-4 : tie.Need-same-length-4
 same-length-4 c = search needs
 
--- src/input.rt:45:1
 same-length-5 : tie.Need-same-length-5
 same-length-5 c = search needs
 
--- src/input.rt:45:1
 same-length-6 : tie.Need-same-length-6
 same-length-6 c = search needs
 
--- src/input.rt:45:1
 same-length-7 : tie.Need-same-length-7
 same-length-7 c = search needs
 
--- src/input.rt:45:1
 returns-2 : tie.Need-returns-2
 returns-2 c = (
   end-fed (c .before .before .before .before .before .before .before .before .before .before .before .before .before .before .before .before .before .before .before .before .before .before .before .before .before .before .before .before .before .before .before .before .args .bytes .now) (c .before .before .before .before .before .before .before .before .before .before .before .before .before .before .before .before .before .before .before .before .before .before .before .before .before .before .before .before .before .before .before .before .args .line .now) (c .before .before .before .before .before .before .before .before .before .before .before .before .before .before .before .before .before .before .before .before .before .before .before .before .before .before .before .before .before .before .before .before .args .kept) (c .before .before .before .before .before .before .before .before .before .before .before .before .before .before .before .before .before .before .before .before .before .before .before .before .line-end .ensures) (c .before .before .before .before .before .before .before .before .before .before .before .before .before .before .before .before .before .before .before .before .before .keep .ensures .0) (c .before .before .before .before .before .before .before .before .before .before .before .before .before .before .before .before .before .before .before .before .before .keep .ensures .1) (c .before .before .before .before .before .before .before .before .before .before .before .before .before .before .before .before .before .before .if1 .left) (c .before .before .before .before .before .before .before .before .before .before .before .before .before .before .before .before .front .ensures) (c .before .before .before .before .before .before .before .before .before .before .before .before .before .before .before .before .before .before .before .before .before .before .before .before .before .before .before .before .before .before .before .before .args .pool .now) (c .before .before .before .before .before .before .before .before .before .before .before .before .before .before .before .before .before .before .before .before .before .before .before .before .before .before .before .before .before .before .before .before .args .scalars .now) (c .before .before .before .before .before .before .before .before .before .before .before .before .before .before .before .before .before .before .before .before .before .before .before .before .before .before .before .before .before .before .before .before .args .ends .now) (c .before .before .before .before .before .before .before .before .before .before .before .before .before .before .before .before .before .before .before .before .before .before .before .before .before .before .before .before .before .before .before .before .args .scratch .now) (c .before .before .before .before .before .before .before .before .before .before .before .before .before .before .before .before .before .before .before .before .before .before .before .before .before .before .before .before .before .before .before .before .args .out .now) (c .before .before .before .before .before .before .before .before .before .before .told .ensures .0),

@@ -1,19 +1,12 @@
 -- Assumes nothing.
--- uses
 use lib.ListN.{length, take}
 use Rattle.sheets.specs.Texts.{written, amount}
 use Rattle.sheets.specs.Feeding.{told}
 use Rattle.sheets.proofs.Feeding.{no-line, no-text, no-rows, last-size, last-out, last-rows}
--- end uses
 use borrow.Author.Needs.{needs}
 use Rattle.sheets.proofs.input.finish.Statement.{statement}
 use Rattle.sheets.proofs.input.finish.Tie as tie
-use Rattle.sheets.proofs.input.finish.Reads as reads
-use Rattle.sheets.proofs.input.finish.Lts as lts
-use Rattle.sheets.proofs.input.told.Reads as told-reads
-use Rattle.sheets.proofs.line.front.Reads as front-reads
 
--- src/input.rt:97:9
 returns : tie.Need-returns
 returns c = (
   no-line (c .before .before .before .before .before .before .before .args .line .now) (c .before .before .before .before .before .before .before .args .kept) (c .before .before .before .before .before .before .before .args .pool .now) (c .before .before .before .before .before .before .before .args .scalars .now) (c .before .before .before .before .before .before .before .args .ends .now) (c .before .before .before .before .before .before .before .args .scratch .now) (c .if1 .taken) (amount (told (take (c .before .before .before .before .before .before .before .args .kept) (c .before .before .before .before .before .before .before .args .line .now)) (c .before .before .before .before .before .before .before .args .pool .now) (length (c .before .before .before .before .before .before .before .args .scalars .now)) (length (c .before .before .before .before .before .before .before .args .scratch .now)) (c .before .before .before .before .before .before .before .args .ends .now)) (c .before .before .before .before .before .before .before .args .out .now)),
@@ -23,35 +16,27 @@ returns c = (
   ),
 )
 
--- src/input.rt:99:10
 front-requires : tie.Need-front-requires
 front-requires c κs = search needs
 
--- src/input.rt:99:5
 told-requires : tie.Need-told-requires
 told-requires c κs = search needs
 
--- src/input.rt:81:1
 same-length : tie.Need-same-length
 same-length c = search needs
 
--- src/input.rt:81:1
 same-length-2 : tie.Need-same-length-2
 same-length-2 c = search needs
 
--- src/input.rt:81:1
 same-length-3 : tie.Need-same-length-3
 same-length-3 c = search needs
 
--- src/input.rt:81:1
 same-length-4 : tie.Need-same-length-4
 same-length-4 c = search needs
 
--- src/input.rt:81:1
 same-length-5 : tie.Need-same-length-5
 same-length-5 c = search needs
 
--- src/input.rt:81:1
 returns-2 : tie.Need-returns-2
 returns-2 c = (
   last-size (c .before .before .before .before .before .before .before .before .before .before .before .before .before .before .before .before .before .before .before .before .before .before .before .before .args .line .now) (c .before .before .before .before .before .before .before .before .before .before .before .before .before .before .before .before .before .before .before .before .before .before .before .before .args .kept) (c .before .before .before .before .before .before .before .before .before .before .before .before .before .before .before .before .before .before .before .before .before .before .before .before .args .pool .now) (c .before .before .before .before .before .before .before .before .before .before .before .before .before .before .before .before .before .before .before .before .before .before .before .before .args .scalars .now) (c .before .before .before .before .before .before .before .before .before .before .before .before .before .before .before .before .before .before .before .before .before .before .before .before .args .ends .now) (c .before .before .before .before .before .before .before .before .before .before .before .before .before .before .before .before .before .before .before .before .before .before .before .before .args .scratch .now) (c .before .before .before .before .before .before .before .before .before .before .before .before .before .before .before .before .before .if1 .left) (c .before .before .before .before .before .before .before .before .before .before .before .before .before .before .before .before .front .ensures) (c .before .before .before .before .before .before .before .before .before .before .before .before .before .before .before .before .before .before .before .before .before .before .before .before .args .out .now) (c .before .before .before .before .before .before .before .before .before .before .told .ensures .0),

@@ -1,44 +1,30 @@
 -- Assumes nothing.
--- uses
 use Rattle.sheets.proofs.Feeding.{told-size, told-is}
--- end uses
 use borrow.Author.Needs.{needs}
 use Rattle.sheets.proofs.input.told.Statement.{statement}
 use Rattle.sheets.proofs.input.told.Tie as tie
-use Rattle.sheets.proofs.input.told.Reads as reads
-use Rattle.sheets.proofs.input.told.Lts as lts
-use Rattle.sheets.proofs.reply.answer_line.Reads as answer-line-reads
-use Rattle.sheets.proofs.text.write_reply.Reads as write-reply-reads
 
--- src/input.rt:39:9
 answer-line-requires : tie.Need-answer-line-requires
 answer-line-requires c κs = search needs
 
--- src/input.rt:40:5
 write-reply-requires : tie.Need-write-reply-requires
 write-reply-requires c κs = search needs
 
--- src/input.rt:24:1
 same-length : tie.Need-same-length
 same-length c = search needs
 
--- src/input.rt:24:1
 same-length-2 : tie.Need-same-length-2
 same-length-2 c = search needs
 
--- src/input.rt:24:1
 same-length-3 : tie.Need-same-length-3
 same-length-3 c = search needs
 
--- src/input.rt:24:1
 same-length-4 : tie.Need-same-length-4
 same-length-4 c = search needs
 
--- src/input.rt:24:1
 same-length-5 : tie.Need-same-length-5
 same-length-5 c = search needs
 
--- src/input.rt:24:1
 returns : tie.Need-returns
 returns c = (
   told-size (c .before .before .before .before .before .before .before .before .before .before .before .before .before .answer-line .ensures .0) (c .before .before .before .before .before .before .before .before .before .before .before .before .before .answer-line .ensures .1 .ends-are) (c .before .before .before .before .before .before .before .before .before .before .before .before .before .before .before .before .before .before .before .before .before .before .before .before .args .out .now) (c .before .before .write-reply .ensures .0),

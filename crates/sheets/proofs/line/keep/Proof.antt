@@ -1,15 +1,10 @@
 -- Assumes nothing.
--- uses
 use Prim.Native.Nat.{_-_}
-use native.Mathlib.Omega.{arith}
 use lib.ListN.{length}
 use Rattle.sheets.proofs.Keeping.{Copied, copied-none, copied-more, copied-all, copied-full, kept-nothing}
--- end uses
 use borrow.Author.Needs.{needs}
 use Rattle.sheets.proofs.line.keep.Statement.{statement}
 use Rattle.sheets.proofs.line.keep.Tie as tie
-use Rattle.sheets.proofs.line.keep.Reads as reads
-use Rattle.sheets.proofs.line.keep.Lts as lts
 
 abbrev Inv-loop : tie.InvT-loop
 Inv-loop row₀ used part n₀ i₀ row n i = Copied row₀ used part row n i
@@ -17,51 +12,39 @@ Inv-loop row₀ used part n₀ i₀ row n i = Copied row₀ used part row n i
 abbrev μ-loop : tie.MeasureT-loop
 μ-loop row₀ used part n₀ i₀ row n i = length part - i
 
--- src/line.rt:26:9
 returns : tie.Need-returns Inv-loop μ-loop
 returns c = kept-nothing (c .before .args .row .now) (c .before .args .used) (c .before .args .part .now) (c .if1 .taken)
 
--- src/line.rt:30:5
 loop-holds : tie.Need-loop-holds Inv-loop μ-loop
 loop-holds c = copied-none _ _ _ (c .if1 .left)
 
--- src/line.rt:32:13
 same-length : tie.Need-same-length Inv-loop μ-loop
 same-length c = c .before .before .loop .inv .same
 
--- src/line.rt:32:13
 returns-2 : tie.Need-returns-2 Inv-loop μ-loop
 returns-2 c = copied-full (c .before .before .loop .inv) (c .if2 .taken)
 
--- src/line.rt:34:18
 shared-slice-read-row : tie.Need-shared-slice-read-row Inv-loop μ-loop
 shared-slice-read-row c = search needs
 
--- src/line.rt:34:9
 slice-write-row : tie.Need-slice-write-row Inv-loop μ-loop
 slice-write-row c = search needs
 
--- src/line.rt:35:9
 add-n : tie.Need-add-n Inv-loop μ-loop
 add-n c = search needs
 
--- src/line.rt:36:9
 add-i : tie.Need-add-i Inv-loop μ-loop
 add-i c = search needs
 
--- src/line.rt:30:5
 loop-less : tie.Need-loop-less Inv-loop μ-loop
 loop-less c = search needs
 
--- src/line.rt:30:5
 loop-again : tie.Need-loop-again Inv-loop μ-loop
 loop-again c = copied-more (c .before .before .before .loop .inv) (c .before .if2 .left) (c .before .before .loop-test .taken)
 
--- src/line.rt:21:1
 same-length-2 : tie.Need-same-length-2 Inv-loop μ-loop
 same-length-2 c = c .before .loop .inv .same
 
--- src/line.rt:21:1
 returns-3 : tie.Need-returns-3 Inv-loop μ-loop
 returns-3 c = copied-all (c .before .loop .inv) (c .loop-test .left)
 

@@ -1,5 +1,4 @@
 -- Assumes nothing.
--- uses
 use Prim.Native.Nat.{ℕ}
 use mathlib.Core.List.{List}
 use Rattle.char_string.specs.Blanks.{trimmedOf}
@@ -8,49 +7,34 @@ use Rattle.pool.specs.Meaning.{meaning, withWord}
 use Rattle.pool_lent.specs.Refusals.{held}
 use Rattle.sheets.specs.Replies.{added}
 use Rattle.sheets.proofs.Replying.{scalars-are, reported-stop, pool-stop, lent-fits, lent-size, reported-text, pool-text}
--- end uses
 use borrow.Author.Needs.{needs}
 use Rattle.sheets.proofs.reply.add.Statement.{statement}
 use Rattle.sheets.proofs.reply.add.Tie as tie
-use Rattle.sheets.proofs.reply.add.Reads as reads
-use Rattle.sheets.proofs.reply.add.Lts as lts
-use Rattle.sheets.proofs.reply.reported.Reads as reported-reads
-use Rattle.trie_char.proofs.add.Reads as add-reads
-use Rattle.utf8.proofs.decode.Reads as decode-reads
 
--- src/reply.rt:90:9
 decode-requires : tie.Need-decode-requires
 decode-requires c κs = search needs
 
--- src/reply.rt:92:25
 enum-known-decoded : tie.Need-enum-known-decoded
 enum-known-decoded c = search needs
 
--- src/reply.rt:93:26
 enum-known-decoded-2 : tie.Need-enum-known-decoded-2
 enum-known-decoded-2 c = search needs
 
--- src/reply.rt:93:62
 slice-reshare-prefix-add : tie.Need-slice-reshare-prefix-add
 slice-reshare-prefix-add c = lent-fits (c .before .before .before .before .before .before .before .before .before .before .before .args .text .now) (c .before .before .before .before .before .before .before .before .before .before .before .args .scalars .now) (c .before .before .before .before .before .before .decode .ensures .0) (c .before .before .before .before .before .before .decode .ensures .1) (c .before .before .decoded2 .given .1)
 
--- src/reply.rt:93:62
 slice-aggregate-add : tie.Need-slice-aggregate-add
 slice-aggregate-add c = lent-size (c .before .before .before .before .before .before .before .before .before .before .before .before .args .text .now) (c .before .before .before .before .before .before .before .before .before .before .before .before .args .scalars .now) (c .before .before .before .before .before .before .before .decode .ensures .0) (c .before .before .before .before .before .before .before .decode .ensures .1) (c .before .before .before .decoded2 .given .1)
 
--- src/reply.rt:93:41
 add-requires : tie.Need-add-requires
 add-requires c κs = search needs
 
--- src/reply.rt:93:32
 reported-requires : tie.Need-reported-requires
 reported-requires c κs = search needs
 
--- src/reply.rt:84:1
 same-length : tie.Need-same-length
 same-length c = search needs
 
--- src/reply.rt:84:1
 returns : tie.Need-returns
 returns c = (
   reported-stop (c .before .before .before .before .before .before .before .before .before .before .args .text .now) (c .before .before .before .before .before .before .before .before .before .before .args .scalars .now) (c .before .before .before .before .before .decode .ensures .0) (c .before .before .before .before .before .decode .ensures .1) (c .before .decoded .given .1) (added (scalarsOf (c .before .before .before .before .before .before .before .before .before .before .args .text .now)) (c .before .before .before .before .before .before .before .before .before .before .args .pool .now)),
@@ -60,15 +44,12 @@ returns c = (
   ),
 )
 
--- src/reply.rt:84:1
 same-length-2 : tie.Need-same-length-2
 same-length-2 c = search needs
 
--- src/reply.rt:84:1
 same-length-3 : tie.Need-same-length-3
 same-length-3 c = search needs
 
--- src/reply.rt:84:1
 returns-2 : tie.Need-returns-2
 returns-2 c = (
   reported-text (c .before .before .before .before .before .before .before .before .before .before .before .before .before .before .before .before .args .text .now) (c .before .before .before .before .before .before .before .before .before .before .before .before .before .before .before .before .args .scalars .now) (c .before .before .before .before .before .before .before .before .before .before .before .decode .ensures .0) (c .before .before .before .before .before .before .before .before .before .before .before .decode .ensures .1) (c .before .before .before .before .before .before .before .decoded2 .given .1) (λ (w : List ℕ). added w (c .before .before .before .before .before .before .before .before .before .before .before .before .before .before .before .before .args .pool .now)) (c .before .before .before .add .ensures .0) (c .reported .ensures),

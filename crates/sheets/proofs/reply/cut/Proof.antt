@@ -1,5 +1,4 @@
 -- Assumes nothing.
--- uses
 use Prim.Native.Nat.{ℕ}
 use mathlib.Core.List.{List}
 use lib.ListN.{length}
@@ -9,49 +8,34 @@ use Rattle.pool.specs.Meaning.{meaning}
 use Rattle.pool_lent.specs.Refusals.{held}
 use Rattle.cut_answers.specs.Answers.{accepts, firstRows, cutOf}
 use Rattle.sheets.proofs.Replying.{scalars-are, ended-stop, out-stop, clear-stop, lent-fits, lent-size, ended-text, out-text, clear-text}
--- end uses
 use borrow.Author.Needs.{needs}
 use Rattle.sheets.proofs.reply.cut.Statement.{statement}
 use Rattle.sheets.proofs.reply.cut.Tie as tie
-use Rattle.sheets.proofs.reply.cut.Reads as reads
-use Rattle.sheets.proofs.reply.cut.Lts as lts
-use Rattle.newmm.proofs.cut.Reads as cut-reads
-use Rattle.sheets.proofs.reply.ended.Reads as ended-reads
-use Rattle.utf8.proofs.decode.Reads as decode-reads
 
--- src/reply.rt:127:9
 decode-requires : tie.Need-decode-requires
 decode-requires c κs = search needs
 
--- src/reply.rt:129:25
 enum-known-decoded : tie.Need-enum-known-decoded
 enum-known-decoded c = search needs
 
--- src/reply.rt:130:26
 enum-known-decoded-2 : tie.Need-enum-known-decoded-2
 enum-known-decoded-2 c = search needs
 
--- src/reply.rt:130:49
 slice-reshare-prefix-cut : tie.Need-slice-reshare-prefix-cut
 slice-reshare-prefix-cut c = lent-fits (c .before .before .before .before .before .before .before .before .before .before .before .before .args .text .now) (c .before .before .before .before .before .before .before .before .before .before .before .before .args .scalars .now) (c .before .before .before .before .before .decode .ensures .0) (c .before .before .before .before .before .decode .ensures .1) (c .before .decoded2 .given .1)
 
--- src/reply.rt:130:49
 slice-aggregate-cut : tie.Need-slice-aggregate-cut
 slice-aggregate-cut c = lent-size (c .before .before .before .before .before .before .before .before .before .before .before .before .before .args .text .now) (c .before .before .before .before .before .before .before .before .before .before .before .before .before .args .scalars .now) (c .before .before .before .before .before .before .decode .ensures .0) (c .before .before .before .before .before .before .decode .ensures .1) (c .before .before .decoded2 .given .1)
 
--- src/reply.rt:130:38
 cut-requires : tie.Need-cut-requires
 cut-requires c κs = search needs
 
--- src/reply.rt:130:32
 ended-requires : tie.Need-ended-requires
 ended-requires c κs = search needs
 
--- src/reply.rt:110:1
 same-length : tie.Need-same-length
 same-length c = search needs
 
--- src/reply.rt:110:1
 returns : tie.Need-returns
 returns c = (
   ended-stop (c .before .before .before .before .before .before .before .before .before .before .before .before .args .text .now) (c .before .before .before .before .before .before .before .before .before .before .before .before .args .scalars .now) (c .before .before .before .before .before .decode .ensures .0) (c .before .before .before .before .before .decode .ensures .1) (c .before .decoded .given .1) (accepts (c .before .before .before .before .before .before .before .before .before .before .before .before .args .mode) (scalarsOf (c .before .before .before .before .before .before .before .before .before .before .before .before .args .text .now)) (meaning (c .before .before .before .before .before .before .before .before .before .before .before .before .args .pool .now)) (length (c .before .before .before .before .before .before .before .before .before .before .before .before .args .scratch .now)) (length (c .before .before .before .before .before .before .before .before .before .before .before .before .args .ends .now))),
@@ -64,19 +48,15 @@ returns c = (
   ),
 )
 
--- src/reply.rt:110:1
 same-length-2 : tie.Need-same-length-2
 same-length-2 c = search needs
 
--- src/reply.rt:110:1
 same-length-3 : tie.Need-same-length-3
 same-length-3 c = search needs
 
--- src/reply.rt:110:1
 same-length-4 : tie.Need-same-length-4
 same-length-4 c = search needs
 
--- src/reply.rt:110:1
 returns-2 : tie.Need-returns-2
 returns-2 c = (
   ended-text (c .before .before .before .before .before .before .before .before .before .before .before .before .before .before .before .before .before .before .before .before .before .args .text .now) (c .before .before .before .before .before .before .before .before .before .before .before .before .before .before .before .before .before .before .before .before .before .args .scalars .now) (c .before .before .before .before .before .before .before .before .before .before .before .before .before .before .decode .ensures .0) (c .before .before .before .before .before .before .before .before .before .before .before .before .before .before .decode .ensures .1) (c .before .before .before .before .before .before .before .before .before .before .decoded2 .given .1) (c .before .before .before .before .before .before .before .before .before .before .before .before .before .before .before .before .before .before .before .before .before .args .mode) (c .before .before .before .before .before .before .before .before .before .before .before .before .before .before .before .before .before .before .before .before .before .args .pool .now) (length (c .before .before .before .before .before .before .before .before .before .before .before .before .before .before .before .before .before .before .before .before .before .args .scratch .now)) (length (c .before .before .before .before .before .before .before .before .before .before .before .before .before .before .before .before .before .before .before .before .before .args .ends .now)) (c .before .before .before .before .before .cut .ensures .0) (c .ended .ensures),

@@ -1,5 +1,4 @@
 -- Assumes nothing.
--- uses
 use Prim.Native.Nat.{ℕ}
 use mathlib.Core.List.{List}
 use Rattle.char_string.specs.Blanks.{trimmedOf}
@@ -8,49 +7,34 @@ use Rattle.pool.specs.Meaning.{meaning, withoutWord}
 use Rattle.pool_lent.specs.Refusals.{held}
 use Rattle.sheets.specs.Replies.{removed}
 use Rattle.sheets.proofs.Replying.{scalars-are, reported-stop, pool-stop, lent-fits, lent-size, reported-text, pool-text}
--- end uses
 use borrow.Author.Needs.{needs}
 use Rattle.sheets.proofs.reply.remove.Statement.{statement}
 use Rattle.sheets.proofs.reply.remove.Tie as tie
-use Rattle.sheets.proofs.reply.remove.Reads as reads
-use Rattle.sheets.proofs.reply.remove.Lts as lts
-use Rattle.sheets.proofs.reply.reported.Reads as reported-reads
-use Rattle.trie_char.proofs.remove.Reads as remove-reads
-use Rattle.utf8.proofs.decode.Reads as decode-reads
 
--- src/reply.rt:103:9
 decode-requires : tie.Need-decode-requires
 decode-requires c κs = search needs
 
--- src/reply.rt:105:25
 enum-known-decoded : tie.Need-enum-known-decoded
 enum-known-decoded c = search needs
 
--- src/reply.rt:106:26
 enum-known-decoded-2 : tie.Need-enum-known-decoded-2
 enum-known-decoded-2 c = search needs
 
--- src/reply.rt:106:65
 slice-reshare-prefix-remove : tie.Need-slice-reshare-prefix-remove
 slice-reshare-prefix-remove c = lent-fits (c .before .before .before .before .before .before .before .before .before .before .before .args .text .now) (c .before .before .before .before .before .before .before .before .before .before .before .args .scalars .now) (c .before .before .before .before .before .before .decode .ensures .0) (c .before .before .before .before .before .before .decode .ensures .1) (c .before .before .decoded2 .given .1)
 
--- src/reply.rt:106:65
 slice-aggregate-remove : tie.Need-slice-aggregate-remove
 slice-aggregate-remove c = lent-size (c .before .before .before .before .before .before .before .before .before .before .before .before .args .text .now) (c .before .before .before .before .before .before .before .before .before .before .before .before .args .scalars .now) (c .before .before .before .before .before .before .before .decode .ensures .0) (c .before .before .before .before .before .before .before .decode .ensures .1) (c .before .before .before .decoded2 .given .1)
 
--- src/reply.rt:106:41
 remove-requires : tie.Need-remove-requires
 remove-requires c κs = search needs
 
--- src/reply.rt:106:32
 reported-requires : tie.Need-reported-requires
 reported-requires c κs = search needs
 
--- src/reply.rt:97:1
 same-length : tie.Need-same-length
 same-length c = search needs
 
--- src/reply.rt:97:1
 returns : tie.Need-returns
 returns c = (
   reported-stop (c .before .before .before .before .before .before .before .before .before .before .args .text .now) (c .before .before .before .before .before .before .before .before .before .before .args .scalars .now) (c .before .before .before .before .before .decode .ensures .0) (c .before .before .before .before .before .decode .ensures .1) (c .before .decoded .given .1) (removed (scalarsOf (c .before .before .before .before .before .before .before .before .before .before .args .text .now)) (c .before .before .before .before .before .before .before .before .before .before .args .pool .now)),
@@ -60,15 +44,12 @@ returns c = (
   ),
 )
 
--- src/reply.rt:97:1
 same-length-2 : tie.Need-same-length-2
 same-length-2 c = search needs
 
--- src/reply.rt:97:1
 same-length-3 : tie.Need-same-length-3
 same-length-3 c = search needs
 
--- src/reply.rt:97:1
 returns-2 : tie.Need-returns-2
 returns-2 c = (
   reported-text (c .before .before .before .before .before .before .before .before .before .before .before .before .before .before .before .before .args .text .now) (c .before .before .before .before .before .before .before .before .before .before .before .before .before .before .before .before .args .scalars .now) (c .before .before .before .before .before .before .before .before .before .before .before .decode .ensures .0) (c .before .before .before .before .before .before .before .before .before .before .before .decode .ensures .1) (c .before .before .before .before .before .before .before .decoded2 .given .1) (λ (w : List ℕ). removed w (c .before .before .before .before .before .before .before .before .before .before .before .before .before .before .before .before .args .pool .now)) (c .before .before .before .remove .ensures .0) (c .reported .ensures),

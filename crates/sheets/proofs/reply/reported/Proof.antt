@@ -1,27 +1,19 @@
 -- Assumes nothing.
--- uses
 use mathlib.Core.Path.{ap, sym}
 use Rattle.sheets.specs.Replies.{reported as reportedOf}
--- end uses
 use borrow.Author.Needs.{needs}
 use Rattle.sheets.proofs.reply.reported.Statement.{statement}
 use Rattle.sheets.proofs.reply.reported.Tie as tie
-use Rattle.sheets.proofs.reply.reported.Reads as reads
-use Rattle.sheets.proofs.reply.reported.Lts as lts
 
--- src/reply.rt:70:26
 enum-known-answer : tie.Need-enum-known-answer
 enum-known-answer c = search needs
 
--- src/reply.rt:71:25
 enum-known-answer-2 : tie.Need-enum-known-answer-2
 enum-known-answer-2 c = search needs
 
--- src/reply.rt:66:1
 returns : tie.Need-returns
 returns c = sym (ap reportedOf (c .before .answer .given .1))
 
--- src/reply.rt:66:1
 returns-2 : tie.Need-returns-2
 returns-2 c = sym (ap reportedOf (c .before .answer2 .given .1))
 

@@ -1,24 +1,17 @@
 -- Assumes nothing.
--- uses
 use mathlib.Core.Path.{sym}
 use lib.Seq.{take-all, length-take-le}
 use native.Mathlib.Omega.{arith}
--- end uses
 use borrow.Author.Needs.{needs}
 use Rattle.sheets.proofs.text.first.Statement.{statement}
 use Rattle.sheets.proofs.text.first.Tie as tie
-use Rattle.sheets.proofs.text.first.Reads as reads
-use Rattle.sheets.proofs.text.first.Lts as lts
 
--- src/text.rt:56:9
 returns : tie.Need-returns
 returns c = sym (take-all (c .before .args .n) (c .before .args .row .now) (c .if1 .taken))
 
--- src/text.rt:58:5
 slice-aggregate-result : tie.Need-slice-aggregate-result
 slice-aggregate-result c = sym (length-take-le (c .before .before .args .n) (c .before .before .args .row .now) (omega (arith, c .before .if1 .left)))
 
--- src/text.rt:52:1
 returns-2 : tie.Need-returns-2
 returns-2 c = search needs
 

@@ -1,43 +1,30 @@
 -- Assumes nothing.
--- uses
 use Prim.Native.Nat.{ℕ, _<_, _^_}
-use native.Mathlib.Omega.{arith}
 use mathlib.Core.Path.{_≡_, _∙_, ap}
 use mathlib.Core.List.{List}
 use lib.ListN.{length, take}
 use Rattle.sheets.specs.Lines.{kept, laid}
 use Rattle.sheets.specs.Texts.{decimal}
 use Rattle.sheets.proofs.Decimals.{decimal-is, few}
--- end uses
 use borrow.Author.Needs.{needs}
 use Rattle.sheets.proofs.text.keep_number.Statement.{statement}
 use Rattle.sheets.proofs.text.keep_number.Tie as tie
-use Rattle.sheets.proofs.text.keep_number.Reads as reads
-use Rattle.sheets.proofs.text.keep_number.Lts as lts
-use Rattle.io.proofs.decimal.Reads as decimal-reads
-use Rattle.sheets.proofs.line.keep.Reads as keep-reads
 
--- src/text.rt:18:9
 decimal-requires : tie.Need-decimal-requires
 decimal-requires c κs = search needs
 
--- src/text.rt:19:21
 array-share-prefix-digits : tie.Need-array-share-prefix-digits
 array-share-prefix-digits c = search needs
 
--- src/text.rt:19:21
 slice-aggregate-keep : tie.Need-slice-aggregate-keep
 slice-aggregate-keep c = search needs
 
--- src/text.rt:19:5
 keep-requires : tie.Need-keep-requires
 keep-requires c κs = search needs
 
--- src/text.rt:13:1
 same-length : tie.Need-same-length
 same-length c = search needs
 
--- src/text.rt:13:1
 returns : tie.Need-returns
 returns c =
     let small : c .before .before .before .before .before .before .before .before .args .n < 2 ^ 64 = search needs in

@@ -1,20 +1,13 @@
 -- Assumes nothing.
--- uses
 use Prim.Native.Nat.{ℕ, _-_}
 use native.Mathlib.Omega.{arith}
 use mathlib.Core.List.{List}
 use lib.ListN.{length}
 use Rattle.sheets.proofs.Holding.{same, both}
 use Rattle.sheets.proofs.Spacing.{Spaced, spaced-none, spaced-one, spaced-next, spaced-all}
--- end uses
 use borrow.Author.Needs.{needs}
 use Rattle.sheets.proofs.text.write_ends.Statement.{statement}
 use Rattle.sheets.proofs.text.write_ends.Tie as tie
-use Rattle.sheets.proofs.text.write_ends.Reads as reads
-use Rattle.sheets.proofs.text.write_ends.Lts as lts
-use Rattle.pool.proofs.wide.Reads as wide-reads
-use Rattle.sheets.proofs.line.keep.Reads as keep-reads
-use Rattle.sheets.proofs.text.keep_number.Reads as keep-number-reads
 
 abbrev Inv-loop : tie.InvT-loop
 Inv-loop out₀ row used₀ i₀ t6 out used i = (base : List ℕ) → Spaced base row out₀ used₀ 1 → Spaced base row out used i
@@ -22,67 +15,51 @@ Inv-loop out₀ row used₀ i₀ t6 out used i = (base : List ℕ) → Spaced ba
 abbrev μ-loop : tie.MeasureT-loop
 μ-loop out₀ row used₀ i₀ t6 out used i = length row - i
 
--- src/text.rt:39:9
 returns : tie.Need-returns Inv-loop μ-loop
 returns c = both (spaced-none (c .before .before .before .args .out .now) (c .before .before .before .args .row .now) (c .if1 .taken))
 
--- src/text.rt:41:45
 shared-slice-read-wide : tie.Need-shared-slice-read-wide Inv-loop μ-loop
 shared-slice-read-wide c = search needs
 
--- src/text.rt:41:40
 wide-requires : tie.Need-wide-requires Inv-loop μ-loop
 wide-requires c κs = search needs
 
--- src/text.rt:41:9
 keep-number-requires : tie.Need-keep-number-requires Inv-loop μ-loop
 keep-number-requires c κs = search needs
 
--- src/text.rt:43:5
 loop-holds : tie.Need-loop-holds Inv-loop μ-loop
 loop-holds c = λ base v. v
 
--- src/text.rt:44:33
 slice-aggregate-keep : tie.Need-slice-aggregate-keep Inv-loop μ-loop
 slice-aggregate-keep c = search needs
 
--- src/text.rt:44:13
 keep-requires : tie.Need-keep-requires Inv-loop μ-loop
 keep-requires c κs = search needs
 
--- src/text.rt:45:41
 mul-wide : tie.Need-mul-wide Inv-loop μ-loop
 mul-wide c = search needs
 
--- src/text.rt:45:41
 shared-slice-read-wide-2 : tie.Need-shared-slice-read-wide-2 Inv-loop μ-loop
 shared-slice-read-wide-2 c = search needs
 
--- src/text.rt:45:36
 wide-requires-2 : tie.Need-wide-requires-2 Inv-loop μ-loop
 wide-requires-2 c κs = search needs
 
--- src/text.rt:45:9
 keep-number-requires-2 : tie.Need-keep-number-requires-2 Inv-loop μ-loop
 keep-number-requires-2 c κs = search needs
 
--- src/text.rt:46:9
 add-i : tie.Need-add-i Inv-loop μ-loop
 add-i c = search needs
 
--- src/text.rt:43:5
 loop-less : tie.Need-loop-less Inv-loop μ-loop
 loop-less c = omega (arith, c .before .before .before .before .before .before .before .before .before .before .before .loop-test .taken)
 
--- src/text.rt:43:5
 loop-again : tie.Need-loop-again Inv-loop μ-loop
 loop-again c = λ base v. spaced-next (c .before .before .before .before .before .before .before .before .before .before .before .before .loop .inv base v) (c .before .before .before .before .before .before .before .before .before .before .before .loop-test .taken) (c .before .before .before .before .before .before .before .before .keep .ensures .0) (c .before .before .before .before .before .before .before .before .keep .ensures .1) (c .before .before .before .wide2 .ensures) (c .before .before .keep-number2 .ensures .0) (c .before .before .keep-number2 .ensures .1)
 
--- src/text.rt:34:1
 same-length : tie.Need-same-length Inv-loop μ-loop
 same-length c = same (c .before .loop .inv (c .before .before .before .before .before .before .before .before .before .before .before .args .out .now) (spaced-one (c .before .before .before .before .before .before .before .before .before .before .before .args .out .now) (c .before .before .before .before .before .before .before .before .before .before .before .args .row .now) (c .before .before .before .before .before .before .before .before .if1 .left) (c .before .before .before .before .before .wide .ensures) (c .before .before .before .before .keep-number .ensures .0) (c .before .before .before .before .keep-number .ensures .1)) .text)
 
--- src/text.rt:34:1
 returns-2 : tie.Need-returns-2 Inv-loop μ-loop
 returns-2 c = both (spaced-all (c .before .loop .inv (c .before .before .before .before .before .before .before .before .before .before .before .args .out .now) (spaced-one (c .before .before .before .before .before .before .before .before .before .before .before .args .out .now) (c .before .before .before .before .before .before .before .before .before .before .before .args .row .now) (c .before .before .before .before .before .before .before .before .if1 .left) (c .before .before .before .before .before .wide .ensures) (c .before .before .before .before .keep-number .ensures .0) (c .before .before .before .before .keep-number .ensures .1))) (c .loop-test .left))
 

@@ -1,34 +1,23 @@
 -- Assumes nothing.
--- uses
 use mathlib.Core.List.{[], _∷_}
 use Rattle.sheets.specs.Texts.{textOfReply}
 use Rattle.sheets.proofs.Holding.{holds-more, both}
--- end uses
 use borrow.Author.Needs.{needs}
 use Rattle.sheets.proofs.text.write_reply.Statement.{statement}
 use Rattle.sheets.proofs.text.write_reply.Tie as tie
-use Rattle.sheets.proofs.text.write_reply.Reads as reads
-use Rattle.sheets.proofs.text.write_reply.Lts as lts
-use Rattle.sheets.proofs.line.keep.Reads as keep-reads
-use Rattle.sheets.proofs.text.write_text.Reads as write-text-reads
 
--- src/text.rt:78:9
 write-text-requires : tie.Need-write-text-requires
 write-text-requires c κs = search needs
 
--- src/text.rt:79:18
 slice-aggregate-keep : tie.Need-slice-aggregate-keep
 slice-aggregate-keep c = search needs
 
--- src/text.rt:79:5
 keep-requires : tie.Need-keep-requires
 keep-requires c κs = search needs
 
--- src/text.rt:74:1
 same-length : tie.Need-same-length
 same-length c = search needs
 
--- src/text.rt:74:1
 returns : tie.Need-returns
 returns c = both {row₀ = c .before .before .before .before .before .before .before .before .before .before .before .args .out .now} (holds-more {text = textOfReply (c .before .before .before .before .before .before .before .before .before .before .before .args .reply) (c .before .before .before .before .before .before .before .before .before .before .before .args .ends .now)} (record { size = c .before .before .before .before .before .before .before .write-text .ensures .0; is = c .before .before .before .before .before .before .before .write-text .ensures .1 }) (10 ∷ []) (c .before .before .keep .ensures .0) (c .before .before .keep .ensures .1))
 
