@@ -6,3 +6,4 @@ pub mod Decimals
 pub mod Holding
 pub mod Spacing
 pub mod Feeding
+pub mod Long

@@ -42,8 +42,8 @@ pub fn keep(row: &mut [u8], used: usize, part: &[u8]) -> usize
 pub fn front(row: &[u8], n: usize) -> &[u8]
     ensures { λ r. ⌜ now r ≡ take n (now (row .entry)) ⌝ }
 {
-    if row.len() <= n {
-        return row;
+    if n < row.len() {
+        return &row[..n];
     }
-    &row[..n]
+    row
 }

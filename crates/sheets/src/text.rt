@@ -52,10 +52,10 @@ fn write_ends(out: &mut [u8], row: &[u32]) -> usize
 fn first(row: &[u32], n: usize) -> &[u32]
     ensures { λ r. ⌜ now r ≡ take n (now (row .entry)) ⌝ }
 {
-    if row.len() <= n {
-        return row;
+    if n < row.len() {
+        return &row[..n];
     }
-    &row[..n]
+    row
 }
 
 fn write_text(out: &mut [u8], reply: Reply, ends: &[u32]) -> usize
