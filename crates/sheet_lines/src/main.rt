@@ -1,24 +1,14 @@
 // The line program: adds and removes words, and cuts texts by them, a reply for each line of standard input.
 use libc::STDIN_FILENO;
 use libc::STDOUT_FILENO;
+use sheets::LINE;
+use sheets::POOL;
+use sheets::REPLY;
+use sheets::SCRATCH;
+use sheets::TEXT;
 use sheets::feed;
 use sheets::finish;
 use sheets::front;
-
-// One more than a line may have, so that a longer line is known by its first bytes.
-const LINE: usize = 1025;
-
-// Eight cells for each of 2,048 nodes.
-const POOL: usize = 16384;
-
-// The most characters that the text of a line has, and the most ends.
-const TEXT: usize = 1023;
-
-// What cutting such a text asks: 9n+128.
-const SCRATCH: usize = 9335;
-
-// Every end of such a text takes at most four digits and a space or a line feed.
-const REPLY: usize = 5115;
 
 fn main() {
     let mut line = [0u8; LINE];

@@ -1,4 +1,9 @@
 // Replays the test vectors of the line program: for each line of standard input the bytes that the program writes.
+use sheets::LINE;
+use sheets::POOL;
+use sheets::REPLY;
+use sheets::SCRATCH;
+use sheets::TEXT;
 use sheets::feed;
 use sheets::finish;
 use sheets::front;
@@ -17,16 +22,6 @@ const INPUT: usize = 524288;
 
 // The bytes of one run, and what it writes, as bytes and in hexadecimal.
 const RUN: usize = 262144;
-
-const LINE: usize = 1025;
-
-const POOL: usize = 16384;
-
-const TEXT: usize = 1023;
-
-const SCRATCH: usize = 9335;
-
-const REPLY: usize = 5115;
 
 fn main() {
     let mut input = [0u8; INPUT];

@@ -1,20 +1,19 @@
 -- Input, part by part. Assumes nothing.
-use Prim.Native.Nat.{ℕ, _+_, _≤_, _<_}
+use Prim.Native.Nat.{ℕ, _≤_, _<_}
 use native.Mathlib.Omega.{arith}
 use mathlib.Core.Path.{_≡_, refl, sym, _∙_, ap, subst}
 use mathlib.Core.Bool.{Bool, true, false, not, cond}
-use mathlib.Core.List.{List, [], _∷_, _++_}
-use lib.Dec.{ltb, eqb}
+use mathlib.Core.List.{List, []}
+use lib.Dec.{eqb}
 use lib.ListN.{length, take, drop}
 use lib.Seq.{take-append-seam}
 use borrow.Author.Tests.{lt-ltb, le-ltb, eq-eqb, ne-eqb, ltb-true, ltb-false}
 use Rattle.basics.proofs.Scans.{leading-inside}
 use Rattle.sheets.specs.declared.input.Fed.{Fed}
-use Rattle.sheets.specs.declared.reply.Asked.{Asked}
 use Rattle.sheets.specs.declared.reply.Asked.the-variants.{Nothing}
 use Rattle.sheets.specs.declared.reply.Reply.{Reply}
 use Rattle.sheets.specs.Lines.{lineEnd, kept, laid}
-use Rattle.sheets.specs.Replies.{asked, textOf, replyOf, endsAfter, RowsAfter, PoolAfter, scalarsAfter, scratchAfter}
+use Rattle.sheets.specs.Replies.{asked, textOf, endsAfter, RowsAfter, PoolAfter, scalarsAfter, scratchAfter}
 use Rattle.sheets.specs.Texts.{lineOf, written, amount}
 use Rattle.sheets.specs.Feeding.{lineWith, hasEnd, askedIf, told, fedWith}
 

@@ -3,8 +3,8 @@ use Prim.Native.Nat.{ℕ, _+_, _≤_, _<_}
 use native.Mathlib.Omega.{arith}
 use native.Mathlib.Numerals.{add-one}
 use mathlib.Core.Path.{_≡_, refl, sym, _∙_, ap}
-use mathlib.Core.List.{List, [], _∷_, _++_, append-nil}
-use lib.ListN.{length, getD, take, drop, set, length-set, length-append, length-take}
+use mathlib.Core.List.{List, _++_, append-nil}
+use lib.ListN.{length, getD, take, drop, set, length-set, length-append}
 use lib.Seq.{paste, paste-zero, paste-suc, length-paste-head, length-take-le, take-all, take-append-add, take-append-seam, drop-length}
 use Rattle.sheets.specs.Lines.{kept, laid}
 

@@ -2,15 +2,13 @@
 use Prim.Native.Nat.{ℕ, _+_, _≤_}
 use native.Mathlib.Omega.{arith}
 use mathlib.Core.Path.{_≡_, refl, sym, _∙_, ap, subst}
-use mathlib.Core.Option.{Option}
 use mathlib.Core.List.{List, _++_}
 use lib.ListN.{length, take, drop, length-append}
 use lib.Seq.{take-at, length-take-le}
-use Rattle.basics.proofs.Parts.{tail-drop}
 use Rattle.refusal.specs.declared.Refusal.{Refusal}
 use Rattle.refusal.specs.declared.Answer.{Answer}
 use Rattle.refusal.specs.declared.Answer.the-variants as answers
-use Rattle.refusal.specs.Answers.{Row, answer, output}
+use Rattle.refusal.specs.Answers.{output}
 use Rattle.utf8.specs.Decoding.{scalarsOf, decodeRows, decoded}
 use Rattle.pool.specs.Meaning.{Words, meaning}
 use Rattle.pool_lent.specs.Refusals.{held}

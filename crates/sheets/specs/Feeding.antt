@@ -1,15 +1,15 @@
 -- 01, "Program": input of any length, part by part.
 use Prim.Native.Nat.{ℕ, _+_}
-use mathlib.Core.Bool.{Bool, true, false, cond}
+use mathlib.Core.Bool.{Bool, true, false}
 use mathlib.Core.List.{List}
-use lib.Dec.{ltb, eqb}
+use lib.Dec.{ltb}
 use lib.ListN.{length, take}
 use Rattle.sheets.specs.declared.input.Fed.{Fed}
 use Rattle.sheets.specs.declared.reply.Asked.{Asked}
 use Rattle.sheets.specs.declared.reply.Asked.the-variants.{Nothing}
 use Rattle.sheets.specs.Lines.{lineEnd, kept}
 use Rattle.sheets.specs.Replies.{asked, textOf, replyOf, endsAfter}
-use Rattle.sheets.specs.Texts.{lineOf, amount}
+use Rattle.sheets.specs.Texts.{lineOf}
 
 -- the line's bytes with those up to the first line feed
 abbrev pub lineWith : List ℕ → List ℕ → ℕ → List ℕ

@@ -10,7 +10,7 @@ use Rattle.refusal.specs.declared.Answer.the-variants as answers
 use Rattle.refusal.specs.Answers.{answer, output}
 use Rattle.utf8.specs.Decoding.{scalarsOf, decoded}
 use Rattle.char_string.specs.Blanks.{trimmedOf}
-use Rattle.pool.specs.Meaning.{Words, meaning, withWord, withoutWord, report}
+use Rattle.pool.specs.Meaning.{meaning, withWord, withoutWord, report}
 use Rattle.pool_lent.specs.Refusals.{held}
 use Rattle.trie_char.specs.Refusals.{removeRows, addRows}
 use Rattle.trie_char.specs.Changes.{After}

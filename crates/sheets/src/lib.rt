@@ -20,3 +20,20 @@ pub use line::line_end;
 pub use reply::Reply;
 pub use reply::answer_line;
 pub use text::write_reply;
+
+// The rows of a run are so long: a line, the pool, scalars and ends, scratch, the text of a reply.
+
+// One more than the bytes that a line may have, so that a longer line is known by its first bytes.
+pub const LINE: usize = 1025;
+
+// A pool of 2,048 nodes.
+pub const POOL: usize = 16384;
+
+// The most characters that the text of a line has, and the most ends.
+pub const TEXT: usize = 1023;
+
+// What cutting such a text asks: 9n+128.
+pub const SCRATCH: usize = 9335;
+
+// Every end of such a text takes at most four digits and a space or a line feed.
+pub const REPLY: usize = 5115;

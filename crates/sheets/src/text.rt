@@ -4,9 +4,8 @@ use crate::reply::Reply;
 use pool::wide;
 use refusal::Refusal;
 ghost use mathlib.Core.Path.{_≡_};
-ghost use mathlib.Core.List.{[], _∷_, _++_};
+ghost use mathlib.Core.List.{[]};
 ghost use lib.ListN.{length, take};
-ghost use Rattle.refusal.specs.Numbers.{numberOf, detailOf};
 ghost use Rattle.sheets.specs.Lines.{kept, laid};
 ghost use Rattle.sheets.specs.Texts.{decimal, spaced, textOfReply, lineOf, written, amount};
 
