@@ -3,8 +3,9 @@
     python3 tests/make_char_string.py VECTORS
 
 VECTORS is a file of vector lines with the answers of an independent model; its lines for decode, trim, rspace and
-part are taken. A decode line there also has a row for byte positions: that column and the positions in the answer
-are left out, and so is a line that is refused for that row alone.
+part are taken. A part line stands there twice: for the plain part, and for the view that is held in a struct. A decode
+line there also has a row for byte positions: that column and the positions in the answer are left out, and so is a
+line that is refused for that row alone.
 
 The other lines are made here. The expected side of each comes from Python's own UTF-8 codec: where bytes.decode
 fails, its `start` is where the first ill-formed sequence starts. Refusals are in document 01's order, 1, 2, 6.
@@ -77,6 +78,8 @@ def decode(data, room="*"):
 def given(path):
     """The lines of the vectors file."""
     for fields, expected in vectors.read(path, ("decode", "trim", "rspace", "part")):
+        if fields[0] == "part":
+            yield ["view_part"] + fields[1:], expected
         if fields[0] != "decode":
             yield fields, expected
             continue
@@ -226,9 +229,40 @@ def views():
                         yield view(n, start, end, a, a, b)
 
 
+def part(row, start, end):
+    return row[start:end] if start <= end <= len(row) else []
+
+
+def sub_view(n, start, end, a, b, index):
+    """The answers for a sub-view of a view of the text 0, 1, .., n - 1, by Python's own slices."""
+    shown = part(part(list(range(n)), start, end), a, b)
+    char = shown[index] if index < len(shown) else "none"
+    return ["sub_view"] + [str(x) for x in (n, start, end, a, b, index)], "ok %d %s %s" % (len(shown), char, vectors.cells(shown))
+
+
+def right_pairs(n):
+    return [(a, b) for a in range(n + 1) for b in range(a, n + 1)]
+
+
+def sub_views():
+    """Each sub-view of each view of six characters, at each index up to its length; wrong pairs for the sub-view, for the view and for both."""
+    largest = 2 ** 64 - 1
+    wrong = [(1, 0), (3, 2), (0, 7), (7, 7), (0, largest), (largest, 0), (largest, largest)]
+    for start, end in right_pairs(6):
+        for a, b in right_pairs(end - start):
+            for index in range(b - a + 1):
+                yield sub_view(6, start, end, a, b, index)
+    for start, end in right_pairs(6) + wrong:
+        for a, b in wrong:
+            yield sub_view(6, start, end, a, b, 0)
+    for start, end in wrong:
+        for a, b in right_pairs(2):
+            yield sub_view(6, start, end, a, b, largest)
+
+
 def main():
     made = list(given(sys.argv[1]))
-    for group in unicode_examples, first_bytes, later_bytes, edges, long_texts, short_rows, scalar_cells, texts, words, views:
+    for group in unicode_examples, first_bytes, later_bytes, edges, long_texts, short_rows, scalar_cells, texts, words, views, sub_views:
         made.extend(group())
     vectors.write("char_string_tests", made)
 

@@ -1,4 +1,6 @@
-// Replays the test vectors of `utf8` and `char_string`: a line with the answer for each line of standard input.
+// Replays the test vectors of `utf8`, `char_string` and `char_view`: a line with the answer for each line of standard input.
+mod views;
+
 use char_string::CharAt;
 use char_string::Found;
 use refusal::Answer;
@@ -68,6 +70,14 @@ fn answer(line: &[u8], bytes: &mut [u8], cells: &mut [u32]) {
     }
     if is(op, b"view") {
         view(line, cells);
+        return;
+    }
+    if is(op, b"view_part") {
+        views::view_part(line, cells);
+        return;
+    }
+    if is(op, b"sub_view") {
+        views::sub_view(line, cells);
         return;
     }
     if is(op, b"word") {
@@ -157,10 +167,7 @@ fn print_view(line: &[u8], text: &[u32], start: usize, end: usize) {
     print(b"ok ");
     print_number(char_string::chars_len(text, start, end));
     print(b" ");
-    match char_string::get_char_at(text, start, end, number(field(line, 4))) {
-        CharAt::Scalar(c) => print_number(wide(c)),
-        CharAt::Nothing => print(b"none"),
-    }
+    print_char(char_string::get_char_at(text, start, end, number(field(line, 4))));
     print(b" ");
     let s = char_string::sub_view(
         text,
@@ -181,7 +188,10 @@ fn part(line: &[u8], cells: &mut [u32]) {
     let start = number(field(line, 2));
     let end = number(field(line, 3));
     let text = &cells[0..n];
-    let part = char_string::substring(text, start, end);
+    print_part(text, start, end, char_string::substring(text, start, end));
+}
+
+fn print_part(text: &[u32], start: usize, end: usize, part: &[u32]) {
     print(b"ok ");
     if char_string::is_substring(text, start, end) {
         print(b"1 ");
@@ -192,6 +202,13 @@ fn part(line: &[u8], cells: &mut [u32]) {
     }
     print(b" ");
     print_number(part.len());
+}
+
+fn print_char(c: CharAt) {
+    match c {
+        CharAt::Scalar(x) => print_number(wide(x)),
+        CharAt::Nothing => print(b"none"),
+    }
 }
 
 // Each cell is its own index, so that a part's first cell tells where the part starts.
