@@ -5,6 +5,7 @@ An exhaustive group has a size: its lines are numbered from 0 and each is made o
 """
 import random
 
+import boundaries
 import lines
 import real
 
@@ -307,6 +308,15 @@ class ShortClassCuts:
         return lines.cut("plain", self.held[k], numbered(CLASSES, 3, i))
 
 
+class BoundaryCuts:
+    """Texts on both sides of a line of the rules."""
+    held = list(boundaries.cases())
+    op, weight, size = "cut", 5, len(held)
+
+    def line(self, rng, i):
+        return lines.cut(*self.held[i])
+
+
 class RandomCuts:
     op, weight, size = "cut", 12, None
 
@@ -376,7 +386,7 @@ class RealCuts:
         return lines.cut(rng.choice(["plain", "safe"]), real.words_in(text[:3000]), text[:3000])
 
 
-MADE = [ShortClusters, LookaheadClusters, AllThaiClusters, RandomClusters, ShortScripts, RandomScripts, Prefixes, ShortCuts, ShortNonThai, ShortClassCuts, RandomCuts, SafeCuts, DenseCuts, LongWords]
+MADE = [ShortClusters, LookaheadClusters, AllThaiClusters, RandomClusters, ShortScripts, RandomScripts, Prefixes, ShortCuts, ShortNonThai, ShortClassCuts, BoundaryCuts, RandomCuts, SafeCuts, DenseCuts, LongWords]
 REAL = [RealClusters, RealCuts]
 
 

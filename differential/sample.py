@@ -6,7 +6,9 @@ what differential/setup has built. No real text and no real words are in it.
 import os
 import sys
 
+import boundaries
 import generate
+import lines
 import sides
 
 sys.path.insert(0, os.path.join(sides.ROOT, "tests"))
@@ -26,10 +28,11 @@ KEPT = {
     generate.ShortCuts: (200, 200),
     generate.ShortNonThai: (200, 200),
     generate.ShortClassCuts: (100, 200),
-    generate.RandomCuts: (200, 250),
-    generate.SafeCuts: (80, 900),
-    generate.DenseCuts: (120, 250),
-    generate.LongWords: (10, 1500),
+    generate.BoundaryCuts: (generate.BoundaryCuts.size, 2000),
+    generate.RandomCuts: (80, 250),
+    generate.SafeCuts: (30, 700),
+    generate.DenseCuts: (60, 250),
+    generate.LongWords: (6, 1500),
 }
 
 
@@ -48,9 +51,17 @@ def written(program):
     return [(line.split("\t"), answer) for line, answer in zip(given, expected, strict=True)]
 
 
+def hold_to_document(answered):
+    """Stops where the Rust gives other ends than document 01."""
+    for mode, held, text, ends in boundaries.DOCUMENT:
+        if answered[lines.cut(mode, held, text)].split(" ")[1] != ",".join(map(str, ends)):
+            raise SystemExit("document 01 and the Rust differ on %r, %s" % (text, mode))
+
+
 def main():
-    lines = list(sampled())
-    answered = list(zip(lines, sides.rust(lines)))
+    given = list(sampled())
+    answered = list(zip(given, sides.rust(given)))
+    hold_to_document(dict(answered))
     for program in sorted(set(sides.standing().values())):
         made = [(line.split("\t"), answer) for line, answer in answered if sides.standing().get(sides.kind(line)) == program]
         vectors.write(program, written(program) + made)

@@ -223,4 +223,5 @@ def main():
             out.writelines(line[side] + "\n" for line in lines)
 
 
-main()
+if __name__ == "__main__":
+    main()

@@ -1,0 +1,89 @@
+"""Texts on both sides of a line of the cut's rules, with their words, and the mode.
+
+Only inputs stand here: what comes out is the Rust's to say.
+"""
+
+KO, KHO, KHWO, NGO, AA, MAITAIKHU, THANTHAKHAT, DIGIT = "\u0e01\u0e02\u0e04\u0e07\u0e32\u0e47\u0e4c\u0e52"
+
+
+# The cuts of document 01, "Sheets on both sides of a line", with the ends that it gives.
+DOCUMENT = [
+    ("plain", ["กข", "กขค"], "กขค", [3]),
+    ("plain", ["กข", "กขค", "คง", "ง"], "กขคง", [2, 4]),
+    ("plain", ["ขค"], "กขค", [3]),
+    ("plain", ["ขค", "ขคง"], "กขคง", [1, 4]),
+    ("plain", ["ก"], "กา", [2]),
+    ("plain", [], "12,5.a", [4, 5, 6]),
+    ("plain", [], "\r", [1]),
+    ("plain", [], "\r\n", [2]),
+    ("plain", [], "a" * 140, [140]),
+    ("safe", [], "a" * 140, [100, 140]),
+    ("safe", [], "a" * 139, [139]),
+    ("safe", [], " " * 140, [40, 140]),
+]
+
+
+def edges():
+    """Texts in which about 50 edges stand at once: from one place, from two, and from every place."""
+    yield [KO * 2, KO * 3], KO * 30
+    for most in range(47, 55):
+        long = [KHO + KO * k for k in range(1, most + 1)]
+        yield long, KHO + KO * 60
+        yield long + [KO], KHO + KO * 60
+        yield long + [KO * 2, KO * 3], KHO + KO * 60 + NGO
+        yield long[: most // 2] + [KO * 2 + KHWO * k for k in range(1, most - most // 2 + 1)], KHO + KO * 2 + KHWO * 60
+        whole = KHO + KO * 4 + NGO + KO * 60
+        yield [whole[:k] for k in range(2, most + 2)] + [NGO + KO], whole
+    for n in 9, 10, 11, 49, 50, 51, 52, 100:
+        yield [KO * k for k in range(1, n + 1)], KO * n
+        yield [KO * k for k in range(1, n + 1)], KO * (n + 1) + NGO + KO
+
+
+def non_thai():
+    """Runs of the five alternatives and what ends them: alone, between Thai, and with words that start in them."""
+    runs = ["12,5.a", "1,", "1,,2", "1.", "1..2", "1" + DIGIT, DIGIT + "1", ",1", ".", "1,2,", "-", "--", "a-", "-1-", "a1", "1a", "aZ-z"]
+    runs += ["\r", "\n", "\r\n", "\r\r\n", "\n\r", "\r\n\r\n", "\t", "\t\t", " \t ", "  ", " \n", "\v", "\f", "\u00a0", "\u0e3f", "\U0001f600", "a\u00e9"]
+    for run in runs:
+        for text in run, KO + run, run + KO, KO + AA + run + KO + AA, run + run:
+            yield [], text
+            yield [KO, KO + AA], text
+        yield [run], KHO + run + KHO
+        yield [run[:1]], run + KO
+        yield [run + KO], KO + run + KO
+
+
+def skips():
+    """Words at the place where a skip stops: one and two consonants don't stop it, others do, where they end at a cluster end."""
+    for word in KO, KO + KHO, KO + KHO + KHWO, KO + AA, AA, AA + KO, KO + MAITAIKHU, "\u0e40" + KO, "\u0e2e", "\u0e2e\u0e01", "\u0e2f", KO + " ", "a", "1", KO + THANTHAKHAT:
+        for before in "\u0e2d", "\u0e2d\u0e2d", "\u0e2d" + AA:
+            for behind in "", KO, AA, THANTHAKHAT, "a", " " + KO:
+                yield [word], before + word + behind
+                yield [word, word + word], before + word + word + behind
+
+
+def lengths():
+    """Safe mode's lengths, without a space and with one at every place of a sample and beside it."""
+    for n in 1, 99, 100, 101, 138, 139, 140, 141, 179, 180, 181, 239, 240, 241, 279, 280, 281, 65535:
+        yield [], "a" * n
+        yield [], " " * n
+        yield [], KO * n
+        yield [KO * 7], KO * n
+    for place in range(98, 142):
+        yield [], "a" * place + " " + "a" * (150 - place)
+        yield [KO * 3, KO * 5], KO * place + " " + KO * (145 - place) + " " + KO * 40
+    # The only space at 105: the first part is 6 long.
+    yield [], "a" * 105 + " " + "a" * 34
+    yield [KO + AA], " " * 40 + (KO + AA) * 120
+    for longest in range(1, 39):
+        yield [KO * longest, KHO * longest], NGO * 100 + KO * longest + KHO * longest + NGO * 60
+
+
+def cases():
+    """A mode, words and a text, in order; both modes where the text is long enough to be cut in parts."""
+    for mode, held, text, _ in DOCUMENT:
+        yield mode, held, text
+    for made in edges, non_thai, skips, lengths:
+        for held, text in made():
+            yield "plain", held, text
+            if len(text) >= 139:
+                yield "safe", held, text

@@ -1,0 +1,86 @@
+"""Writes crates/cut_tests/stdin and stdout.
+
+    python3 tests/make_cut.py VECTORS
+
+VECTORS is a file of vector lines with the answers of an independent model; its cut lines are taken, and from them lines
+with too little scratch, too little output, a bad text or a bad pool. What those refuse with, document 01 says: the
+conditions in their order, each with its detail. differential/sample.py adds the Rust's answers behind them.
+"""
+import sys
+
+import vectors
+from make_trie_char import cells_of, pools
+
+LONGEST = 65535
+
+# Lines with fewer bytes of words and text are lent other rows too.
+SHORT = 150
+
+
+def scalars(field):
+    """The cells of a field."""
+    row = []
+    for part in field.split(".") if field != "-" else []:
+        cell, _, times = part.partition("*")
+        row += [int(cell, 16)] * int(times or 1)
+    return row
+
+
+def refusal(text, passes, scratch, out, ends):
+    """The first condition of document 01 that holds, with its detail."""
+    if len(text) > LONGEST:
+        return "! 2 %d" % len(text)
+    for i, cell in enumerate(text):
+        if 0xD800 <= cell < 0xE000 or cell > 0x10FFFF:
+            return "! 3 %d" % i
+    if not passes:
+        return "! 4 0"
+    if scratch < 9 * len(text) + 128:
+        return "! 5 %d" % (9 * len(text) + 128)
+    if out < len(ends):
+        return "! 6 %d" % len(ends)
+    return "ok"
+
+
+def lent_rows(fields, expected):
+    """An accepted line with scratch and output one cell short, just right and one cell longer."""
+    _, mode, words, text, _, _ = fields
+    row, ends = scalars(text), [] if expected.split()[1] == "-" else expected.split()[1].split(",")
+    need = 9 * len(row) + 128
+    for scratch in need - 1, need, need + 1:
+        for out in len(ends) - 1, len(ends), len(ends) + 1:
+            if out >= 0:
+                answer = refusal(row, True, scratch, out, ends)
+                yield ["cut", mode, words, text, str(scratch), str(out)], expected if answer == "ok" else answer
+
+
+def bad_calls():
+    """Texts that are too long or hold a cell that is no scalar, with pools that pass and that don't, and rows of no cells."""
+    a, good, empty = 0x61, cells_of({(0x61,)}, 16), []
+    texts = [[a] * (LONGEST + 1), [a] * LONGEST + [0xD800], [0xD800], [a, 0xDFFF, 0x110000], [a, a, 0x110000], [0xFFFFFFFF], [a, 0xD7FF, 0xE000, 0x10FFFF]]
+    for mode in "plain", "safe":
+        for text in texts:
+            for pool in good, empty:
+                answer = refusal(text, pool == good, 0, 0, [])
+                yield ["cut_pool", mode, vectors.cells(pool), vectors.cells(text), "0", "0"], answer
+
+
+def pool_calls():
+    """Each rule of docs/POOL.md broken: refused before scratch and output are looked at. Pools that pass are left to other lines."""
+    for line, answer in pools():
+        cells = line.split("\t")[1]
+        if answer.startswith("!"):
+            for mode, scratch, out in ("plain", "*", "*"), ("safe", "0", "0"):
+                yield ["cut_pool", mode, cells, "E01.E02", scratch, out], "! 4 0"
+
+
+def main():
+    found = vectors.read(sys.argv[1], ["cut"])
+    lines = list(found)
+    accepted = [line for line in found if line[1].startswith("ok") and len(line[0][2] + line[0][3]) < SHORT]
+    for fields, expected in accepted[::6]:
+        lines += lent_rows(fields, expected)
+    vectors.write("cut_tests", lines + list(bad_calls()) + list(pool_calls()))
+
+
+main()
