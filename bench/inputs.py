@@ -13,7 +13,7 @@ sys.path.insert(0, os.path.join(os.path.dirname(HERE), "differential"))
 import real
 
 LONG = 65535
-LINES = 1000
+LINES = 500
 SMALL = 700
 SIZES = (250, 1000, 4000, 16000, LONG)
 GO = "\u0e01"

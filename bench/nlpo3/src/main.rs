@@ -135,12 +135,14 @@ fn main() {
     }
     let words = args.get(4).map(|path| lines(path)).unwrap_or_default();
     let texts = texts(&args[3]);
+    let cuts = args[2] == "plain" || args[2] == "safe";
+    let (for_trie, for_cutter) = if cuts { (Vec::new(), words) } else { (words, Vec::new()) };
     let bench = Bench {
         op: args[2].clone(),
         views: views(&args[2], &texts),
         texts,
-        trie: TrieChar::new(&words.iter().map(|w| CharString::new(w)).collect::<Vec<_>>()),
-        cutter: NewmmTokenizer::from_word_list(words),
+        trie: TrieChar::new(&for_trie.iter().map(|w| CharString::new(w)).collect::<Vec<_>>()),
+        cutter: NewmmTokenizer::from_word_list(for_cutter),
     };
     match args[1].as_str() {
         "answers" => answers(&bench),
