@@ -21,6 +21,7 @@ DRIVERS = {
 ROUNDS = 3
 SIZES = (250, 1000, 4000, 16000, 65535)
 RUST_LIMIT = 20
+LOOPS = {"GLIBC_TUNABLES": "glibc.cpu.x86_rep_stosb_threshold=1000000000:glibc.cpu.x86_rep_movsb_threshold=1000000000"}
 RUST_BYTES = 6 << 30
 
 LINES, LONG = "lines.lines", "long.txt"
@@ -61,9 +62,10 @@ def time_of(*what):
 
 
 def instructions_of(side, *what):
-    """The instructions of one pass, counted by callgrind."""
+    """The instructions of one pass, counted by callgrind, with loops where the C library would repeat one instruction."""
     tool = ["valgrind", "--tool=callgrind", "--toggle-collect=bench_pass", "--callgrind-out-file=/dev/null"]
-    done = subprocess.run(tool + command(side, "once", *what), stderr=subprocess.PIPE, check=True, encoding="utf-8")
+    words = tool + command(side, "once", *what)
+    done = subprocess.run(words, stderr=subprocess.PIPE, check=True, encoding="utf-8", env={**os.environ, **LOOPS})
     return int(re.search(r"Collected : (\d+)", done.stderr).group(1))
 
 

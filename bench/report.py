@@ -172,15 +172,33 @@ def targets(r):
     yield row("decoding, lines", 1, ("decode", LINES, "small"))
 
 
+def without_check(r, case, n, kind):
+    """The time or the instructions of a character, the check of the pool left out of ordinary text."""
+    row = next(row for row in r.growth if (row["case"], row["n"]) == (case, n))
+    check = ("ours", "check", LONG, "all")
+    off = {"ours": r.time, "instructions": r.count}[kind](*check) if case == "ordinary" else 0
+    return (row[kind] - off) / n
+
+
 def limits(r):
     """Each target that is an upper end."""
-    ordinary = cost(r, "ordinary", 65535)
-    for case, name in WORST.items():
-        times = max(cost(r, case, n) for n in (4000, 16000, 65535)) / ordinary
-        yield ["worst case against ordinary text: " + name, "10", "%.2f" % times, "met" if times <= 10 else "missed"]
-    for case, name in {"ordinary": "ordinary text", **WORST}.items():
-        times = cost(r, case, 65535) / cost(r, case, 4000)
-        yield ["growth, a character at 65,535 against 4,000: " + name, "1.2", "%.2f" % times, "met" if times <= 1.2 else "missed"]
+    def row(name, asked, by_time, by_count):
+        return [name, "%g" % asked, "%.2f" % by_time, "%.2f" % by_count, "met" if by_time <= asked else "missed"]
+
+    per = r.sizes[LONG]["characters"]
+    for words in ("all", "small"):
+        key = ("ours", "plain", LONG, words)
+        for case, name in WORST.items():
+            rows = [row for row in r.growth if row["case"] == case and row["n"] >= 4000]
+            by_time = max(row["ours"] / row["n"] for row in rows) / (r.time(*key) / per)
+            by_count = max(row["instructions"] / row["n"] for row in rows) / (r.count(*key) / per)
+            yield row("%s, against ordinary text with %s words" % (name, r.words(words)), 10, by_time, by_count)
+    for case, name in {"ordinary": "ordinary text, the pool's check left out", **WORST}.items():
+        ratios = [without_check(r, case, 65535, kind) / without_check(r, case, 4000, kind) for kind in ("ours", "instructions")]
+        yield row("growth, a character at 65,535 against 4,000: " + name, 1.2, *ratios)
+    for words in ("all", "small"):
+        ratios = [of("ours", "check", LONG, words) / of("ours", "read", LONG, words) for of in (r.time, r.count)]
+        yield row("the check of the pool against a plain read of its cells, %s words" % r.words(words), 3, *ratios)
 
 
 def sections(r):
@@ -193,7 +211,7 @@ def sections(r):
         "",
         "\"ns\" and \"instr.\" are nanoseconds and instructions a character. \"faster\" is the Rust's time over ours.",
     ]
-    yield "## Targets", [*table(["target, times faster than the Rust", "asked", "by time", "by instructions", ""], targets(r)), "", *table(["target, at most", "asked", "measured", ""], limits(r))]
+    yield "## Targets", [*table(["target, times faster than the Rust", "asked", "by time", "by instructions", ""], targets(r)), "", *table(["target, at most", "asked", "by time", "by instructions", ""], limits(r))]
     yield "## Ours and the Rust", both(r)
     yield "## libthai and ICU", others(r)
     yield "## The check of the pool", ["Refusal 4 costs one check in every call that is lent a pool.", "", *pools(r)]
