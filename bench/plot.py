@@ -4,10 +4,10 @@ import math
 import os
 
 ROOT = os.path.dirname(os.path.dirname(os.path.abspath(__file__)))
-WIDTH, HEIGHT, LEFT, TOP, PLOT_WIDTH, PLOT_HEIGHT = 860, 470, 70, 50, 520, 360
+WIDTH, HEIGHT, LEFT, TOP, PLOT_WIDTH, PLOT_HEIGHT = 960, 470, 70, 50, 560, 360
 COLOURS = {"ordinary": "#333333", "worst-1": "#c0392b", "worst-2": "#2471a3", "worst-3": "#1e8449"}
 NAMES = {
-    "ordinary": "ordinary text, 52,007 words",
+    "ordinary": "ordinary text, %s words",
     "worst-1": "n times ก, {กก, กกก}",
     "worst-2": "n times ก, {ก to 255 times ก}",
     "worst-3": "(254 times ก, ข) repeated, {255 times ก}",
@@ -56,7 +56,7 @@ def grid(across, up):
     yield text(LEFT, TOP - 10, "whole lines: ours; dashed: the Rust, as far as it takes at most 20 s")
 
 
-def curves(growth, across, up):
+def curves(growth, words, across, up):
     for place, (case, name) in enumerate(NAMES.items()):
         points = {"ours": [], "rust": []}
         for row in growth:
@@ -67,17 +67,18 @@ def curves(growth, across, up):
         yield line(points["rust"], COLOURS[case], ' stroke-dasharray="6 4"')
         y = TOP + 20 + 24 * place
         yield line([(LEFT + PLOT_WIDTH + 15, y - 4), (LEFT + PLOT_WIDTH + 40, y - 4)], COLOURS[case])
-        yield text(LEFT + PLOT_WIDTH + 46, y, name)
+        yield text(LEFT + PLOT_WIDTH + 46, y, name.replace("%s", "{:,}".format(words)))
 
 
 def main():
-    growth = json.load(open(os.path.join(ROOT, "target/bench/results.json"), encoding="utf-8"))["growth"]
+    results = json.load(open(os.path.join(ROOT, "target/bench/results.json"), encoding="utf-8"))
+    growth, words = results["growth"], results["loads"]["all"]["words"]
     costs = [row[side] / row["n"] for row in growth for side in ("ours", "rust") if row[side]]
     across = Axis([row["n"] for row in growth], LEFT, PLOT_WIDTH)
     up = Axis(costs, TOP + PLOT_HEIGHT, -PLOT_HEIGHT)
     head = '<svg xmlns="http://www.w3.org/2000/svg" width="%d" height="%d" font-family="sans-serif" font-size="12">' % (WIDTH, HEIGHT)
     back = '<rect width="%d" height="%d" fill="white"/>' % (WIDTH, HEIGHT)
-    parts = [head, back, *grid(across, up), *curves(growth, across, up), "</svg>", ""]
+    parts = [head, back, *grid(across, up), *curves(growth, words, across, up), "</svg>", ""]
     with open(os.path.join(ROOT, "bench", "cost.svg"), "w", encoding="utf-8") as file:
         file.write("\n".join(parts))
 

@@ -182,8 +182,9 @@ def without_check(r, case, n, kind):
 
 def limits(r):
     """Each target that is an upper end."""
-    def row(name, asked, by_time, by_count):
-        return [name, "%g" % asked, "%.2f" % by_time, "%.2f" % by_count, "met" if by_time <= asked else "missed"]
+    def row(name, asked, by_time, by_count, decides=0):
+        measured = (by_time, by_count)
+        return [name, "%g" % asked, "%.2f" % by_time, "%.2f" % by_count, "met" if measured[decides] <= asked else "missed"]
 
     per = r.sizes[LONG]["characters"]
     for words in ("all", "small"):
@@ -195,7 +196,7 @@ def limits(r):
             yield row("%s, against ordinary text with %s words" % (name, r.words(words)), 10, by_time, by_count)
     for case, name in {"ordinary": "ordinary text, the pool's check left out", **WORST}.items():
         ratios = [without_check(r, case, 65535, kind) / without_check(r, case, 4000, kind) for kind in ("ours", "instructions")]
-        yield row("growth, a character at 65,535 against 4,000: " + name, 1.2, *ratios)
+        yield row("growth, instructions of a character at 65,535 against 4,000: " + name, 1.05, *ratios, decides=1)
     for words in ("all", "small"):
         ratios = [of("ours", "check", LONG, words) / of("ours", "read", LONG, words) for of in (r.time, r.count)]
         yield row("the check of the pool against a plain read of its cells, %s words" % r.words(words), 3, *ratios)
