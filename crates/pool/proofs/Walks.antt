@@ -47,4 +47,4 @@ module _ (p text : List ℕ) (b : ℕ) where
 pub readable-child : (p : List ℕ) (b x r : ℕ) → child p b x ≡ at r → Readable p b → Readable p r
 readable-child p b x r e g =
     let f = child-found p b x r e in
-    record { nodes = g .nodes; inside = omega (arith, within p (g .nodes) (g .shaped) b (g .inside), f .high); shaped = g .shaped; fits = g .fits }
+    record { nodes = g .nodes; inside = omega (arith, within p (g .nodes) (g .shaped) b (g .inside), f .high); shaped = g .shaped; fits = g .fits; rising = g .rising }

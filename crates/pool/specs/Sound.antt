@@ -56,9 +56,10 @@ pub record Sound (p : List ℕ) (n cur : ℕ) : Type 0 where
   pub shallow : ends p n 255 ≡ n
   pub spare : Spare p n
 
--- what the readers ask: n nodes in level order, b being one of them
+-- what the readers ask: n nodes in level order, the children of each rising, b being one of them
 pub record Readable (p : List ℕ) (b : ℕ) : Type 0 where
   pub nodes : ℕ
   pub inside : b < nodes
   pub shaped : Shaped p nodes
   pub fits : 8 * nodes ≤ length p
+  pub rising : (i : ℕ) → i < nodes → Rising p (firstAt p i) (firstAt p i + countAt p i)

@@ -109,7 +109,7 @@ pruned p q b j n h e long k = record {
 -- ---- the recursion
 
 pub readable : (p : List ℕ) (b : ℕ) → Removes p b → Readable p b
-readable p b h = record { nodes = used p; inside = reach-within p (used p) (h .sound .shaped) (h .path) b (h .leads); shaped = h .sound .shaped; fits = h .sound .fits }
+readable p b h = record { nodes = used p; inside = reach-within p (used p) (h .sound .shaped) (h .path) b (h .leads); shaped = h .sound .shaped; fits = h .sound .fits; rising = h .sound .rising }
 
 -- the word's end: the mark goes
 pub cleared : (p w : List ℕ) (b : ℕ) → Removes p b → length w ≡ 0 → (u : List ℕ) → reach p u ≡ at b → Removed p (set p (8 * b + 3) 0) u b w

@@ -58,7 +58,7 @@ module _ (pool : List ℕ) (n : ℕ) (is : n ≡ min (length pool / 8) 1048576) 
   pub readable : isDictionary pool ≡ true → Readable (take (8 * n) pool) 0
   readable e =
       let s = sound-part e in
-      record { nodes = used (take (8 * n) pool); inside = s .shaped .some; shaped = s .shaped; fits = s .fits }
+      record { nodes = used (take (8 * n) pool); inside = s .shaped .some; shaped = s .shaped; fits = s .fits; rising = s .rising }
 
   pub held-part : isDictionary pool ≡ true → held (meaning pool) ≡ holds (take (8 * n) pool)
   held-part e = held-is pool e ∙ ap holds (sym cells-are)

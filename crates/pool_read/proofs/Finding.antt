@@ -65,7 +65,7 @@ module _ (p w : List ℕ) (i t : ℕ) (v : Inv p w i t) (l : t < length w) where
       let f = child-found p i (getD w t 0) r (sym e ∙ ap toPlace q) in
       record {
         upto = omega arith;
-        here = record { nodes = v .here .nodes; inside = omega (arith, within p (v .here .nodes) (v .here .shaped) i (v .here .inside), f .high); shaped = v .here .shaped; fits = v .here .fits };
+        here = record { nodes = v .here .nodes; inside = omega (arith, within p (v .here .nodes) (v .here .shaped) i (v .here .inside), f .high); shaped = v .here .shaped; fits = v .here .fits; rising = v .here .rising };
         same = on ∙ ap (on-place none (λ r. walk p (drop (t + 1) w) r)) (sym e ∙ ap toPlace q);
       }
 
@@ -104,7 +104,7 @@ module _ (p w : List ℕ) (i t : ℕ) (v : Counts p w i t) (l : t < length w) wh
       let f = child-found p i (getD w t 0) r (sym e ∙ ap toPlace q) in
       record {
         upto = omega arith;
-        here = record { nodes = v .here .nodes; inside = omega (arith, within p (v .here .nodes) (v .here .shaped) i (v .here .inside), f .high); shaped = v .here .shaped; fits = v .here .fits };
+        here = record { nodes = v .here .nodes; inside = omega (arith, within p (v .here .nodes) (v .here .shaped) i (v .here .inside), f .high); shaped = v .here .shaped; fits = v .here .fits; rising = v .here .rising };
         same = count-on ∙ ap (on-place (suc (length (drop (t + 1) w))) (λ r. lacking p (drop (t + 1) w) r)) (sym e ∙ ap toPlace q);
       }
 

@@ -5,7 +5,7 @@ use mathlib.Core.List.{List}
 use Prim.Native.Nat.{ℕ, zero, suc, _+_, _-_, _*_, _≤_, _<_}
 use native.Mathlib.Omega.{arith}
 use native.Mathlib.Decide.{decLt}
-use borrow.Author.Tests.{lt-ltb, le-ltb, eqb-true, eqb-false, not-true, not-false, leb-true, leb-false}
+use borrow.Author.Tests.{lt-ltb, le-ltb, le-leb, lt-leb, ne-eqb, eqb-true, eqb-false, not-true, not-false, leb-true, leb-false}
 use lib.Dec.{eqb, leb}
 use lib.ListN.{length, getD}
 use Rattle.char_string.specs.Scalars.{isScalar}
@@ -47,21 +47,23 @@ rising-not p s e k l h n r =
 
 -- ---- one node
 
-module _ (c k m z : ℕ) (zero′ : z ≡ 0) (mark : m ≤ 1) (legal : isScalar c ≡ true) where
-  -- without a mark, it needs a child
-  pub inner-way : m ≡ 0 → Decides (not (eqb k 0)) (Inner c k m z)
-  inner-way none = record {
-    yes′ = λ t. record { fit = record { legal = legal; mark = mark; stop = λ l. absurd (omega arith) }; leaf = some (eqb-false k 0 (not-true _ t)); zero′ = zero′ };
-    no′ = λ t h. omega (arith, h .leaf, eqb-true k 0 (not-false _ t));
-  }
-    where
-      some : (k ≡ 0 → ⊥) → 1 ≤ k + m
-      some ne = omega arith
+thai-legal : (c : ℕ) → 0xE00 ≤ c → c ≤ 0xE7F → isScalar c ≡ true
+thai-legal c l h = simp (lt-ltb c 0xD800 (omega arith))
 
-  -- with one, its scalar must not be trimmed
-  pub inner-end : (t : Bool) → (m ≡ 0 → ⊥) → t ≡ isTrimmed c → Decides (not t) (Inner c k m z)
-  inner-end t some e = record {
-    yes′ = λ y. record { fit = record { legal = legal; mark = mark; stop = λ l. sym e ∙ not-true _ y }; leaf = omega arith; zero′ = zero′ };
+thai-stays : (c : ℕ) → 0xE00 ≤ c → c ≤ 0xE7F → isTrimmed c ≡ false
+thai-stays c l h = simp (le-leb 0x9 c (omega arith), lt-leb c 0xD (omega arith), ne-eqb c 0x20 (λ e. omega arith))
+
+module _ (c k m z : ℕ) (zero′ : z ≡ 0) (mark : m ≤ 1) (leaf : 1 ≤ k + m) where
+  pub inner-thai : (0xE00 ≤ c) × (c ≤ 0xE7F) → Inner c k m z
+  inner-thai h = record { fit = record { legal = thai-legal c (h .0) (h .1); mark = mark; stop = λ l. thai-stays c (h .0) (h .1) }; leaf = leaf; zero′ = zero′ }
+
+  pub inner-inside : isScalar c ≡ true → m ≡ 0 → Inner c k m z
+  inner-inside legal none = record { fit = record { legal = legal; mark = mark; stop = λ l. absurd (omega arith) }; leaf = leaf; zero′ = zero′ }
+
+  -- where a word ends, the scalar must not be trimmed
+  pub inner-end : isScalar c ≡ true → (t : Bool) → (m ≡ 0 → ⊥) → t ≡ isTrimmed c → Decides (not t) (Inner c k m z)
+  inner-end legal t some e = record {
+    yes′ = λ y. record { fit = record { legal = legal; mark = mark; stop = λ l. sym e ∙ not-true _ y }; leaf = leaf; zero′ = zero′ };
     no′ = λ y h. clash (sym (h .fit .stop (omega arith)) ∙ sym e ∙ not-false _ y);
   }
 

@@ -14,6 +14,19 @@ ghost use Rattle.pool.specs.Sound.{Shaped, Rising, ends};
 ghost use Rattle.pool.specs.Rules.{wellFormed};
 ghost use Rattle.pool_read.specs.Checks.{Decides, Inner, Each, Nodes};
 
+// The Thai block, of which nearly all nodes are. None of it is trimmed.
+fn is_thai(x: u32) -> bool
+    ensures { λ r. ⌜ Decides r ((0xE00 ≤ x) × (x ≤ 0xE7F)) ⌝ }
+{
+    if x < 0xE00 {
+        return false;
+    }
+    if 0xE7F < x {
+        return false;
+    }
+    true
+}
+
 // Whether a node that is not the root may have this scalar, number of children, mark and fifth cell.
 fn inner_ok(c: u32, k: u32, m: u32, z: u32) -> bool
     ensures { λ r. ⌜ Decides r (Inner c k m z) ⌝ }
@@ -24,21 +37,27 @@ fn inner_ok(c: u32, k: u32, m: u32, z: u32) -> bool
     if 1 < m {
         return false;
     }
+    if wide(k) + wide(m) == 0 {
+        return false;
+    }
+    if is_thai(c) {
+        return true;
+    }
     if !is_scalar(c) {
         return false;
     }
     if m == 0 {
-        return k != 0;
+        return true;
     }
     !is_trimmed(c)
 }
 
 // Whether the scalars of the nodes from s to e rise.
 fn rising(p: &[u32], s: usize, e: usize) -> bool
-    requires { ⌜ 8 * e ≤ length (now p) ⌝ }
+    requires { ⌜ (s ≤ e) × (8 * e ≤ length (now p)) ⌝ }
     ensures { λ r. ⌜ Decides r (Rising (now (p .entry)) s e) ⌝ }
 {
-    if e <= s {
+    if e - s < 2 {
         return true;
     }
     let mut k = s + 1;

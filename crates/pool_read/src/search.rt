@@ -14,18 +14,27 @@ pub enum Kid {
     Is(usize),
 }
 
-// Where a child of b with scalar x stands, or would stand.
+// Where a child of b with scalar x stands, or would stand. The children rise, so each turn halves those that are left.
 pub fn seek(p: &[u32], b: usize, x: u32) -> usize
     requires { ⌜ Readable (now p) b ⌝ }
     ensures { λ r. ⌜ Sought (now (p .entry)) b x r ⌝ }
 {
     let mut k = wide(p[8 * b + 1]);
-    let e = k + wide(p[8 * b + 2]);
-    while k < e {
-        if x <= p[8 * k] {
-            return k;
+    let mut left = wide(p[8 * b + 2]);
+    if left == 0 {
+        return k;
+    }
+    while 1 < left {
+        let half = left / 2;
+        let middle = k + half;
+        left -= half;
+        if p[8 * middle] <= x {
+            k = middle;
+            continue;
         }
-        k += 1;
+    }
+    if p[8 * k] < x {
+        return k + 1;
     }
     k
 }

@@ -76,7 +76,7 @@ module _ {text pool flags : List ℕ} {e node : ℕ} (a : Asks text pool flags e
     found-node =
         let f = child-found pool node (getD text e 0) r (sym c ∙ ap toPlace q) in
         let n = a .node-is in
-        record { nodes = n .nodes; inside = omega (arith, within pool (n .nodes) (n .shaped) node (n .inside), f .high); shaped = n .shaped; fits = n .fits }
+        record { nodes = n .nodes; inside = omega (arith, within pool (n .nodes) (n .shaped) node (n .inside), f .high); shaped = n .shaped; fits = n .fits; rising = n .rising }
 
     unmarked-no : (m : ℕ) → m ≡ 0 → marked m ≡ false
     unmarked-no zero e = refl

@@ -14,6 +14,9 @@ Inv-loop p s e k₀ k = (s < k) × (k ≤ e) × Rising p s k
 abbrev μ-loop : tie.MeasureT-loop
 μ-loop p s e k₀ k = e - k
 
+sub-if1 : tie.Need-sub-if1 Inv-loop μ-loop
+sub-if1 c = search needs
+
 returns : tie.Need-returns Inv-loop μ-loop
 returns c = granted (rising-none _ _ _ (omega arith))
 
@@ -65,6 +68,7 @@ rising-spec =
     (tie.spec
     Inv-loop
     μ-loop
+    sub-if1
     returns
     add-k
     loop-holds

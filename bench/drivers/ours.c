@@ -1,0 +1,154 @@
+/* The proved library's side. See driver.h for the command line; WORDS is a pool that
+ *
+ *   ours load WORDS NODES POOL
+ *
+ * has made by adding the words one by one; it writes the nanoseconds that took and the pool's bytes. */
+#include "driver.h"
+#include "fetlockice.h"
+
+/* The search for words in a dictionary that is known to be one, without the check of the pool: bench/search. */
+size_t search_prefix_lengths(const uint32_t *pool, size_t pool_len, const uint32_t *text, size_t text_len, uint32_t *out,
+                             size_t out_len);
+
+enum op { DECODE, CLUSTERS, PREFIX, PLACES, PLAIN, SAFE, CHECK, READ, READ_WIDE };
+static const char *const names[] = {"decode", "clusters", "prefix", "places", "plain", "safe", "check", "read", "read-wide"};
+
+static enum op op;
+static uint32_t *pool, *out, *scratch, *cells, **scalars;
+static size_t pool_len, *lengths;
+static volatile uint32_t kept;
+
+static void accepted(uint32_t answer) {
+    if (answer) die("refused");
+}
+
+static size_t decode(size_t i, uint32_t *to) {
+    size_t count, detail;
+    accepted(fetlockice_decode(texts[i].bytes, texts[i].len, to, texts[i].len, &count, &detail));
+    return count;
+}
+
+/* From bytes to ends: decoding is included. */
+static size_t cut(size_t i) {
+    size_t n = decode(i, cells), count, edges, detail;
+    if (op == PLAIN)
+        accepted(fetlockice_cut_plain(cells, n, pool, pool_len, out, n, scratch, FETLOCKICE_SCRATCH_CELLS(n), &count, &edges,
+                                      &detail));
+    else
+        accepted(fetlockice_cut_safe(cells, n, pool, pool_len, out, n, scratch, FETLOCKICE_SCRATCH_CELLS(n), &count, &edges,
+                                     &detail));
+    return count;
+}
+
+/* An empty word is searched for in no time, so this is the check of the pool. */
+static size_t check(void) {
+    size_t count, detail;
+    accepted(fetlockice_contains(pool, pool_len, cells, 0, &count, &detail));
+    return count;
+}
+
+__attribute__((noinline, optimize("O2", "no-tree-vectorize"))) static uint32_t read_cells(void) {
+    uint32_t sum = 0;
+    for (size_t i = 0; i < pool_len; i++) sum += pool[i];
+    return sum;
+}
+
+__attribute__((noinline, optimize("O3"))) static uint32_t read_wide(void) {
+    uint32_t sum = 0;
+    for (size_t i = 0; i < pool_len; i++) sum += pool[i];
+    return sum;
+}
+
+/* The lengths at place b of text i, no more of the text than a word may have. */
+static size_t at_place(size_t i, size_t b) {
+    size_t left = lengths[i] - b;
+    return search_prefix_lengths(pool, pool_len, scalars[i] + b, left < 255 ? left : 255, out, 255);
+}
+
+static size_t answer(size_t i) {
+    size_t count = 0, detail;
+    switch (op) {
+    case DECODE: return decode(i, out);
+    case CLUSTERS: accepted(fetlockice_clusters(scalars[i], lengths[i], out, lengths[i], &count, &detail)); return count;
+    case PREFIX:
+        accepted(fetlockice_prefix_lengths(pool, pool_len, scalars[i], lengths[i], out, 255, &count, &detail));
+        return count;
+    case PLACES:
+        for (size_t b = 0; b < lengths[i]; b++) count += at_place(i, b);
+        return count;
+    case PLAIN:
+    case SAFE: return cut(i);
+    case CHECK: return check();
+    case READ: return read_cells();
+    case READ_WIDE: return read_wide();
+    }
+    return 0;
+}
+
+__attribute__((noinline)) void bench_pass(void) {
+    for (size_t i = 0; i < text_count; i++) kept += (uint32_t)answer(i);
+}
+
+static void show(size_t count) {
+    for (size_t k = 0; k < count; k++) printf("%u ", out[k]);
+}
+
+static void answers(void) {
+    for (size_t i = 0; i < text_count; i++) {
+        if (op == PLACES)
+            for (size_t b = 0; b < lengths[i]; b++) show(at_place(i, b)), putchar('\n');
+        else
+            show(answer(i)), putchar('\n');
+    }
+}
+
+static void load(const char *words, size_t nodes, const char *to) {
+    size_t count, detail;
+    texts = read_texts(words, &text_count);
+    pool_len = nodes * FETLOCKICE_NODE_CELLS;
+    pool = room(4 * pool_len);
+    cells = room(4 * 1024);
+    double start = now_ns();
+    accepted(fetlockice_fresh(pool, pool_len, &count, &detail));
+    for (size_t i = 0; i < text_count; i++) {
+        size_t n = decode(i, cells);
+        accepted(fetlockice_add(pool, pool_len, cells, n, &count, &detail));
+        if (count != 1) die("a word was held already");
+    }
+    printf("%.0f %zu\n", now_ns() - start, 4 * pool_len);
+    FILE *f = fopen(to, "wb");
+    if (!f || fwrite(pool, 4, pool_len, f) != pool_len || fclose(f)) die(to);
+}
+
+/* Reads the texts, decodes them, and makes room for the longest. */
+static void prepare(const char *path) {
+    size_t longest = 0;
+    texts = read_texts(path, &text_count);
+    for (size_t i = 0; i < text_count; i++)
+        if (longest < texts[i].len) longest = texts[i].len;
+    cells = room(4 * longest);
+    out = room(4 * (longest + 255));
+    scratch = room(4 * FETLOCKICE_SCRATCH_CELLS(longest));
+    scalars = room(text_count * sizeof *scalars);
+    lengths = room(text_count * sizeof *lengths);
+    for (size_t i = 0; i < text_count; i++) {
+        scalars[i] = room(4 * texts[i].len);
+        lengths[i] = decode(i, scalars[i]);
+    }
+}
+
+int main(int argc, char **argv) {
+    if (argc == 5 && !strcmp(argv[1], "load")) {
+        load(argv[2], strtoul(argv[3], NULL, 10), argv[4]);
+        return 0;
+    }
+    if (argc < 4) die("HOW OP TEXTS [POOL]");
+    for (op = DECODE; strcmp(names[op], argv[2]);)
+        if (++op > READ_WIDE) die(argv[2]);
+    prepare(argv[3]);
+    if (argc > 4) pool = (uint32_t *)read_file(argv[4], &pool_len), pool_len /= 4;
+    if (!strcmp(argv[1], "answers")) answers();
+    else if (!strcmp(argv[1], "time")) printf("%.1f\n", best_ns());
+    else bench_pass();
+    return 0;
+}

@@ -1,0 +1,176 @@
+"""Holds our answers against the Rust's, then measures all sides, and writes target/bench/results.json for report.py and plot.py.
+
+Every number is the best of five repetitions of at least 0.2 s, and then of the rounds, in which the sides take turns.
+"""
+import filecmp
+import json
+import os
+import re
+import resource
+import subprocess
+
+ROOT = os.path.dirname(os.path.dirname(os.path.abspath(__file__)))
+WORK = os.path.join(ROOT, "target", "bench")
+LIBTHAI_WORDS = os.path.join(ROOT, "target/differential/debian/usr/share/libthai/thbrk.tri")
+DRIVERS = {
+    "ours": os.path.join(WORK, "ours"),
+    "rust": os.path.join(WORK, "cargo/release/nlpo3-bench"),
+    "libthai": os.path.join(WORK, "libthai"),
+    "icu": os.path.join(WORK, "icu"),
+}
+ROUNDS = 3
+SIZES = (250, 1000, 4000, 16000, 65535)
+RUST_LIMIT = 20
+LOOPS = {"GLIBC_TUNABLES": "glibc.cpu.x86_rep_stosb_threshold=1000000000:glibc.cpu.x86_rep_movsb_threshold=1000000000"}
+RUST_BYTES = 6 << 30
+
+LINES, LONG = "lines.lines", "long.txt"
+# operation, texts, words: what ours and the Rust are both measured on
+ROWS = (
+    [("decode", texts, "small") for texts in (LINES, LONG)]
+    + [("clusters", texts, "small") for texts in (LINES, LONG)]
+    + [("places", LONG, words) for words in ("small", "all")]
+    + [("prefix", LINES, words) for words in ("small", "all")]
+    + [(op, texts, words) for op in ("plain", "safe") for words in ("small", "all") for texts in (LINES, LONG)]
+)
+OTHERS = [("libthai", "plain"), ("icu", "plain"), ("icu", "decode")]
+
+
+def inputs(name):
+    return os.path.join(WORK, "inputs", name)
+
+
+def words_for(side, words):
+    """The argument that tells a driver its words."""
+    if side == "ours":
+        return [os.path.join(WORK, words + ".pool")]
+    if side == "rust":
+        return [inputs(words + ".words.lines")]
+    return [LIBTHAI_WORDS] if side == "libthai" else []
+
+
+def command(side, how, op, texts, words):
+    return [DRIVERS[side], how, op, inputs(texts)] + words_for(side, words)
+
+
+def output(words, **more):
+    return subprocess.run(words, stdout=subprocess.PIPE, check=True, encoding="utf-8", **more).stdout
+
+
+def time_of(*what):
+    return float(output(command(what[0], "time", *what[1:])))
+
+
+def instructions_of(side, *what):
+    """The instructions of one pass, counted by callgrind, with loops where the C library would repeat one instruction."""
+    tool = ["valgrind", "--tool=callgrind", "--toggle-collect=bench_pass", "--callgrind-out-file=/dev/null"]
+    words = tool + command(side, "once", *what)
+    done = subprocess.run(words, stderr=subprocess.PIPE, check=True, encoding="utf-8", env={**os.environ, **LOOPS})
+    return int(re.search(r"Collected : (\d+)", done.stderr).group(1))
+
+
+def load_pools():
+    """Adds the words of each dictionary one by one; the time, the pool's bytes, and what the Rust takes."""
+    found = {}
+    for line in open(inputs("dictionaries"), encoding="utf-8"):
+        name, words, nodes = line.split()
+        path = os.path.join(WORK, name + ".pool")
+        ns, size = output([DRIVERS["ours"], "load", inputs(name + ".words.lines"), nodes, path]).split()
+        rust_ns, rust_size = output([DRIVERS["rust"], "memory", inputs(name + ".words.lines")]).split()
+        found[name] = {
+            "words": int(words),
+            "nodes": int(nodes),
+            "ours": [float(ns), int(size)],
+            "rust": [float(rust_ns), int(rust_size)],
+        }
+    for side in ("libthai", "icu"):
+        ns, size = output(command(side, "memory", "plain", LONG, "")).split()
+        found[side] = {side: [float(ns), int(size)]}
+    return found
+
+
+def limit_memory():
+    resource.setrlimit(resource.RLIMIT_AS, (RUST_BYTES, RUST_BYTES))
+
+
+def answers(side, *what, **more):
+    path = os.path.join(WORK, side + ".answers")
+    with open(path, "w", encoding="utf-8") as file:
+        subprocess.run(command(side, "answers", *what), stdout=file, check=True, **more)
+    return path
+
+
+def hold(what, **more):
+    """Stops where our answers and the Rust's differ. False where the Rust passes its limits."""
+    ours = answers("ours", *what)
+    try:
+        rust = answers("rust", *what, **more)
+    except (subprocess.TimeoutExpired, subprocess.CalledProcessError):
+        return False
+    if not filecmp.cmp(ours, rust, shallow=False):
+        raise SystemExit("the answers differ: %s %s %s" % what)
+    return True
+
+
+def rounds(wanted):
+    """The times of each (side, what) in every round."""
+    found = {key: [] for key in wanted}
+    for _ in range(ROUNDS):
+        for key in wanted:
+            found[key].append(time_of(key[0], *key[1]))
+    return found
+
+
+def measure_rows():
+    wanted = [(side, what) for what in ROWS for side in ("ours", "rust")]
+    wanted += [(side, (op, texts, "")) for side, op in OTHERS for texts in (LINES, LONG)]
+    wanted += [("ours", (op, LONG, words)) for words in ("small", "all") for op in ("check", "read", "read-wide")]
+    times = rounds(wanted)
+    rows = []
+    for side, what in wanted:
+        print("counting", side, *what, flush=True)
+        count = instructions_of(side, *what)
+        rows.append({"side": side, "what": what, "times": times[side, what], "instructions": count})
+    return rows
+
+
+def growth():
+    """The cost of plain cutting by length: ordinary text, and the three worst cases."""
+    found = []
+    for case in ("ordinary", "worst-1", "worst-2", "worst-3"):
+        words, rust = "all" if case == "ordinary" else case, True
+        for n in SIZES:
+            what = ("plain", "%s-%d.txt" % (case, n), words)
+            print("growth", *what, flush=True)
+            rust = rust and hold(what, timeout=RUST_LIMIT, preexec_fn=limit_memory)
+            ours = min(time_of("ours", *what) for _ in range(ROUNDS))
+            count = instructions_of("ours", *what)
+            found.append({"case": case, "n": n, "ours": ours, "instructions": count, "rust": time_of("rust", *what) if rust else None})
+    return found
+
+
+def sizes():
+    """The characters and bytes of the texts."""
+    found = {}
+    for name in (LINES, LONG):
+        data = open(inputs(name), "rb").read()
+        text = data.decode("utf-8")
+        feeds = text.count("\n") if name == LINES else 0
+        found[name] = {"characters": len(text) - feeds, "bytes": len(data) - feeds, "texts": feeds or 1}
+    return found
+
+
+def main():
+    print("adding the words one by one", flush=True)
+    loads = load_pools()
+    for what in ROWS:
+        print("comparing", *what, flush=True)
+        if not hold(what):
+            raise SystemExit("the Rust gives no answers: %s %s %s" % what)
+    results = {"sizes": sizes(), "loads": loads, "rows": measure_rows(), "growth": growth()}
+    with open(os.path.join(WORK, "results.json"), "w", encoding="utf-8") as file:
+        json.dump(results, file, indent=1)
+
+
+if __name__ == "__main__":
+    main()

@@ -1,0 +1,234 @@
+"""Writes bench/RESULTS.md from target/bench/results.json, and prints it."""
+import glob
+import json
+import os
+import re
+import subprocess
+
+ROOT = os.path.dirname(os.path.dirname(os.path.abspath(__file__)))
+WORK = os.path.join(ROOT, "target", "bench")
+LINES, LONG = "lines.lines", "long.txt"
+NAMES = {
+    "decode": "decoding",
+    "clusters": "clusters",
+    "places": "prefix lookup at each place, the search alone",
+    "prefix": "prefix lookup at each text's start, the public call",
+    "plain": "plain, from bytes to ends",
+    "safe": "safe, from bytes to ends",
+}
+WORST = {
+    "worst-1": "n times ก, {กก, กกก}",
+    "worst-2": "n times ก, {ก to 255 times ก}",
+    "worst-3": "(254 times ก, ข) repeated, {255 times ก}",
+}
+
+
+def first_line(*words):
+    return subprocess.run(words, stdout=subprocess.PIPE, check=True, encoding="utf-8").stdout.split("\n")[0]
+
+
+def machine():
+    """The processor, the compilers and the versions, without a host's name or a path."""
+    info = open("/proc/cpuinfo", encoding="utf-8").read()
+    processor = re.search(r"model name\s*: (.*)", info)
+    yield "Processor: %s, %d of them" % (processor.group(1) if processor else first_line("uname", "-m"), os.cpu_count())
+    yield "The proved library: %s, its compiler's -O3" % re.sub(r"\S*/\S*", "", first_line("rt", "version")).strip()
+    yield "The Rust: %s, release, without debug assertions" % first_line("rustc", "--version")
+    yield "The C drivers: %s, -O2" % first_line("gcc", "--version")
+    found = sorted(os.path.basename(path).split("_")[:2] for path in glob.glob(os.path.join(WORK, "packages", "*.deb")))
+    kept = ["%s %s" % (name, version) for name, version in found if name in ("libthai0",) or re.fullmatch(r"libicu\d+", name)]
+    yield "Beside them: %s" % ", ".join(kept)
+
+
+def table(head, rows):
+    yield "| %s |" % " | ".join(head)
+    yield "|%s|" % "|".join("---" if i == 0 else "--:" for i in range(len(head)))
+    for row in rows:
+        yield "| %s |" % " | ".join(row)
+
+
+def ns(x):
+    return "{:,.1f}".format(x) if x < 1000 else "{:,.0f}".format(x)
+
+
+def seconds(x):
+    return "%.2f s" % (x / 1e9) if x >= 1e8 else "%.2f ms" % (x / 1e6)
+
+
+class Results:
+    def __init__(self):
+        self.all = json.load(open(os.path.join(WORK, "results.json"), encoding="utf-8"))
+        self.rows = {(row["side"], *row["what"]): row for row in self.all["rows"]}
+        self.sizes, self.loads, self.growth = self.all["sizes"], self.all["loads"], self.all["growth"]
+
+    def time(self, *key):
+        return min(self.rows[key]["times"])
+
+    def count(self, *key):
+        return self.rows[key]["instructions"]
+
+    def faster(self, *what):
+        """How many times faster ours is than the Rust, by time and by instructions."""
+        by_time = self.time("rust", *what) / self.time("ours", *what)
+        return by_time, self.count("rust", *what) / self.count("ours", *what)
+
+    def words(self, name):
+        return "{:,}".format(self.loads[name]["words"]) if name in self.loads else "its own"
+
+    def cells(self, side, op, texts, words):
+        """Nanoseconds a character, megabytes a second, instructions a character."""
+        size, time = self.sizes[texts], self.time(side, op, texts, words)
+        per = self.count(side, op, texts, words) / size["characters"]
+        return [ns(time / size["characters"]), ns(1000 * size["bytes"] / time), ns(per)]
+
+    def spread(self):
+        """The median of how much slower the worst round is than the best one."""
+        found = sorted(max(row["times"]) / min(row["times"]) - 1 for row in self.all["rows"])
+        return found[len(found) // 2]
+
+
+def where(r, texts):
+    return "one long text" if texts == LONG else "%d lines" % r.sizes[texts]["texts"]
+
+
+def both(r):
+    head = ["operation, text, words", "ours ns", "MB/s", "instr.", "Rust ns", "MB/s", "instr.", "faster", "by instr."]
+    rows = []
+    for side, op, texts, words in r.rows:
+        if side == "ours" and ("rust", op, texts, words) in r.rows:
+            label = "%s; %s%s" % (NAMES[op], where(r, texts), "" if op in ("decode", "clusters") else "; %s words" % r.words(words))
+            ratios = ["%.2f" % x for x in r.faster(op, texts, words)]
+            rows.append([label] + r.cells("ours", op, texts, words) + r.cells("rust", op, texts, words) + ratios)
+    return table(head, rows)
+
+
+def others(r):
+    head = ["library, operation, text", "ns", "MB/s", "instr.", "ours with %s words is faster" % r.words("all"), "with 700"]
+    rows = []
+    for side, op, texts, words in r.rows:
+        if side in ("libthai", "icu"):
+            name = "%s, %s; %s" % ({"libthai": "libthai", "icu": "ICU"}[side], {"plain": "word breaks", "decode": "decoding to UTF-16"}[op], where(r, texts))
+            ratios = ["%.2f" % (r.time(side, op, texts, words) / r.time("ours", op, texts, ours)) if ("ours", op, texts, ours) in r.rows else "" for ours in ("all", "small")]
+            rows.append([name] + r.cells(side, op, texts, words) + ratios)
+    return table(head, rows)
+
+
+def pools(r):
+    head = ["words", "nodes", "check", "plain read, cell by cell", "check / read", "plain read, wide", "check / wide", "check, instr. a node"]
+    rows = []
+    for words in ("small", "all"):
+        load = r.loads[words]
+        check, read, wide = (r.time("ours", op, LONG, words) for op in ("check", "read", "read-wide"))
+        per = r.count("ours", "check", LONG, words) / load["nodes"]
+        rows.append([r.words(words), "{:,}".format(load["nodes"]), ns(check / 1000) + " µs", ns(read / 1000) + " µs", "%.2f" % (check / read), ns(wide / 1000) + " µs", "%.2f" % (check / wide), "%.1f" % per])
+    return table(head, rows)
+
+
+def memory(r):
+    head = ["side, words", "loading", "memory"]
+    rows = []
+    for words in ("small", "all"):
+        for side, name, kind in (("ours", "ours", "the pool"), ("rust", "the Rust", "resident")):
+            took, size = r.loads[words][side]
+            rows.append(["%s, %s" % (name, r.words(words)), seconds(took), "{:,} KB, {}".format(size // 1024, kind)])
+    for side, name in (("libthai", "libthai"), ("icu", "ICU")):
+        took, size = r.loads[side][side]
+        rows.append(["%s, its own" % name, seconds(took), "{:,} KB, resident".format(size // 1024)])
+    return table(head, rows)
+
+
+def cost(r, case, n, side="ours"):
+    row = next(row for row in r.growth if (row["case"], row["n"]) == (case, n))
+    return row[side] / n if row[side] else None
+
+
+def growth(r):
+    ordinary = cost(r, "ordinary", 65535)
+    head = ["text, words", "n", "ours ns", "instr.", "times ordinary text", "Rust ns", "Rust / ours"]
+    rows = []
+    for row in r.growth:
+        label = WORST.get(row["case"], "ordinary text, %s words" % r.words("all"))
+        ours, rust = row["ours"] / row["n"], row["rust"] and row["rust"] / row["n"]
+        last = [ns(rust), "%.2f" % (rust / ours)] if rust else ["over 20 s", ""]
+        rows.append([label, "{:,}".format(row["n"]), ns(ours), ns(row["instructions"] / row["n"]), "%.2f" % (ours / ordinary)] + last)
+    return table(head, rows)
+
+
+def targets(r):
+    """Each target: the ratio asked for and the one measured, by time and by instructions."""
+    def row(name, asked, what):
+        by_time, by_count = r.faster(*what)
+        return [name, "%g" % asked, "%.2f" % by_time, "%.2f" % by_count, "met" if by_time >= asked else "missed"]
+
+    yield row("clusters, one long text", 6, ("clusters", LONG, "small"))
+    yield row("clusters, lines", 6, ("clusters", LINES, "small"))
+    for words in ("all", "small"):
+        yield row("one long text, everything included, %s words" % r.words(words), 5, ("plain", LONG, words))
+    for words in ("all", "small"):
+        yield row("prefix lookup, %s words" % r.words(words), 2, ("places", LONG, words))
+    yield row("single lines, 700 words, plain", 1, ("plain", LINES, "small"))
+    yield row("single lines, 700 words, safe", 1, ("safe", LINES, "small"))
+    yield row("decoding, one long text", 1, ("decode", LONG, "small"))
+    yield row("decoding, lines", 1, ("decode", LINES, "small"))
+
+
+def without_check(r, case, n, kind):
+    """The time or the instructions of a character, the check of the pool left out of ordinary text."""
+    row = next(row for row in r.growth if (row["case"], row["n"]) == (case, n))
+    check = ("ours", "check", LONG, "all")
+    off = {"ours": r.time, "instructions": r.count}[kind](*check) if case == "ordinary" else 0
+    return (row[kind] - off) / n
+
+
+def limits(r):
+    """Each target that is an upper end."""
+    def row(name, asked, by_time, by_count, decides=0):
+        measured = (by_time, by_count)
+        return [name, "%g" % asked, "%.2f" % by_time, "%.2f" % by_count, "met" if measured[decides] <= asked else "missed"]
+
+    per = r.sizes[LONG]["characters"]
+    for words in ("all", "small"):
+        key = ("ours", "plain", LONG, words)
+        for case, name in WORST.items():
+            rows = [row for row in r.growth if row["case"] == case and row["n"] >= 4000]
+            by_time = max(row["ours"] / row["n"] for row in rows) / (r.time(*key) / per)
+            by_count = max(row["instructions"] / row["n"] for row in rows) / (r.count(*key) / per)
+            yield row("%s, against ordinary text with %s words" % (name, r.words(words)), 10, by_time, by_count)
+    for case, name in {"ordinary": "ordinary text, the pool's check left out", **WORST}.items():
+        ratios = [without_check(r, case, 65535, kind) / without_check(r, case, 4000, kind) for kind in ("ours", "instructions")]
+        yield row("growth, instructions of a character at 65,535 against 4,000: " + name, 1.05, *ratios, decides=1)
+    for words in ("all", "small"):
+        ratios = [of("ours", "check", LONG, words) / of("ours", "read", LONG, words) for of in (r.time, r.count)]
+        yield row("the check of the pool against a plain read of its cells, %s words" % r.words(words), 3, *ratios)
+
+
+def sections(r):
+    sizes = " and ".join("%s of %s characters" % (where(r, t), "{:,}".format(r.sizes[t]["characters"])) for t in (LINES, LONG))
+    yield "# Measurements", [
+        "Written by `bench/run`. bench/README.md says what is measured and how. Before anything is timed, our answers and the Rust's are compared, and are equal. libthai and ICU cut by other rules: only their speed is shown.",
+        "",
+        *("- " + part for part in machine()),
+        "- Texts: %s. The three rounds differ by %.0f%% (median of the rows: the slowest over the fastest)." % (sizes, 100 * r.spread()),
+        "",
+        "\"ns\" and \"instr.\" are nanoseconds and instructions a character. \"faster\" is the Rust's time over ours.",
+    ]
+    yield "## Targets", [*table(["target, times faster than the Rust", "asked", "by time", "by instructions", ""], targets(r)), "", *table(["target, at most", "asked", "by time", "by instructions", ""], limits(r))]
+    yield "## Ours and the Rust", both(r)
+    yield "## libthai and ICU", others(r)
+    yield "## The check of the pool", ["Refusal 4 costs one check in every call that is lent a pool.", "", *pools(r)]
+    yield "## Loading and memory", ["Ours adds the words one by one, each with all checks. The pool is as long as its nodes need.", "", *memory(r)]
+    yield "## Growth", ["![cost a character against the text's length](cost.svg)", "", *growth(r)]
+
+
+def main():
+    parts = []
+    for head, lines in sections(Results()):
+        parts += [head, "", *lines, ""]
+    made = "\n".join(parts[:-1]) + "\n"
+    with open(os.path.join(ROOT, "bench", "RESULTS.md"), "w", encoding="utf-8") as file:
+        file.write(made)
+    print(made, end="")
+
+
+if __name__ == "__main__":
+    main()
