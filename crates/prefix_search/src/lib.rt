@@ -1,4 +1,4 @@
-// The search for words in a pool that is known to be a dictionary, for measuring it without the check of the pool.
+// The search for words in a pool that is known to be a dictionary, without the check of the pool: for bench/run.
 use pool_read::prefix_lengths;
 ghost use Rattle.pool.specs.Words.{holds};
 ghost use Rattle.pool.specs.Meaning.{prefixLengths};
