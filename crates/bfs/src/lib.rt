@@ -1,5 +1,7 @@
 // The breadth-first search of plain cutting, in rows of one lent slice. An edge between the start and the goal is read once, and cells of
 // other places are not touched, so nothing has to be cleared between two searches.
+use pool::narrow;
+use pool::wide;
 ghost use mathlib.Core.Path.{_≡_};
 ghost use Prim.Native.Nat.{ℕ, _<_, _≤_, _+_, _*_};
 ghost use mathlib.Core.List.{List, _++_};
@@ -11,19 +13,6 @@ ghost use Rattle.bfs.specs.Ways.{Trace, Traced, TracedBy, FoundIs};
 pub enum Found {
     Last(usize),
     Nowhere,
-}
-
-fn wide(x: u32) -> usize
-    ensures { λ r. ⌜ r ≡ x ⌝ }
-{
-    x as usize
-}
-
-fn narrow(x: usize) -> u32
-    requires { ⌜ x ≤ 65536 ⌝ }
-    ensures { λ r. ⌜ r ≡ x ⌝ }
-{
-    x as u32
 }
 
 // Queues x from v, unless it was queued before; the number of vertices queued then.

@@ -4,8 +4,7 @@ use native.Mathlib.Omega.{arith}
 use native.Mathlib.Numerals.{add-one}
 use mathlib.Core.Path.{_≡_, refl, sym, _∙_, ap}
 use mathlib.Core.List.{List, _∷_, _++_}
-use lib.ListN.{length, getD, set, take, drop, length-set, replicate}
-use borrow.Author.Fill.{fill-none, fill-more}
+use lib.ListN.{length, getD, set, take, drop, length-set}
 use lib.Seq.{drop-cons, take-length}
 use Rattle.basics.proofs.Rows.{store}
 use Rattle.tcc_rules.specs.Clusters.{clusterEnd, clusterEnds}
@@ -73,23 +72,3 @@ pub written-all : {text old out : List ℕ} {p n : ℕ} → Written text old out
 written-all {text} {old} {out} {p} {n} w i =
     let t : n ≡ length (clusterEnds text) = counted-all (w .counted) i in
     w .front ∙ rw (t, take-length)
-
--- the first i cells are 0, the others as they were
-pub record Cleared (old row : List ℕ) (n i : ℕ) : Type 0 where
-  pub upto : i ≤ n
-  pub front : row ≡ replicate i 0 ++ drop i old
-  pub long : length row ≡ length old
-
-pub cleared-none : (row : List ℕ) (n : ℕ) → Cleared row row n 0
-cleared-none row n = record { upto = omega arith; front = fill-none row 0; long = refl }
-
-pub cleared-next : {old row : List ℕ} {n i : ℕ} → n ≤ length old → Cleared old row n i → i < n → Cleared old (set row i 0) n (i + 1)
-cleared-next {old} {row} {n} {i} h c k =
-    record {
-      upto = omega arith;
-      front = ap (λ (l : List ℕ). set l i 0) (c .front) ∙ fill-more i 0 old (omega arith);
-      long = length-set row i 0 ∙ c .long;
-    }
-
-pub cleared-all : {old row : List ℕ} {n i : ℕ} → Cleared old row n i → n ≤ i → row ≡ replicate n 0 ++ drop n old
-cleared-all {old} {row} {n} {i} c h = let e : i ≡ n = omega (arith, c .upto) in c .front ∙ ap (λ (j : ℕ). replicate {A = ℕ} j 0 ++ drop j old) e

@@ -2,6 +2,7 @@
 use char_string::check_text;
 use refusal::Answer;
 use refusal::Refusal;
+use rows::clear;
 use tcc_match::cluster_end;
 ghost use mathlib.Core.Path.{_≡_};
 ghost use mathlib.Core.List.{_++_};
@@ -57,17 +58,6 @@ pub fn tcc_pos(text: &[u32], out: &mut [u32]) -> Answer
         return Answer::Refused(Refusal::OutputTooShort(needed));
     }
     Answer::Accepted(put_ends(text, out))
-}
-
-fn clear(row: &mut [u32], n: usize)
-    requires { ⌜ n ≤ length (now row) ⌝ }
-    ensures { λ _. ⌜ now (row .exit) ≡ replicate n 0 ++ drop n (now (row .entry)) ⌝ }
-{
-    let mut i = 0;
-    while i < n {
-        row[i] = 0;
-        i += 1;
-    }
 }
 
 // The row's first cells, one for each position of the text, are 0.
