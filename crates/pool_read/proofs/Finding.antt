@@ -17,7 +17,8 @@ use Rattle.pool_read.specs.Search.{Sought, toPlace}
 use Rattle.pool_read.specs.declared.search.Kid.{Kid}
 use Rattle.pool_read.specs.declared.search.Kid.the-variants.{Nothing, Is}
 use Rattle.pool.proofs.Lists.{drop-next}
-use Rattle.pool.proofs.Shape.{within, child-found, scan-new}
+use Rattle.pool.proofs.Shape.{within, child-found, scan-new, first-is, count-is}
+use Rattle.pool_read.proofs.Halving.{no-child}
 
 pub scan-stop : (p : List ℕ) (j x n s : ℕ) → s ≤ j → ((k : ℕ) → s ≤ k → k < j → scalarAt p k < x) → (j < s + n → x < scalarAt p j) → scan p x s n ≡ none
 scan-stop p j x zero s le low high = refl
@@ -45,6 +46,48 @@ module _ (p : List ℕ) (b x r : ℕ) (h : Sought p b x r) where
   pub found : r < firstAt p b + countAt p b → scalarAt p r ≡ x → child p b x ≡ at r
   unfolding child
   found l e = scan-new p r x (countAt p b) (firstAt p b) (h .from) l (h .below) e
+
+-- the same from the two cells that tell a node's children
+module _ (p : List ℕ) (b x f n : ℕ) (g : Readable p b) (u : f ≡ getD p (8 * b + 1) 0) (v : n ≡ getD p (8 * b + 2) 0) where
+  first-here : f ≡ firstAt p b
+  first-here = omega (arith, first-is p b)
+
+  count-here : n ≡ countAt p b
+  count-here = omega (arith, count-is p b)
+
+  pub children-fit : 8 * (f + n) ≤ length p
+  children-fit = omega (arith, first-here, count-here, within p (g .nodes) (g .shaped) b (g .inside), g .fits)
+
+  pub ends-at : f + n ≡ firstAt p b + countAt p b
+  ends-at = omega (arith, first-here, count-here)
+
+  pub no-children : n ≡ 0 → child p b x ≡ none
+  no-children z = past p b x f (no-child p b x f n u v z) (omega (arith, first-here, count-here))
+
+  module _ (one : n ≡ 1) where
+    low : x ≤ scalarAt p f → Sought p b x f
+    low l = record { from = omega (arith, first-here); upto = omega (arith, first-here, count-here); below = λ i a c. absurd (omega (arith, first-here)); stop = λ a. l }
+
+    high : scalarAt p f < x → Sought p b x (f + 1)
+    high l =
+        record {
+          from = omega (arith, first-here);
+          upto = omega (arith, first-here, count-here);
+          below = λ i a c. let e : i ≡ f = omega (arith, first-here) in subst (λ (k : ℕ). scalarAt p k < x) (sym e) l;
+          stop = λ a. absurd (omega (arith, first-here, count-here));
+        }
+
+    pub only-child : getD p (8 * f) 0 ≡ x → child p b x ≡ at f
+    unfolding scalarAt
+    only-child e = found p b x f (low (omega arith)) (omega (arith, first-here, count-here)) e
+
+    pub only-other : (getD p (8 * f) 0 ≡ x → ⊥) → child p b x ≡ none
+    unfolding scalarAt
+    only-other ne = go (decLt (scalarAt p f) x)
+      where
+        go : Dec (scalarAt p f < x) → child p b x ≡ none
+        go (yes l) = past p b x (f + 1) (high l) (omega (arith, first-here, count-here))
+        go (no l) = other p b x f (low (omega arith)) (omega (arith, first-here, count-here)) ne
 
 -- ---- a walk, step by step
 

@@ -39,14 +39,24 @@ pub fn seek(p: &[u32], b: usize, x: u32) -> usize
     k
 }
 
-// The child of b with scalar x.
+// The child of b with scalar x. Most nodes have one child or none, and need no search.
 pub fn find_child(p: &[u32], b: usize, x: u32) -> Kid
     requires { ⌜ Readable (now p) b ⌝ }
     ensures { λ r. ⌜ toPlace r ≡ child (now (p .entry)) b x ⌝ }
 {
+    let first = wide(p[8 * b + 1]);
+    let count = wide(p[8 * b + 2]);
+    if count == 0 {
+        return Kid::Nothing;
+    }
+    if count == 1 {
+        if p[8 * first] != x {
+            return Kid::Nothing;
+        }
+        return Kid::Is(first);
+    }
     let r = seek(p, b, x);
-    let e = wide(p[8 * b + 1]) + wide(p[8 * b + 2]);
-    if e <= r {
+    if first + count <= r {
         return Kid::Nothing;
     }
     if p[8 * r] != x {

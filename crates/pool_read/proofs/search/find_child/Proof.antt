@@ -1,25 +1,11 @@
 -- Assumes nothing.
-use mathlib.Core.Path.{_≡_, sym}
-use mathlib.Core.List.{List}
-use Prim.Native.Nat.{ℕ, _+_, _-_, _*_, _≤_}
+use mathlib.Core.Path.{sym}
 use native.Mathlib.Omega.{arith}
-use lib.ListN.{length, getD}
-use Rattle.pool.specs.Cells.{firstAt, countAt, scalarAt}
-use Rattle.pool.specs.Sound.{Readable}
-use Rattle.pool.proofs.Shape.{within, first-is, count-is}
-use Rattle.pool_read.proofs.Finding.{past, other, found}
+use Rattle.pool.specs.Cells.{scalarAt}
+use Rattle.pool_read.proofs.Finding.{past, other, found, children-fit, ends-at, no-children, only-child, only-other}
 use borrow.Author.Needs.{needs}
 use Rattle.pool_read.proofs.search.find_child.Statement.{statement}
 use Rattle.pool_read.proofs.search.find_child.Tie as tie
-
-ends-within : (p : List ℕ) (b f n : ℕ) → Readable p b → f ≡ getD p (8 * b + 1) 0 → n ≡ getD p (8 * b + 2) 0 → (f + n ≡ firstAt p b + countAt p b) × (8 * (f + n) ≤ length p)
-ends-within p b f n h u v =
-    let a = first-is p b in
-    let c = count-is p b in
-    (omega arith, omega (arith, within p (h .nodes) (h .shaped) b (h .inside), h .fits))
-
-seek-requires : tie.Need-seek-requires
-seek-requires c κs = search needs
 
 mul-wide : tie.Need-mul-wide
 mul-wide c = search needs
@@ -51,34 +37,54 @@ shared-slice-read-wide-2 c = search needs
 wide-requires-2 : tie.Need-wide-requires-2
 wide-requires-2 c κs = search needs
 
-add-e : tie.Need-add-e
-add-e c = let v = ends-within (c .before .before .before .before .before .before .args .p .now) (c .before .before .before .before .before .before .args .b) (c .before .before .wide .result) (c .wide2 .result) (c .before .before .before .before .before .before .pre) (c .before .before .wide .ensures) (c .wide2 .ensures) in omega (arith, v .1)
-
 returns : tie.Need-returns
-returns c = let v = ends-within (c .before .before .before .before .before .before .before .args .p .now) (c .before .before .before .before .before .before .before .args .b) (c .before .before .before .wide .result) (c .before .wide2 .result) (c .before .before .before .before .before .before .before .pre) (c .before .before .before .wide .ensures) (c .before .wide2 .ensures) in sym (past _ _ _ _ (c .before .before .before .before .before .seek .ensures) (omega (arith, v .0, c .if1 .taken)))
+returns c = sym (no-children _ _ _ _ _ (c .before .before .before .before .before .before .pre) (c .before .before .before .wide .ensures) (c .before .wide2 .ensures) (c .if1 .taken))
 
-mul-if2 : tie.Need-mul-if2
-mul-if2 c = let v = ends-within (c .before .before .before .before .before .before .before .args .p .now) (c .before .before .before .before .before .before .before .args .b) (c .before .before .before .wide .result) (c .before .wide2 .result) (c .before .before .before .before .before .before .before .pre) (c .before .before .before .wide .ensures) (c .before .wide2 .ensures) in omega (arith, v .1, c .if1 .left)
+mul-if3 : tie.Need-mul-if3
+mul-if3 c = let h = children-fit _ _ 0 _ _ (c .before .before .before .before .before .before .before .pre) (c .before .before .before .before .wide .ensures) (c .before .before .wide2 .ensures) in omega (arith, h)
 
-mul-if2-2 : tie.Need-mul-if2-2
-mul-if2-2 c = let v = ends-within (c .before .before .before .before .before .before .before .args .p .now) (c .before .before .before .before .before .before .before .args .b) (c .before .before .before .wide .result) (c .before .wide2 .result) (c .before .before .before .before .before .before .before .pre) (c .before .before .before .wide .ensures) (c .before .wide2 .ensures) in omega (arith, v .1, c .if1 .left)
+mul-if3-2 : tie.Need-mul-if3-2
+mul-if3-2 c = let h = children-fit _ _ 0 _ _ (c .before .before .before .before .before .before .before .pre) (c .before .before .before .before .wide .ensures) (c .before .before .wide2 .ensures) in omega (arith, h)
 
-shared-slice-read-if2 : tie.Need-shared-slice-read-if2
-shared-slice-read-if2 c = let v = ends-within (c .before .before .before .before .before .before .before .before .args .p .now) (c .before .before .before .before .before .before .before .before .args .b) (c .before .before .before .before .wide .result) (c .before .before .wide2 .result) (c .before .before .before .before .before .before .before .before .pre) (c .before .before .before .before .wide .ensures) (c .before .before .wide2 .ensures) in omega (arith, v .1, c .before .if1 .left)
+shared-slice-read-if3 : tie.Need-shared-slice-read-if3
+shared-slice-read-if3 c = let h = children-fit _ _ 0 _ _ (c .before .before .before .before .before .before .before .before .pre) (c .before .before .before .before .before .wide .ensures) (c .before .before .before .wide2 .ensures) in omega (arith, h, c .before .if2 .taken)
 
 returns-2 : tie.Need-returns-2
-unfolding scalarAt
-returns-2 c = let v = ends-within (c .before .before .before .before .before .before .before .before .before .args .p .now) (c .before .before .before .before .before .before .before .before .before .args .b) (c .before .before .before .before .before .wide .result) (c .before .before .before .wide2 .result) (c .before .before .before .before .before .before .before .before .before .pre) (c .before .before .before .before .before .wide .ensures) (c .before .before .before .wide2 .ensures) in sym (other _ _ _ _ (c .before .before .before .before .before .before .before .seek .ensures) (omega (arith, v .0, c .before .before .if1 .left)) (c .if2 .taken))
+returns-2 c = sym (only-other _ _ _ _ _ (c .before .before .before .before .before .before .before .before .before .pre) (c .before .before .before .before .before .before .wide .ensures) (c .before .before .before .before .wide2 .ensures) (c .before .before .if2 .taken) (c .if3 .taken))
 
 returns-3 : tie.Need-returns-3
+returns-3 c = sym (only-child _ _ _ _ _ (c .before .before .before .before .before .before .before .before .before .pre) (c .before .before .before .before .before .before .wide .ensures) (c .before .before .before .before .wide2 .ensures) (c .before .before .if2 .taken) (c .if3 .left))
+
+seek-requires : tie.Need-seek-requires
+seek-requires c κs = search needs
+
+add-if4 : tie.Need-add-if4
+add-if4 c = let h = children-fit _ _ 0 _ _ (c .before .before .before .before .before .before .before .before .pre) (c .before .before .before .before .before .wide .ensures) (c .before .before .before .wide2 .ensures) in omega (arith, h)
+
+returns-4 : tie.Need-returns-4
+returns-4 c = sym (past _ _ _ _ (c .before .seek .ensures) (omega (arith, ends-at _ _ 0 _ _ (c .before .before .before .before .before .before .before .before .before .pre) (c .before .before .before .before .before .before .wide .ensures) (c .before .before .before .before .wide2 .ensures), c .if4 .taken)))
+
+mul-if5 : tie.Need-mul-if5
+mul-if5 c = let h = children-fit _ _ 0 _ _ (c .before .before .before .before .before .before .before .before .before .pre) (c .before .before .before .before .before .before .wide .ensures) (c .before .before .before .before .wide2 .ensures) in omega (arith, h, c .if4 .left)
+
+mul-if5-2 : tie.Need-mul-if5-2
+mul-if5-2 c = let h = children-fit _ _ 0 _ _ (c .before .before .before .before .before .before .before .before .before .pre) (c .before .before .before .before .before .before .wide .ensures) (c .before .before .before .before .wide2 .ensures) in omega (arith, h, c .if4 .left)
+
+shared-slice-read-if5 : tie.Need-shared-slice-read-if5
+shared-slice-read-if5 c = let h = children-fit _ _ 0 _ _ (c .before .before .before .before .before .before .before .before .before .before .pre) (c .before .before .before .before .before .before .before .wide .ensures) (c .before .before .before .before .before .wide2 .ensures) in omega (arith, h, c .before .if4 .left)
+
+returns-5 : tie.Need-returns-5
 unfolding scalarAt
-returns-3 c = let v = ends-within (c .before .before .before .before .before .before .before .before .before .args .p .now) (c .before .before .before .before .before .before .before .before .before .args .b) (c .before .before .before .before .before .wide .result) (c .before .before .before .wide2 .result) (c .before .before .before .before .before .before .before .before .before .pre) (c .before .before .before .before .before .wide .ensures) (c .before .before .before .wide2 .ensures) in sym (found _ _ _ _ (c .before .before .before .before .before .before .before .seek .ensures) (omega (arith, v .0, c .before .before .if1 .left)) (c .if2 .left))
+returns-5 c = sym (other _ _ _ _ (c .before .before .before .seek .ensures) (omega (arith, ends-at _ _ 0 _ _ (c .before .before .before .before .before .before .before .before .before .before .before .pre) (c .before .before .before .before .before .before .before .before .wide .ensures) (c .before .before .before .before .before .before .wide2 .ensures), c .before .before .if4 .left)) (c .if5 .taken))
+
+returns-6 : tie.Need-returns-6
+unfolding scalarAt
+returns-6 c = sym (found _ _ _ _ (c .before .before .before .seek .ensures) (omega (arith, ends-at _ _ 0 _ _ (c .before .before .before .before .before .before .before .before .before .before .before .pre) (c .before .before .before .before .before .before .before .before .wide .ensures) (c .before .before .before .before .before .before .wide2 .ensures), c .before .before .if4 .left)) (c .if5 .left))
 
 pub find-child-spec : {M : Type 1} → statement M
 find-child-spec =
     tie.close
     (tie.spec
-    seek-requires
     mul-wide
     add-wide
     mul-wide-2
@@ -89,10 +95,17 @@ find-child-spec =
     mul-wide-4
     shared-slice-read-wide-2
     wide-requires-2
-    add-e
     returns
-    mul-if2
-    mul-if2-2
-    shared-slice-read-if2
+    mul-if3
+    mul-if3-2
+    shared-slice-read-if3
     returns-2
-    returns-3)
+    returns-3
+    seek-requires
+    add-if4
+    returns-4
+    mul-if5
+    mul-if5-2
+    shared-slice-read-if5
+    returns-5
+    returns-6)
