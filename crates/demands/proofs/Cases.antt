@@ -15,4 +15,4 @@ use Rattle.demands.specs.Cases.{All, cases}
 
 pub cases-right : All cases
 unfolding leading holdsAt match clusterEnd endsFrom clusterEnds isEnd upFrom those firstOr any inserted groups number firstMatch nonThai wordEnds queued passed after searched pathTo stopsAt skipEnd tokenEnd recorded recordedAll graphOf settled turn turns cut plainCut cutOf
-cases-right = (refl, (refl, (refl, (refl, (refl, (refl, (refl, (refl, (refl, (refl, (refl, (refl, (refl, tt)))))))))))))
+cases-right = (refl, (refl, (refl, (refl, (refl, (refl, (refl, (refl, (refl, (refl, (refl, (refl, (refl, (refl, tt))))))))))))))
