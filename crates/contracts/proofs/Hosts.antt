@@ -25,7 +25,7 @@ use Rattle.host.proofs.fetlockice_cut_safe.Kinds as cut-safe-kinds
 use Rattle.host.proofs.fetlockice_cut_safe.Reads as cut-safe-contract
 use Rattle.pool.specs.Meaning.{noWord}
 use Rattle.trie_char.proofs.One.{one-after}
-use Rattle.host.specs.Calls.{freshAnswer, addAnswer, removeAnswer, added, removed}
+use Rattle.trie_char.specs.Answers.{freshAnswer, addAnswer, removeAnswer, added, removed}
 use Rattle.contracts.specs.OneAnswer.{OneAnswer, OneAnswerKept}
 use Rattle.contracts.proofs.Shapes.{answer, both}
 

@@ -6,11 +6,9 @@ use mathlib.Core.List.{List}
 use lib.ListN.{length, take}
 use Rattle.refusal.specs.declared.Answer.{Answer}
 use Rattle.refusal.specs.declared.Answer.the-variants.{Accepted}
-use Rattle.refusal.specs.Answers.{answer}
 use Rattle.char_string.specs.Blanks.{trimmedOf}
-use Rattle.pool.specs.Meaning.{Words, meaning, noWord, withWord, withoutWord, report}
-use Rattle.pool_lent.specs.Refusals.{held}
-use Rattle.trie_char.specs.Refusals.{freshRows, addRows, removeRows}
+use Rattle.pool.specs.Meaning.{Words, meaning, noWord, withWord, withoutWord}
+use Rattle.trie_char.specs.Answers.{freshAnswer, addAnswer, added, removeAnswer, removed}
 use Rattle.trie_char.specs.Changes.{After}
 use Rattle.safe_rules.specs.declared.Mode.{Mode}
 use Rattle.cut_answers.specs.declared.CutAnswer.{CutAnswer}
@@ -19,17 +17,13 @@ use Rattle.cut_answers.specs.Answers.{cutAnswer, outAfter}
 
 -- What the contracts of `fresh`, `add` and `remove` say of a call: its answer, and the pool before and after it.
 abbrev pub Freshened : Answer → List ℕ → List ℕ → Type 0
-Freshened r old new = (r ≡ answer (freshRows old) 0) × After r old new noWord
+Freshened r old new = (r ≡ freshAnswer old) × After r old new noWord
 
 abbrev pub Added : Answer → List ℕ → List ℕ → List ℕ → Type 0
-Added r word old new =
-    (r ≡ answer (addRows word old) (report (trimmedOf word) (held (meaning old)) (withWord (trimmedOf word) (held (meaning old)))))
-    × After r old new (withWord (trimmedOf word) (held (meaning old)))
+Added r word old new = (r ≡ addAnswer word old) × After r old new (added word old)
 
 abbrev pub Taken : Answer → List ℕ → List ℕ → List ℕ → Type 0
-Taken r word old new =
-    (r ≡ answer (removeRows word (meaning old)) (report (trimmedOf word) (held (meaning old)) (withoutWord (trimmedOf word) (held (meaning old)))))
-    × After r old new (withoutWord (trimmedOf word) (held (meaning old)))
+Taken r word old new = (r ≡ removeAnswer word old) × After r old new (removed word old)
 
 -- A pool of any size that is reached from a fresh one by accepted adds and removals, and the words that they leave. Refused calls change no pool.
 pub data Reached : List ℕ → Words → Type 0 where

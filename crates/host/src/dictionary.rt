@@ -11,7 +11,7 @@ ghost use Rattle.refusal.specs.Answers.{output};
 ghost use Rattle.pool.specs.Meaning.{noWord};
 ghost use Rattle.trie_char.specs.Changes.{After};
 ghost use Rattle.host.specs.Told.{numberTold, countTold, detailTold};
-ghost use Rattle.host.specs.Calls.{freshAnswer, added, removed, addAnswer, removeAnswer, containsAnswer, prefixes, prefixesAnswer, wordCountAnswer};
+ghost use Rattle.trie_char.specs.Answers.{freshAnswer, added, removed, addAnswer, removeAnswer, containsAnswer, prefixes, prefixesAnswer, wordCountAnswer};
 
 // Makes a dictionary without words, whatever the cells held before. Refusal 8.
 #[no_mangle]

@@ -7,8 +7,8 @@ ghost use lib.ListN.{length};
 ghost use Rattle.refusal.specs.Answers.{output};
 ghost use Rattle.utf8.specs.Decoding.{scalarsOf, decoded};
 ghost use Rattle.tcc_rules.specs.Clusters.{clusterEnds};
+ghost use Rattle.tcc.specs.Answers.{clustersAnswer};
 ghost use Rattle.host.specs.Told.{numberTold, countTold, detailTold};
-ghost use Rattle.host.specs.Calls.{clustersAnswer};
 
 // The scalars of UTF-8 bytes, at the front of out; accepted with their number. Refusals 1, 2, 6.
 #[no_mangle]

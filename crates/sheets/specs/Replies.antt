@@ -9,10 +9,9 @@ use Rattle.refusal.specs.declared.Answer.{Answer}
 use Rattle.refusal.specs.declared.Answer.the-variants as answers
 use Rattle.refusal.specs.Answers.{answer, output}
 use Rattle.utf8.specs.Decoding.{scalarsOf, decoded}
-use Rattle.char_string.specs.Blanks.{trimmedOf}
-use Rattle.pool.specs.Meaning.{meaning, withWord, withoutWord, report}
+use Rattle.pool.specs.Meaning.{meaning}
 use Rattle.pool_lent.specs.Refusals.{held}
-use Rattle.trie_char.specs.Refusals.{removeRows, addRows}
+use Rattle.trie_char.specs.Answers.{addAnswer, added, removeAnswer, removed}
 use Rattle.trie_char.specs.Changes.{After}
 use Rattle.safe_rules.specs.declared.Mode.{Mode}
 use Rattle.safe_rules.specs.declared.Mode.the-variants.{Plain, Safe}
@@ -37,18 +36,12 @@ abbrev pub next : Answer → Answer → Answer
 next (answers.Accepted n) a = a
 next (answers.Refused r) a = answers.Refused r
 
--- An addition: the answer of the dictionary's add for the decoded text.
-abbrev pub added : List ℕ → List ℕ → Answer
-added word pool = answer (addRows word pool) (report (trimmedOf word) (held (meaning pool)) (withWord (trimmedOf word) (held (meaning pool))))
-
-abbrev pub removed : List ℕ → List ℕ → Answer
-removed word pool = answer (removeRows word (meaning pool)) (report (trimmedOf word) (held (meaning pool)) (withoutWord (trimmedOf word) (held (meaning pool))))
-
+-- An addition and a removal: the answer of the dictionary's own call for the decoded text.
 abbrev pub addText : List ℕ → List ℕ → ℕ → Answer
-addText text pool room = next (decoded text room) (added (scalarsOf text) pool)
+addText text pool room = next (decoded text room) (addAnswer (scalarsOf text) pool)
 
 abbrev pub removeText : List ℕ → List ℕ → ℕ → Answer
-removeText text pool room = next (decoded text room) (removed (scalarsOf text) pool)
+removeText text pool room = next (decoded text room) (removeAnswer (scalarsOf text) pool)
 
 -- A cut: accepted with the number of ends.
 abbrev pub cutText : Mode → List ℕ → List ℕ → ℕ → ℕ → ℕ → Answer
@@ -84,8 +77,8 @@ replyOf line pool room cells places = replyTo (asked line) (textOf line) pool ro
 -- An addition and a removal change the pool as the dictionary's own calls do; nothing else changes it.
 unfoldable pub PoolAfter : Asked → List ℕ → List ℕ → List ℕ → ℕ → Type 0
 PoolAfter Nothing text old new room = new ≡ old
-PoolAfter Add text old new room = After (addText text old room) old new (withWord (trimmedOf (scalarsOf text)) (held (meaning old)))
-PoolAfter Remove text old new room = After (removeText text old room) old new (withoutWord (trimmedOf (scalarsOf text)) (held (meaning old)))
+PoolAfter Add text old new room = After (addText text old room) old new (added (scalarsOf text) old)
+PoolAfter Remove text old new room = After (removeText text old room) old new (removed (scalarsOf text) old)
 PoolAfter (Cut mode) text old new room = new ≡ old
 
 -- The scalars of a text that is decoded stand at the front of their row.

@@ -7,9 +7,9 @@ ghost use mathlib.Core.Path.{_≡_};
 ghost use lib.ListN.{length};
 ghost use Rattle.refusal.specs.Answers.{answer, output};
 ghost use Rattle.utf8.specs.Decoding.{scalarsOf, decoded};
-ghost use Rattle.char_string.specs.Blanks.{trimmedOf};
-ghost use Rattle.pool.specs.Meaning.{meaning, withWord, withoutWord};
+ghost use Rattle.pool.specs.Meaning.{meaning};
 ghost use Rattle.pool_lent.specs.Refusals.{held};
+ghost use Rattle.trie_char.specs.Answers.{added, removed};
 ghost use Rattle.trie_char.specs.Changes.{After};
 ghost use Rattle.cut_answers.specs.Answers.{cutOf, firstRows, cleared};
 ghost use Rattle.sheets.specs.Replies.{asked as askedOf, next, addText, removeText, cutText, reported as reportedOf, ended as endedOf, endedBy, textOf, replyOf, RowsAfter};
@@ -84,7 +84,7 @@ fn ended(answer: CutAnswer) -> Reply
 fn add(text: &[u8], pool: &mut [u32], scalars: &mut [u32]) -> Reply
     ensures { λ r. ⌜ r ≡ reportedOf (addText (now (text .entry)) (now (pool .entry)) (length (now (scalars .entry)))) ⌝ }
     ensures { λ _. ⌜ After (addText (now (text .entry)) (now (pool .entry)) (length (now (scalars .entry)))) (now (pool .entry)) (now (pool .exit))
-        (withWord (trimmedOf (scalarsOf (now (text .entry)))) (held (meaning (now (pool .entry))))) ⌝ }
+        (added (scalarsOf (now (text .entry))) (now (pool .entry))) ⌝ }
     ensures { λ _. ⌜ now (scalars .exit) ≡ output (decoded (now (text .entry)) (length (now (scalars .entry)))) (scalarsOf (now (text .entry))) (now (scalars .entry)) ⌝ }
 {
     let decoded = utf8::decode(text, scalars);
@@ -97,7 +97,7 @@ fn add(text: &[u8], pool: &mut [u32], scalars: &mut [u32]) -> Reply
 fn remove(text: &[u8], pool: &mut [u32], scalars: &mut [u32]) -> Reply
     ensures { λ r. ⌜ r ≡ reportedOf (removeText (now (text .entry)) (now (pool .entry)) (length (now (scalars .entry)))) ⌝ }
     ensures { λ _. ⌜ After (removeText (now (text .entry)) (now (pool .entry)) (length (now (scalars .entry)))) (now (pool .entry)) (now (pool .exit))
-        (withoutWord (trimmedOf (scalarsOf (now (text .entry)))) (held (meaning (now (pool .entry))))) ⌝ }
+        (removed (scalarsOf (now (text .entry))) (now (pool .entry))) ⌝ }
     ensures { λ _. ⌜ now (scalars .exit) ≡ output (decoded (now (text .entry)) (length (now (scalars .entry)))) (scalarsOf (now (text .entry))) (now (scalars .entry)) ⌝ }
 {
     let decoded = utf8::decode(text, scalars);

@@ -8,9 +8,9 @@ ghost use mathlib.Core.Path.{_≡_};
 ghost use mathlib.Core.List.{_++_};
 ghost use Prim.Native.Nat.{_≤_, _<_, _+_};
 ghost use lib.ListN.{length, drop, replicate};
-ghost use Rattle.refusal.specs.Answers.{answer, output};
+ghost use Rattle.refusal.specs.Answers.{output};
 ghost use Rattle.tcc_rules.specs.Clusters.{clusterEnds};
-ghost use Rattle.tcc.specs.Answers.{clusterRows};
+ghost use Rattle.tcc.specs.Answers.{clustersAnswer};
 ghost use Rattle.tcc.specs.Flags.{endFlags};
 
 fn count_ends(text: &[u32]) -> usize
@@ -43,7 +43,7 @@ fn put_ends(text: &[u32], out: &mut [u32]) -> usize
 // The ends of the text's clusters, in characters; accepted with their number. Where the output has a cell for each character, each cluster is
 // matched once, else they are counted first.
 pub fn tcc_pos(text: &[u32], out: &mut [u32]) -> Answer
-    ensures { λ r. ⌜ r ≡ answer (clusterRows (now (text .entry)) (length (now (out .entry)))) (length (clusterEnds (now (text .entry)))) ⌝ }
+    ensures { λ r. ⌜ r ≡ clustersAnswer (now (text .entry)) (length (now (out .entry))) ⌝ }
     ensures { λ r. ⌜ now (out .exit) ≡ output r (clusterEnds (now (text .entry))) (now (out .entry)) ⌝ }
 {
     let checked = check_text(text);

@@ -12,11 +12,8 @@ use refusal::Refusal;
 ghost use mathlib.Core.Path.{_≡_};
 ghost use Prim.Native.Nat.{_≤_};
 ghost use lib.ListN.{length};
-ghost use Rattle.refusal.specs.Answers.{answer};
-ghost use Rattle.char_string.specs.Blanks.{trimmedOf};
-ghost use Rattle.pool.specs.Meaning.{meaning, noWord, withWord, withoutWord, report};
-ghost use Rattle.pool_lent.specs.Refusals.{held};
-ghost use Rattle.trie_char.specs.Refusals.{removeRows, addRows, freshRows};
+ghost use Rattle.pool.specs.Meaning.{noWord};
+ghost use Rattle.trie_char.specs.Answers.{freshAnswer, addAnswer, added, removeAnswer, removed};
 ghost use Rattle.trie_char.specs.Changes.{After, RootAlone};
 
 // Sets the cells to a dictionary without words: the root alone.
@@ -35,7 +32,7 @@ fn reset(cells: &mut [u32])
 
 // Makes a dictionary without words, whatever the cells held before.
 pub fn fresh(pool: &mut [u32]) -> Answer
-    ensures { λ r. ⌜ r ≡ answer (freshRows (now (pool .entry))) 0 ⌝ }
+    ensures { λ r. ⌜ r ≡ freshAnswer (now (pool .entry)) ⌝ }
     ensures { λ r. ⌜ After r (now (pool .entry)) (now (pool .exit)) noWord ⌝ }
 {
     if pool.len() < 8 {
@@ -48,9 +45,8 @@ pub fn fresh(pool: &mut [u32]) -> Answer
 
 // Adds the trimmed word; 1 if the set changed, else 0.
 pub fn add(pool: &mut [u32], word: &[u32]) -> Answer
-    ensures { λ r. ⌜ r ≡ answer (addRows (now (word .entry)) (now (pool .entry)))
-        (report (trimmedOf (now (word .entry))) (held (meaning (now (pool .entry)))) (withWord (trimmedOf (now (word .entry))) (held (meaning (now (pool .entry)))))) ⌝ }
-    ensures { λ r. ⌜ After r (now (pool .entry)) (now (pool .exit)) (withWord (trimmedOf (now (word .entry))) (held (meaning (now (pool .entry))))) ⌝ }
+    ensures { λ r. ⌜ r ≡ addAnswer (now (word .entry)) (now (pool .entry)) ⌝ }
+    ensures { λ r. ⌜ After r (now (pool .entry)) (now (pool .exit)) (added (now (word .entry)) (now (pool .entry))) ⌝ }
 {
     let first = check_word(pool, word);
     match first {
@@ -80,9 +76,8 @@ pub fn add(pool: &mut [u32], word: &[u32]) -> Answer
 
 // Removes the trimmed word; 1 if the set changed, else 0.
 pub fn remove(pool: &mut [u32], word: &[u32]) -> Answer
-    ensures { λ r. ⌜ r ≡ answer (removeRows (now (word .entry)) (meaning (now (pool .entry))))
-        (report (trimmedOf (now (word .entry))) (held (meaning (now (pool .entry)))) (withoutWord (trimmedOf (now (word .entry))) (held (meaning (now (pool .entry)))))) ⌝ }
-    ensures { λ r. ⌜ After r (now (pool .entry)) (now (pool .exit)) (withoutWord (trimmedOf (now (word .entry))) (held (meaning (now (pool .entry))))) ⌝ }
+    ensures { λ r. ⌜ r ≡ removeAnswer (now (word .entry)) (now (pool .entry)) ⌝ }
+    ensures { λ r. ⌜ After r (now (pool .entry)) (now (pool .exit)) (removed (now (word .entry)) (now (pool .entry))) ⌝ }
 {
     let first = check_word(pool, word);
     match first {

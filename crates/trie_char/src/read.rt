@@ -8,17 +8,12 @@ use pool_read::prefix_count;
 use refusal::Answer;
 use refusal::Refusal;
 ghost use mathlib.Core.Path.{_≡_};
-ghost use mathlib.Core.Bool.{cond};
-ghost use lib.ListN.{length};
-ghost use Rattle.refusal.specs.Answers.{answer, output};
-ghost use Rattle.pool.specs.Rules.{cellsOf};
-ghost use Rattle.pool.specs.Meaning.{meaning, prefixLengths, amount};
-ghost use Rattle.pool_lent.specs.Refusals.{held, poolRows, readRows};
-ghost use Rattle.trie_char.specs.Refusals.{prefixRows};
+ghost use Rattle.refusal.specs.Answers.{output};
+ghost use Rattle.trie_char.specs.Answers.{containsAnswer, prefixes, prefixesAnswer, wordCountAnswer};
 
 // 1 if the word is held, else 0. The word is taken as it is.
 pub fn contain(pool: &[u32], word: &[u32]) -> Answer
-    ensures { λ r. ⌜ r ≡ answer (readRows (now (word .entry)) (meaning (now (pool .entry)))) (cond (held (meaning (now (pool .entry))) (now (word .entry))) 1 0) ⌝ }
+    ensures { λ r. ⌜ r ≡ containsAnswer (now (word .entry)) (now (pool .entry)) ⌝ }
 {
     let first = check(pool, word);
     match first {
@@ -35,9 +30,8 @@ pub fn contain(pool: &[u32], word: &[u32]) -> Answer
 
 // The lengths of the words that the text starts with, rising, at the front of out; accepted with their number.
 pub fn prefix_lengths(pool: &[u32], text: &[u32], out: &mut [u32]) -> Answer
-    ensures { λ r. ⌜ r ≡ answer (prefixRows (now (text .entry)) (meaning (now (pool .entry))) (now (out .entry)))
-        (length (prefixLengths (held (meaning (now (pool .entry)))) (now (text .entry)))) ⌝ }
-    ensures { λ r. ⌜ now (out .exit) ≡ output r (prefixLengths (held (meaning (now (pool .entry)))) (now (text .entry))) (now (out .entry)) ⌝ }
+    ensures { λ r. ⌜ r ≡ prefixesAnswer (now (text .entry)) (now (pool .entry)) (now (out .entry)) ⌝ }
+    ensures { λ r. ⌜ now (out .exit) ≡ output r (prefixes (now (text .entry)) (now (pool .entry))) (now (out .entry)) ⌝ }
 {
     let first = check(pool, text);
     match first {
@@ -56,7 +50,7 @@ pub fn prefix_lengths(pool: &[u32], text: &[u32], out: &mut [u32]) -> Answer
 
 // How many words the dictionary holds.
 pub fn amount_of_words(pool: &[u32]) -> Answer
-    ensures { λ r. ⌜ r ≡ answer (poolRows (meaning (now (pool .entry)))) (amount (cellsOf (now (pool .entry)))) ⌝ }
+    ensures { λ r. ⌜ r ≡ wordCountAnswer (now (pool .entry)) ⌝ }
 {
     if !is_dictionary(pool) {
         return Answer::Refused(Refusal::NotADictionary);

@@ -1,4 +1,4 @@
--- The answers that the libraries' contracts give, by the name of the host's call.
+-- What each operation on a dictionary answers: the first refusal that applies, or the number that it is accepted with.
 use Prim.Native.Nat.{ℕ}
 use mathlib.Core.Bool.{cond}
 use mathlib.Core.List.{List}
@@ -9,13 +9,7 @@ use Rattle.char_string.specs.Blanks.{trimmedOf}
 use Rattle.pool.specs.Rules.{cellsOf}
 use Rattle.pool.specs.Meaning.{Words, meaning, withWord, withoutWord, report, prefixLengths, amount}
 use Rattle.pool_lent.specs.Refusals.{held, poolRows, readRows}
-use Rattle.tcc_rules.specs.Clusters.{clusterEnds}
-use Rattle.tcc.specs.Answers.{clusterRows}
 use Rattle.trie_char.specs.Refusals.{prefixRows, removeRows, addRows, freshRows}
-
--- Clusters: 2, 3, 6; accepted with the number of ends.
-abbrev pub clustersAnswer : List ℕ → ℕ → Answer
-clustersAnswer text room = answer (clusterRows text room) (length (clusterEnds text))
 
 -- Fresh pool: 8.
 abbrev pub freshAnswer : List ℕ → Answer
