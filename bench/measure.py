@@ -143,9 +143,10 @@ def growth():
             what = ("plain", "%s-%d.txt" % (case, n), words)
             print("growth", *what, flush=True)
             rust = rust and hold(what, timeout=RUST_LIMIT, preexec_fn=limit_memory)
-            ours = min(time_of("ours", *what) for _ in range(ROUNDS))
-            count = instructions_of("ours", *what)
-            found.append({"case": case, "n": n, "ours": ours, "instructions": count, "rust": time_of("rust", *what) if rust else None})
+            row = {"case": case, "n": n, "instructions": instructions_of("ours", *what)}
+            row["ours"] = min(time_of("ours", *what) for _ in range(ROUNDS))
+            row["rust"] = min(time_of("rust", *what) for _ in range(ROUNDS)) if rust else None
+            found.append(row)
     return found
 
 
