@@ -1,4 +1,4 @@
-"""Writes bench/cost.svg from target/bench/results.json: the cost of a character against the text's length, both on a scale of powers."""
+"""Writes bench/cost.svg from target/bench/results.json: the cost of a character against the text's length."""
 import json
 import math
 import os
@@ -76,7 +76,8 @@ def main():
     costs = [row[side] / row["n"] for row in growth for side in ("ours", "rust") if row[side]]
     across = Axis([row["n"] for row in growth], LEFT, PLOT_WIDTH)
     up = Axis(costs, TOP + PLOT_HEIGHT, -PLOT_HEIGHT)
-    head = '<svg xmlns="http://www.w3.org/2000/svg" width="%d" height="%d" font-family="sans-serif" font-size="12">' % (WIDTH, HEIGHT)
+    font = 'font-family="sans-serif" font-size="12"'
+    head = '<svg xmlns="http://www.w3.org/2000/svg" width="%d" height="%d" %s>' % (WIDTH, HEIGHT, font)
     back = '<rect width="%d" height="%d" fill="white"/>' % (WIDTH, HEIGHT)
     parts = [head, back, *grid(across, up), *curves(growth, words, across, up), "</svg>", ""]
     with open(os.path.join(ROOT, "bench", "cost.svg"), "w", encoding="utf-8") as file:
