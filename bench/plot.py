@@ -5,9 +5,10 @@ import os
 
 ROOT = os.path.dirname(os.path.dirname(os.path.abspath(__file__)))
 WIDTH, HEIGHT, LEFT, TOP, PLOT_WIDTH, PLOT_HEIGHT = 960, 470, 70, 50, 560, 360
-COLOURS = {"ordinary": "#333333", "worst-1": "#c0392b", "worst-2": "#2471a3", "worst-3": "#1e8449"}
+COLOURS = {"all": "#333333", "small": "#b9770e", "worst-1": "#c0392b", "worst-2": "#2471a3", "worst-3": "#1e8449"}
 NAMES = {
-    "ordinary": "ordinary text, %s words",
+    "all": "ordinary text, %s words",
+    "small": "ordinary text, 700 words",
     "worst-1": "n times ก, {กก, กกก}",
     "worst-2": "n times ก, {ก to 255 times ก}",
     "worst-3": "(254 times ก, ข) repeated, {255 times ก}",
@@ -61,7 +62,7 @@ def curves(growth, words, across, up):
         points = {"ours": [], "rust": []}
         for row in growth:
             for side in points:
-                if row["case"] == case and row[side]:
+                if row["words"] == case and row[side]:
                     points[side].append((across.at(row["n"]), up.at(row[side] / row["n"])))
         yield line(points["ours"], COLOURS[case])
         yield line(points["rust"], COLOURS[case], ' stroke-dasharray="6 4"')
