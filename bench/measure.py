@@ -34,6 +34,8 @@ ROWS = (
     + [(op, texts, words) for op in ("plain", "safe") for words in ("small", "all") for texts in (LINES, LONG)]
 )
 OTHERS = [("libthai", "plain"), ("icu", "plain"), ("icu", "decode")]
+# texts and words of the growth of plain cutting
+CASES = [("ordinary", "all"), ("ordinary", "small")] + [(case, case) for case in ("worst-1", "worst-2", "worst-3")]
 
 
 def inputs(name):
@@ -137,15 +139,16 @@ def measure_rows():
 def growth():
     """The cost of plain cutting by length: ordinary text, and the three worst cases."""
     found = []
-    for case in ("ordinary", "worst-1", "worst-2", "worst-3"):
-        words, rust = "all" if case == "ordinary" else case, True
+    for case, words in CASES:
+        rust = True
         for n in SIZES:
             what = ("plain", "%s-%d.txt" % (case, n), words)
             print("growth", *what, flush=True)
             rust = rust and hold(what, timeout=RUST_LIMIT, preexec_fn=limit_memory)
-            ours = min(time_of("ours", *what) for _ in range(ROUNDS))
-            count = instructions_of("ours", *what)
-            found.append({"case": case, "n": n, "ours": ours, "instructions": count, "rust": time_of("rust", *what) if rust else None})
+            row = {"case": case, "words": words, "n": n, "instructions": instructions_of("ours", *what)}
+            row["ours"] = min(time_of("ours", *what) for _ in range(ROUNDS))
+            row["rust"] = min(time_of("rust", *what) for _ in range(ROUNDS)) if rust else None
+            found.append(row)
     return found
 
 

@@ -1,13 +1,14 @@
-"""Writes bench/cost.svg from target/bench/results.json: the cost of a character against the text's length, both on a scale of powers."""
+"""Writes bench/cost.svg from target/bench/results.json: the cost of a character against the text's length."""
 import json
 import math
 import os
 
 ROOT = os.path.dirname(os.path.dirname(os.path.abspath(__file__)))
 WIDTH, HEIGHT, LEFT, TOP, PLOT_WIDTH, PLOT_HEIGHT = 960, 470, 70, 50, 560, 360
-COLOURS = {"ordinary": "#333333", "worst-1": "#c0392b", "worst-2": "#2471a3", "worst-3": "#1e8449"}
+COLOURS = {"all": "#333333", "small": "#b9770e", "worst-1": "#c0392b", "worst-2": "#2471a3", "worst-3": "#1e8449"}
 NAMES = {
-    "ordinary": "ordinary text, %s words",
+    "all": "ordinary text, %s words",
+    "small": "ordinary text, 700 words",
     "worst-1": "n times ก, {กก, กกก}",
     "worst-2": "n times ก, {ก to 255 times ก}",
     "worst-3": "(254 times ก, ข) repeated, {255 times ก}",
@@ -61,7 +62,7 @@ def curves(growth, words, across, up):
         points = {"ours": [], "rust": []}
         for row in growth:
             for side in points:
-                if row["case"] == case and row[side]:
+                if row["words"] == case and row[side]:
                     points[side].append((across.at(row["n"]), up.at(row[side] / row["n"])))
         yield line(points["ours"], COLOURS[case])
         yield line(points["rust"], COLOURS[case], ' stroke-dasharray="6 4"')
@@ -76,7 +77,8 @@ def main():
     costs = [row[side] / row["n"] for row in growth for side in ("ours", "rust") if row[side]]
     across = Axis([row["n"] for row in growth], LEFT, PLOT_WIDTH)
     up = Axis(costs, TOP + PLOT_HEIGHT, -PLOT_HEIGHT)
-    head = '<svg xmlns="http://www.w3.org/2000/svg" width="%d" height="%d" font-family="sans-serif" font-size="12">' % (WIDTH, HEIGHT)
+    font = 'font-family="sans-serif" font-size="12"'
+    head = '<svg xmlns="http://www.w3.org/2000/svg" width="%d" height="%d" %s>' % (WIDTH, HEIGHT, font)
     back = '<rect width="%d" height="%d" fill="white"/>' % (WIDTH, HEIGHT)
     parts = [head, back, *grid(across, up), *curves(growth, words, across, up), "</svg>", ""]
     with open(os.path.join(ROOT, "bench", "cost.svg"), "w", encoding="utf-8") as file:
