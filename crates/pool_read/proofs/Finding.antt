@@ -18,7 +18,7 @@ use Rattle.pool_read.specs.declared.search.Kid.{Kid}
 use Rattle.pool_read.specs.declared.search.Kid.the-variants.{Nothing, Is}
 use Rattle.pool.proofs.Lists.{drop-next}
 use Rattle.pool.proofs.Shape.{within, child-found, scan-new, first-is, count-is}
-use Rattle.pool_read.proofs.Halving.{no-child}
+use Rattle.pool_read.proofs.Nearing.{no-child}
 
 pub scan-stop : (p : List ℕ) (j x n s : ℕ) → s ≤ j → ((k : ℕ) → s ≤ k → k < j → scalarAt p k < x) → (j < s + n → x < scalarAt p j) → scan p x s n ≡ none
 scan-stop p j x zero s le low high = refl
@@ -55,14 +55,8 @@ module _ (p : List ℕ) (b x f n : ℕ) (g : Readable p b) (u : f ≡ getD p (8 
   count-here : n ≡ countAt p b
   count-here = omega (arith, count-is p b)
 
-  pub children-fit : 8 * (f + n) ≤ length p
-  children-fit = omega (arith, first-here, count-here, within p (g .nodes) (g .shaped) b (g .inside), g .fits)
-
-  pub ends-at : f + n ≡ firstAt p b + countAt p b
-  ends-at = omega (arith, first-here, count-here)
-
   pub no-children : n ≡ 0 → child p b x ≡ none
-  no-children z = past p b x f (no-child p b x f n u v z) (omega (arith, first-here, count-here))
+  no-children z = past p b x f (no-child p b x f n g u v z) (omega (arith, first-here, count-here))
 
   module _ (one : n ≡ 1) where
     low : x ≤ scalarAt p f → Sought p b x f

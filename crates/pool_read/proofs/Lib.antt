@@ -1,5 +1,5 @@
 pub mod Decide
-pub mod Halving
+pub mod Nearing
 pub mod Finding
 pub mod Whole
 pub mod Prefixes

@@ -1,6 +1,7 @@
 // The search for words.
 use pool::wide;
 ghost use mathlib.Core.Path.{_≡_};
+ghost use Prim.Native.Nat.{min};
 ghost use lib.ListN.{length};
 ghost use Rattle.pool.specs.Cells.{markAt};
 ghost use Rattle.pool.specs.Words.{child, marked, holds, lacking};
@@ -14,24 +15,38 @@ pub enum Kid {
     Is(usize),
 }
 
-// Where a child of b with scalar x stands, or would stand. The children rise, so each turn halves those that are left.
+fn least(a: usize, b: usize) -> usize
+    ensures { λ r. ⌜ r ≡ min a b ⌝ }
+{
+    if a < b {
+        return a;
+    }
+    b
+}
+
+// Where a child of b with scalar x stands, or would stand. The children rise by one at least, so it stands no further from the first than x from the
+// first one's scalar: the search goes down from there.
 pub fn seek(p: &[u32], b: usize, x: u32) -> usize
     requires { ⌜ Readable (now p) b ⌝ }
     ensures { λ r. ⌜ Sought (now (p .entry)) b x r ⌝ }
 {
-    let mut k = wide(p[8 * b + 1]);
-    let mut left = wide(p[8 * b + 2]);
-    if left == 0 {
-        return k;
+    let first = wide(p[8 * b + 1]);
+    let count = wide(p[8 * b + 2]);
+    if count == 0 {
+        return first;
     }
-    while 1 < left {
-        let half = left / 2;
-        let middle = k + half;
-        left -= half;
-        if p[8 * middle] <= x {
-            k = middle;
-            continue;
-        }
+    let lowest = p[8 * first];
+    if x <= lowest {
+        return first;
+    }
+    let last = first + count - 1;
+    if p[8 * last] < x {
+        return last + 1;
+    }
+    let far = wide(x - lowest);
+    let mut k = first + least(far, count - 1);
+    while x < p[8 * k] {
+        k -= 1;
     }
     if p[8 * k] < x {
         return k + 1;

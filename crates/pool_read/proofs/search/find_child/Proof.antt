@@ -2,7 +2,8 @@
 use mathlib.Core.Path.{sym}
 use native.Mathlib.Omega.{arith}
 use Rattle.pool.specs.Cells.{scalarAt}
-use Rattle.pool_read.proofs.Finding.{past, other, found, children-fit, ends-at, no-children, only-child, only-other}
+use Rattle.pool_read.proofs.Finding.{past, other, found, no-children, only-child, only-other}
+use Rattle.pool_read.proofs.Nearing.{children-fit, ends-at}
 use borrow.Author.Needs.{needs}
 use Rattle.pool_read.proofs.search.find_child.Statement.{statement}
 use Rattle.pool_read.proofs.search.find_child.Tie as tie
