@@ -6,3 +6,4 @@ pub mod Dictionary
 pub mod Cut
 pub mod Demand3
 pub mod Hosts
+pub mod Views
