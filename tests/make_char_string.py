@@ -1,4 +1,4 @@
-"""Writes crates/char_string_tests/stdin and stdout.
+"""Writes crates/test_char_string/stdin and stdout.
 
     python3 tests/make_char_string.py VECTORS
 
@@ -264,7 +264,7 @@ def main():
     made = list(given(sys.argv[1]))
     for group in unicode_examples, first_bytes, later_bytes, edges, long_texts, short_rows, scalar_cells, texts, words, views, sub_views:
         made.extend(group())
-    vectors.write("char_string_tests", made)
+    vectors.write("test_char_string", made)
 
 
 main()

@@ -1,4 +1,4 @@
-"""Writes crates/cut_tests/stdin and stdout.
+"""Writes crates/test_cut/stdin and stdout.
 
     python3 tests/make_cut.py VECTORS
 
@@ -80,7 +80,7 @@ def main():
     accepted = [line for line in found if line[1].startswith("ok") and len(line[0][2] + line[0][3]) < SHORT]
     for fields, expected in accepted[::6]:
         lines += lent_rows(fields, expected)
-    vectors.write("cut_tests", lines + list(bad_calls()) + list(pool_calls()))
+    vectors.write("test_cut", lines + list(bad_calls()) + list(pool_calls()))
 
 
 main()

@@ -1,4 +1,4 @@
-"""Writes crates/sheet_lines/stdin and stdout, and crates/sheet_lines_tests/stdin and stdout.
+"""Writes crates/sheet_lines/stdin and stdout, and crates/test_sheet_lines/stdin and stdout.
 
     python3 tests/make_sheet_lines.py VECTORS
 
@@ -115,7 +115,7 @@ def tests(found):
     for i, (run, answers) in enumerate(found):
         for most in (PARTS[i % len(PARTS)], "*"):
             made.append((["program", vectors.hex_bytes(run), str(most)], "ok " + (answers.hex() or "-")))
-    vectors.write("sheet_lines_tests", made)
+    vectors.write("test_sheet_lines", made)
 
 
 def main():

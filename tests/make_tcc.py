@@ -1,4 +1,4 @@
-"""Writes crates/tcc_tests/stdin and stdout.
+"""Writes crates/test_tcc/stdin and stdout.
 
     python3 tests/make_tcc.py VECTORS TCC_RULES
 
@@ -177,4 +177,4 @@ def lines(path, written):
 
 
 if __name__ == "__main__":
-    vectors.write("tcc_tests", lines(sys.argv[1], read(sys.argv[2])))
+    vectors.write("test_tcc", lines(sys.argv[1], read(sys.argv[2])))

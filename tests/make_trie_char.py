@@ -1,4 +1,4 @@
-"""Writes crates/trie_char_tests/stdin and stdout.
+"""Writes crates/test_trie_char/stdin and stdout.
 
     python3 tests/make_trie_char.py VECTORS
 
@@ -219,7 +219,7 @@ def main():
              for out, answer in (("*", "ok 2,3"), ("0", "! 6 2"), ("1", "! 6 2"), ("2", "ok 2,3"), ("3", "ok 2,3"))]
     lines += itertools.chain(scripts(), pools(), given(sys.argv[1]))
     for name, side in (("stdin", 0), ("stdout", 1)):
-        with open("crates/trie_char_tests/" + name, "w") as out:
+        with open("crates/test_trie_char/" + name, "w") as out:
             out.writelines(line[side] + "\n" for line in lines)
 
 

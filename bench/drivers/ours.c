@@ -6,7 +6,7 @@
 #include "driver.h"
 #include "fetlockice.h"
 
-/* The search for words in a dictionary that is known to be one, without the check of the pool: crates/prefix_search. */
+/* The search for words in a dictionary that is known to be one, without the check of the pool: crates/bench_prefix_search. */
 size_t search_prefix_lengths(const uint32_t *pool, size_t pool_len, const uint32_t *text, size_t text_len, uint32_t *out,
                              size_t out_len);
 

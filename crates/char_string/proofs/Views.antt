@@ -3,7 +3,7 @@ use Prim.Native.Nat.{ℕ, _-_}
 use mathlib.Core.Path.{_≡_, sym, _∙_, ap}
 use mathlib.Core.List.{List}
 use lib.ListN.{length}
-use Rattle.basics.proofs.Parts.{part-of-part}
+use Rattle.lists.proofs.Parts.{part-of-part}
 use Rattle.char_string.specs.declared.parts.Span.{Span}
 use Rattle.char_string.specs.Parts.{fitted, between, partOf, subView}
 use Rattle.char_string.proofs.Pairs.{Within, within-fitted, length-between}

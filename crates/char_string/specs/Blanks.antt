@@ -4,7 +4,7 @@ use mathlib.Core.Bool.{Bool, not, _||_}
 use mathlib.Core.List.{List}
 use lib.ListN.{take, drop}
 use lib.Dec.{eqb}
-use Rattle.basics.specs.Scans.{within, leading, behindLast}
+use Rattle.lists.specs.Scans.{within, leading, behindLast}
 use Rattle.char_string.specs.declared.parts.Span.{Span}
 use Rattle.char_string.specs.declared.blanks.Found.{Found}
 use Rattle.char_string.specs.declared.blanks.Found.the-variants.{At, Nothing}

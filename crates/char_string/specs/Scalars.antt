@@ -4,7 +4,7 @@ use mathlib.Core.Bool.{Bool, _||_}
 use mathlib.Core.List.{List, [], _∷_}
 use lib.ListN.{length}
 use lib.Dec.{ltb}
-use Rattle.basics.specs.Scans.{within, leading}
+use Rattle.lists.specs.Scans.{within, leading}
 use Rattle.refusal.specs.declared.Answer.{Answer}
 use Rattle.refusal.specs.declared.Refusal.the-variants.{TooManyScalars, NotAScalar}
 use Rattle.refusal.specs.Answers.{Row, answer}

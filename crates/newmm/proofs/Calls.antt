@@ -16,23 +16,23 @@ use Rattle.refusal.specs.declared.Answer.{Answer}
 use Rattle.refusal.specs.declared.Answer.the-variants.{Accepted, Refused}
 use Rattle.refusal.specs.Answers.{Row, answer, output}
 use Rattle.refusal.proofs.Order.{refused-first, accepted-first}
-use Rattle.pool.specs.Words.{holds}
-use Rattle.pool.specs.Rules.{isDictionary}
-use Rattle.pool.specs.Meaning.{Words, meaning}
-use Rattle.pool_lent.specs.Refusals.{held, readRows}
-use Rattle.pool_lent.proofs.Rows.{None, none-of, again, still, row-yes, row-kept, read-of}
-use Rattle.pool_lent.proofs.Parts.{known-is, readable, held-part}
-use Rattle.cut_rules.specs.Cutting.{Cut}
-use Rattle.one_cut.specs.declared.Ends.{Ends}
-use Rattle.safe_rules.specs.declared.Mode.{Mode}
-use Rattle.safe_rules.proofs.Climbing.{few}
-use Rattle.safe_rules.proofs.Modes.{modes-climb}
-use Rattle.cut_answers.proofs.Plain.{plain-right}
-use Rattle.cut_answers.specs.declared.CutAnswer.{CutAnswer}
-use Rattle.cut_answers.specs.declared.CutAnswer.the-variants as variants
-use Rattle.cut_answers.specs.Answers.{plainCut, cutOf, scratchRows, outRows, firstRows, accepts, told, cutAnswer, outAfter, cleared, scratchAfter}
-use Rattle.segment.specs.Rows.{Ready, Written}
-use Rattle.segment.proofs.Samples.{front, behind, fits}
+use Rattle.trie_pool.specs.Words.{holds}
+use Rattle.trie_pool.specs.Rules.{isDictionary}
+use Rattle.trie_pool.specs.Meaning.{Words, meaning}
+use Rattle.trie_check.specs.Refusals.{held, readRows}
+use Rattle.trie_check.proofs.Rows.{None, none-of, again, still, row-yes, row-kept, read-of}
+use Rattle.trie_check.proofs.Parts.{known-is, readable, held-part}
+use Rattle.newmm_rules.specs.Cutting.{Cut}
+use Rattle.newmm_one_cut.specs.declared.Ends.{Ends}
+use Rattle.newmm_rules.specs.declared.Mode.{Mode}
+use Rattle.newmm_rules.proofs.Climbing.{few}
+use Rattle.newmm_rules.proofs.Modes.{modes-climb}
+use Rattle.newmm_answers.proofs.Plain.{plain-right}
+use Rattle.newmm_answers.specs.declared.CutAnswer.{CutAnswer}
+use Rattle.newmm_answers.specs.declared.CutAnswer.the-variants as variants
+use Rattle.newmm_answers.specs.Answers.{plainCut, cutOf, scratchRows, outRows, firstRows, accepts, told, cutAnswer, outAfter, cleared, scratchAfter}
+use Rattle.newmm_segment.specs.Rows.{Ready, Written}
+use Rattle.newmm_segment.proofs.Samples.{front, behind, fits}
 use Rattle.newmm.specs.Calls.{Passes}
 
 -- ---- refusals 2 to 5

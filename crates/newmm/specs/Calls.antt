@@ -4,8 +4,8 @@ use mathlib.Core.Path.{_≡_}
 use mathlib.Core.List.{List}
 use Rattle.refusal.specs.declared.Answer.the-variants.{Accepted}
 use Rattle.refusal.specs.Answers.{answer}
-use Rattle.pool.specs.Meaning.{meaning}
-use Rattle.cut_answers.specs.Answers.{firstRows}
+use Rattle.trie_pool.specs.Meaning.{meaning}
+use Rattle.newmm_answers.specs.Answers.{firstRows}
 
 -- none of the refusals 2 to 5 is due
 pub record Passes (text pool : List ℕ) (cells : ℕ) : Type 0 where

@@ -1,18 +1,18 @@
 // Cutting a text into words, after newmm.rs: the call that a host makes.
-use cut_answers::CutAnswer;
-use pool_lent::capacity;
-use pool_lent::check;
+use cells::clear;
+use cells::copy;
+use newmm_answers::CutAnswer;
+use newmm_rules::Mode;
+use newmm_segment::segment_single;
 use refusal::Answer;
 use refusal::Refusal;
-use rows::clear;
-use rows::copy;
-use safe_rules::Mode;
-use segment::segment_single;
+use trie_check::capacity;
+use trie_check::check;
 ghost use mathlib.Core.Path.{_≡_};
 ghost use lib.ListN.{length, replicate};
 ghost use Rattle.refusal.specs.Answers.{answer};
-ghost use Rattle.pool.specs.Meaning.{meaning};
-ghost use Rattle.cut_answers.specs.Answers.{firstRows, cutAnswer, outAfter, scratchAfter};
+ghost use Rattle.trie_pool.specs.Meaning.{meaning};
+ghost use Rattle.newmm_answers.specs.Answers.{firstRows, cutAnswer, outAfter, scratchAfter};
 ghost use Rattle.newmm.specs.Calls.{Passes};
 
 // Refusals 2, 3, 4 and 5, by the number of scratch cells; accepted with the text's length.

@@ -1,14 +1,14 @@
 // The line program: adds and removes words, and cuts texts by them, a reply for each line of standard input.
 use libc::STDIN_FILENO;
 use libc::STDOUT_FILENO;
-use sheets::LINE;
-use sheets::POOL;
-use sheets::REPLY;
-use sheets::SCRATCH;
-use sheets::TEXT;
-use sheets::feed;
-use sheets::finish;
-use sheets::front;
+use sheet_replies::LINE;
+use sheet_replies::POOL;
+use sheet_replies::REPLY;
+use sheet_replies::SCRATCH;
+use sheet_replies::TEXT;
+use sheet_replies::feed;
+use sheet_replies::finish;
+use sheet_replies::front;
 
 fn main() {
     let mut line = [0u8; LINE];

@@ -1,8 +1,8 @@
 // Thai character clusters, after tcc_tokenizer.rs: where the clusters of a text end.
+use cells::clear;
 use char_string::check_text;
 use refusal::Answer;
 use refusal::Refusal;
-use rows::clear;
 use tcc_match::cluster_end;
 ghost use mathlib.Core.Path.{_≡_};
 ghost use mathlib.Core.List.{_++_};

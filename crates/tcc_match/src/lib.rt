@@ -2,6 +2,8 @@
 mod after_consonant;
 mod after_e;
 mod after_vowel;
+mod group;
+mod letters;
 mod matcher;
 
 pub use matcher::cluster_end;

@@ -17,23 +17,23 @@ use Rattle.refusal.specs.Answers.{Row, answer}
 use Rattle.refusal.proofs.Order.{refused-first}
 use Rattle.char_string.specs.Scalars.{isScalar}
 use Rattle.char_string.specs.Blanks.{trimmedOf}
-use Rattle.pool.specs.Cells.{used}
-use Rattle.pool.specs.Words.{at, holds, lacking}
-use Rattle.pool.specs.Paths.{reach}
-use Rattle.pool.specs.Sound.{Sound}
-use Rattle.pool.specs.Rules.{capacity, cellsOf, wellFormed, isDictionary}
-use Rattle.pool.specs.Meaning.{Words, meaning, withWord, withoutWord, report}
-use Rattle.pool.proofs.Rules.{passes}
-use Rattle.pool.proofs.Edges.{Edges, edges-of, legal-of}
-use Rattle.pool.proofs.Sets.{with-word, with-held, with-blank, without-word, without-absent, report-is, no-change}
-use Rattle.pool_change.specs.Planting.{Puts, PutIn}
-use Rattle.pool_change.specs.Plucking.{Removes, Removed}
-use Rattle.pool_lent.specs.Refusals.{held}
+use Rattle.trie_pool.specs.Cells.{used}
+use Rattle.trie_pool.specs.Words.{at, holds, lacking}
+use Rattle.trie_pool.specs.Paths.{reach}
+use Rattle.trie_pool.specs.Sound.{Sound}
+use Rattle.trie_pool.specs.Rules.{capacity, cellsOf, wellFormed, isDictionary}
+use Rattle.trie_pool.specs.Meaning.{Words, meaning, withWord, withoutWord, report}
+use Rattle.trie_pool.proofs.Rules.{passes}
+use Rattle.trie_pool.proofs.Edges.{Edges, edges-of, legal-of}
+use Rattle.trie_pool.proofs.Sets.{with-word, with-held, with-blank, without-word, without-absent, report-is, no-change}
+use Rattle.trie_change.specs.Planting.{Puts, PutIn}
+use Rattle.trie_change.specs.Plucking.{Removes, Removed}
+use Rattle.trie_check.specs.Refusals.{held}
 use Rattle.trie_char.specs.Refusals.{nodesWith, nodeRows, removeRows, addRows}
 use Rattle.trie_char.specs.Changes.{Became}
-use Rattle.pool_lent.proofs.Rows.{again, still, row-yes, row-no}
+use Rattle.trie_check.proofs.Rows.{again, still, row-yes, row-no}
 use Rattle.trie_char.proofs.Rows.{word-of}
-use Rattle.pool_lent.proofs.Parts.{meaning-yes, known-is, held-is, inside, cells-are, long, sound-part, held-part}
+use Rattle.trie_check.proofs.Parts.{meaning-yes, known-is, held-is, inside, cells-are, long, sound-part, held-part}
 
 -- ---- the pool afterwards
 

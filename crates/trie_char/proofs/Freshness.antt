@@ -11,14 +11,14 @@ use lib.Seq.{getD-set-same, getD-set-other}
 use Rattle.refusal.specs.declared.Refusal.the-variants.{TooFewNodes}
 use Rattle.refusal.specs.declared.Answer.the-variants.{Accepted, Refused}
 use Rattle.refusal.specs.Answers.{answer}
-use Rattle.pool.specs.Cells.{scalarAt, firstAt, countAt, markAt, used}
-use Rattle.pool.specs.Words.{none, on-place, scan, child, walk, marked, holds}
-use Rattle.pool.specs.Sound.{Shaped, Sound}
-use Rattle.pool.specs.Meaning.{noWord}
-use Rattle.pool_read.proofs.Whole.{stay, ends-start}
+use Rattle.trie_pool.specs.Cells.{scalarAt, firstAt, countAt, markAt, used}
+use Rattle.trie_pool.specs.Words.{none, on-place, scan, child, walk, marked, holds}
+use Rattle.trie_pool.specs.Sound.{Shaped, Sound}
+use Rattle.trie_pool.specs.Meaning.{noWord}
+use Rattle.trie_check.proofs.Whole.{stay, ends-start}
 use Rattle.trie_char.specs.Refusals.{freshRows}
 use Rattle.trie_char.specs.Changes.{Became, RootAlone}
-use Rattle.pool_lent.proofs.Parts.{long}
+use Rattle.trie_check.proofs.Parts.{long}
 use Rattle.trie_char.proofs.Changing.{became}
 
 -- ---- the loop

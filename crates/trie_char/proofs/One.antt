@@ -7,14 +7,14 @@ use mathlib.Core.List.{List, _++_}
 use lib.ListN.{length, take, drop, take-append-drop}
 use Rattle.refusal.specs.declared.Answer.{Answer}
 use Rattle.refusal.specs.declared.Answer.the-variants.{Accepted, Refused}
-use Rattle.pool.specs.Cells.{used}
-use Rattle.pool.specs.Words.{holds}
-use Rattle.pool.specs.Rules.{capacity, cellsOf, isDictionary}
-use Rattle.pool.specs.Meaning.{Words}
-use Rattle.pool.proofs.Rules.{sound}
-use Rattle.pool.proofs.Canon.{one-pool}
-use Rattle.pool_lent.specs.Refusals.{isNone, held}
-use Rattle.pool_lent.proofs.Parts.{known-is, held-is, long}
+use Rattle.trie_pool.specs.Cells.{used}
+use Rattle.trie_pool.specs.Words.{holds}
+use Rattle.trie_pool.specs.Rules.{capacity, cellsOf, isDictionary}
+use Rattle.trie_pool.specs.Meaning.{Words}
+use Rattle.trie_pool.proofs.Rules.{sound}
+use Rattle.trie_pool.proofs.Canon.{one-pool}
+use Rattle.trie_check.specs.Refusals.{isNone, held}
+use Rattle.trie_check.proofs.Parts.{known-is, held-is, long}
 use Rattle.trie_char.specs.Changes.{Became, After}
 
 -- Every pool reached from a fresh one passes.

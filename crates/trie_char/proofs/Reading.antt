@@ -13,14 +13,14 @@ use Rattle.refusal.specs.declared.Answer.{Answer}
 use Rattle.refusal.specs.declared.Answer.the-variants.{Accepted, Refused}
 use Rattle.refusal.specs.Answers.{Row, answer, output}
 use Rattle.refusal.proofs.Order.{refused-first}
-use Rattle.pool.specs.Words.{holds}
-use Rattle.pool.specs.Rules.{cellsOf, isDictionary}
-use Rattle.pool.specs.Meaning.{Words, meaning, prefixLengths, amount}
-use Rattle.pool_read.specs.Search.{Asks, Wrote, Counts}
-use Rattle.pool_lent.specs.Refusals.{held, poolRows, readRows}
+use Rattle.trie_pool.specs.Words.{holds}
+use Rattle.trie_pool.specs.Rules.{cellsOf, isDictionary}
+use Rattle.trie_pool.specs.Meaning.{Words, meaning, prefixLengths, amount}
+use Rattle.trie_search.specs.Search.{Asks, Wrote, Counts}
+use Rattle.trie_check.specs.Refusals.{held, poolRows, readRows}
 use Rattle.trie_char.specs.Refusals.{outRows, prefixRows}
-use Rattle.pool_lent.proofs.Rows.{again, still, row-yes, row-no, read-of}
-use Rattle.pool_lent.proofs.Parts.{known-is, is-none, cells-are, sound-part, readable, held-part}
+use Rattle.trie_check.proofs.Rows.{again, still, row-yes, row-no, read-of}
+use Rattle.trie_check.proofs.Parts.{known-is, is-none, cells-are, sound-part, readable, held-part}
 
 -- ---- an accepted text
 

@@ -14,11 +14,11 @@ use Rattle.refusal.specs.declared.Answer.{Answer}
 use Rattle.refusal.specs.declared.Answer.the-variants.{Accepted, Refused}
 use Rattle.refusal.specs.Answers.{Row, answer}
 use Rattle.refusal.proofs.Order.{refused-first}
-use Rattle.pool_lent.proofs.Rows.{none-of, row-yes, row-kept}
+use Rattle.trie_check.proofs.Rows.{none-of, row-yes, row-kept}
 use Rattle.char_string.specs.Scalars.{firstNonScalar}
 use Rattle.char_string.specs.Blanks.{trimmedOf}
-use Rattle.pool.specs.Meaning.{Words}
-use Rattle.pool_lent.specs.Refusals.{isNone, readRows}
+use Rattle.trie_pool.specs.Meaning.{Words}
+use Rattle.trie_check.specs.Refusals.{isNone, readRows}
 use Rattle.trie_char.specs.Refusals.{lengthRows, removeRows}
 
 pub record Word (word : List ℕ) (m : Option Words) : Type 0 where

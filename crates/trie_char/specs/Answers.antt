@@ -6,9 +6,9 @@ use lib.ListN.{length}
 use Rattle.refusal.specs.declared.Answer.{Answer}
 use Rattle.refusal.specs.Answers.{answer}
 use Rattle.char_string.specs.Blanks.{trimmedOf}
-use Rattle.pool.specs.Rules.{cellsOf}
-use Rattle.pool.specs.Meaning.{Words, meaning, withWord, withoutWord, report, prefixLengths, amount}
-use Rattle.pool_lent.specs.Refusals.{held, poolRows, readRows}
+use Rattle.trie_pool.specs.Rules.{cellsOf}
+use Rattle.trie_pool.specs.Meaning.{Words, meaning, withWord, withoutWord, report, prefixLengths, amount}
+use Rattle.trie_check.specs.Refusals.{held, poolRows, readRows}
 use Rattle.trie_char.specs.Refusals.{prefixRows, removeRows, addRows, freshRows}
 
 -- Fresh pool: 8.

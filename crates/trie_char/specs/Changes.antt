@@ -6,8 +6,8 @@ use mathlib.Core.Option.{some}
 use lib.ListN.{getD, drop}
 use Rattle.refusal.specs.declared.Answer.{Answer}
 use Rattle.refusal.specs.declared.Answer.the-variants.{Accepted, Refused}
-use Rattle.pool.specs.Rules.{capacity}
-use Rattle.pool.specs.Meaning.{Words, meaning}
+use Rattle.trie_pool.specs.Rules.{capacity}
+use Rattle.trie_pool.specs.Meaning.{Words, meaning}
 
 -- The pool of these words, of which there is one (proofs/One.antt: one-after). Later cells and a part node are never written.
 pub record Became (old new : List ℕ) (words : Words) : Type 0 where

@@ -7,11 +7,11 @@ use lib.ListN.{length}
 use Rattle.refusal.specs.Answers.{Row}
 use Rattle.refusal.specs.declared.Refusal.the-variants.{OutputTooShort, WordTooLong, TooFewNodes}
 use Rattle.char_string.specs.Blanks.{trimmedOf}
-use Rattle.pool.specs.Cells.{used}
-use Rattle.pool.specs.Words.{lacking}
-use Rattle.pool.specs.Rules.{capacity, cellsOf}
-use Rattle.pool.specs.Meaning.{Words, meaning, prefixLengths}
-use Rattle.pool_lent.specs.Refusals.{held, readRows}
+use Rattle.trie_pool.specs.Cells.{used}
+use Rattle.trie_pool.specs.Words.{lacking}
+use Rattle.trie_pool.specs.Rules.{capacity, cellsOf}
+use Rattle.trie_pool.specs.Meaning.{Words, meaning, prefixLengths}
+use Rattle.trie_check.specs.Refusals.{held, readRows}
 
 -- 6: the output has fewer cells than the answer; cells needed.
 abbrev pub outRows : List ℕ → List ℕ → List Row

@@ -1,18 +1,18 @@
 // Changing a dictionary.
 use crate::words::check_word;
+use cells::wide;
 use char_string::trimmed;
-use pool::wide;
-use pool_change::add_word;
-use pool_change::remove_word;
-use pool_lent::capacity;
-use pool_read::is_held;
-use pool_read::missing;
 use refusal::Answer;
 use refusal::Refusal;
+use trie_change::add_word;
+use trie_change::remove_word;
+use trie_check::capacity;
+use trie_search::is_held;
+use trie_search::missing;
 ghost use mathlib.Core.Path.{_≡_};
 ghost use Prim.Native.Nat.{_≤_};
 ghost use lib.ListN.{length};
-ghost use Rattle.pool.specs.Meaning.{noWord};
+ghost use Rattle.trie_pool.specs.Meaning.{noWord};
 ghost use Rattle.trie_char.specs.Answers.{freshAnswer, addAnswer, added, removeAnswer, removed};
 ghost use Rattle.trie_char.specs.Changes.{After, RootAlone};
 

@@ -1,12 +1,12 @@
 // Reading a dictionary.
-use pool_lent::capacity;
-use pool_lent::check;
-use pool_lent::is_dictionary;
-use pool_read::count_words;
-use pool_read::is_held;
-use pool_read::prefix_count;
 use refusal::Answer;
 use refusal::Refusal;
+use trie_check::capacity;
+use trie_check::check;
+use trie_check::is_dictionary;
+use trie_search::count_words;
+use trie_search::is_held;
+use trie_search::prefix_count;
 ghost use mathlib.Core.Path.{_≡_};
 ghost use Rattle.refusal.specs.Answers.{output};
 ghost use Rattle.trie_char.specs.Answers.{containsAnswer, prefixes, prefixesAnswer, wordCountAnswer};
@@ -42,7 +42,7 @@ pub fn prefix_lengths(pool: &[u32], text: &[u32], out: &mut [u32]) -> Answer
             if out.len() < n {
                 return Answer::Refused(Refusal::OutputTooShort(n));
             }
-            let k = pool_read::prefix_lengths(&pool[..cells], text, out);
+            let k = trie_search::prefix_lengths(&pool[..cells], text, out);
             Answer::Accepted(k)
         }
     }

@@ -1,13 +1,13 @@
 // The refusals that add and remove share.
 use char_string::trim;
-use pool::MAX_WORD;
-use pool_lent::check;
 use refusal::Answer;
 use refusal::Refusal;
+use trie_check::check;
+use trie_pool::MAX_WORD;
 ghost use mathlib.Core.Path.{_≡_};
 ghost use lib.ListN.{length};
 ghost use Rattle.refusal.specs.Answers.{answer};
-ghost use Rattle.pool.specs.Meaning.{meaning};
+ghost use Rattle.trie_pool.specs.Meaning.{meaning};
 ghost use Rattle.trie_char.specs.Refusals.{removeRows};
 
 // Refusals 2, 3, 4 and 7, accepted with the word's length.

@@ -9,7 +9,7 @@ use lib.ListN.{length, getD, set, take, drop, length-drop, length-set}
 use lib.Seq.{drop-drop, drop-cons, take-length}
 use lib.Dec.{eqb}
 use borrow.Author.Tests.{eqb-true, eqb-false, eq-eqb, ne-eqb}
-use Rattle.basics.proofs.Rows.{store}
+use Rattle.lists.proofs.Rows.{store}
 use Rattle.utf8.specs.declared.Piece.{Piece}
 use Rattle.utf8.specs.declared.Counted.{Counted}
 use Rattle.utf8.specs.Utf8.{scalarOf}

@@ -9,7 +9,7 @@ use lib.ListN.{length, getD, drop, length-drop}
 use lib.Seq.{getD-drop}
 use lib.Dec.{leb, ltb, eqb}
 use borrow.Author.Tests.{lt-ltb, le-ltb, leb-true, leb-false}
-use Rattle.basics.specs.Scans.{within}
+use Rattle.lists.specs.Scans.{within}
 use Rattle.utf8.specs.Utf8.{Range, _‥_, table37}
 use Rattle.utf8.specs.Decoding.{leadOf, starts, sizeIn, sizeOf}
 use Rattle.utf8.proofs.FirstBytes.{Third, e0, e1, ed, ee, Fourth, f0, f1, f4, trail, Kind, shut, one, two, three, four, kind-of}

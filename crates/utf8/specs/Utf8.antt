@@ -3,7 +3,7 @@ use Prim.Native.Nat.{ℕ, _+_, _*_, _/_, _%_}
 use mathlib.Core.Bool.{Bool, true, false, cond, _&&_, _||_}
 use mathlib.Core.List.{List, [], _∷_, _++_}
 use lib.Dec.{T, ltb}
-use Rattle.basics.specs.Scans.{within}
+use Rattle.lists.specs.Scans.{within}
 
 pub record Range : Type 0 where
   pub lo : ℕ

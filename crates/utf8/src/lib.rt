@@ -11,7 +11,7 @@ ghost use mathlib.Core.Bool.{true};
 ghost use Prim.Native.Nat.{_<_, _≤_};
 ghost use lib.ListN.{length, drop};
 ghost use mathlib.Core.List.{_++_};
-ghost use Rattle.basics.specs.Scans.{within};
+ghost use Rattle.lists.specs.Scans.{within};
 ghost use Rattle.refusal.specs.Answers.{output};
 ghost use Rattle.utf8.specs.Decoding.{Leads, sizeOf, runAll, scalarsOf, decoded};
 ghost use Rattle.utf8.specs.Passes.{pieceOf, countedOf};

@@ -2,7 +2,7 @@
 use native.Mathlib.Omega.{arith}
 use mathlib.Core.Path.{sym}
 use lib.ListN.{length}
-use Rattle.pool_lent.proofs.Parts.{long}
+use Rattle.trie_check.proofs.Parts.{long}
 use Rattle.newmm.proofs.Calls.{cleared-all, lent-ready, ends-fit, ends-lent, all-zero, short-answer, short-out, done-answer, done-out}
 use borrow.Author.Needs.{needs}
 use Rattle.newmm.proofs.cut_checked.Statement.{statement}

@@ -2,7 +2,7 @@
 use Prim.Native.Nat.{_-_}
 use mathlib.Core.Path.{refl, sym, _∙_, ap}
 use mathlib.Core.Bool.{not}
-use Rattle.basics.proofs.Scans.{Left, left-all, left-less, left-stop, left-none}
+use Rattle.lists.proofs.Scans.{Left, left-all, left-less, left-stop, left-none}
 use Rattle.char_string.specs.Blanks.{stays}
 use borrow.Author.Needs.{needs}
 use Rattle.char_string.proofs.blanks.kept.Statement.{statement}

@@ -1,7 +1,7 @@
 -- Assumes nothing.
 use mathlib.Core.Path.{refl}
 use borrow.Author.Tests.{eq-eqb, ne-eqb}
-use Rattle.basics.proofs.Scans.{Left, left-all, left-less, left-stop, left-none}
+use Rattle.lists.proofs.Scans.{Left, left-all, left-less, left-stop, left-none}
 use Rattle.char_string.specs.Blanks.{isSpace}
 use Rattle.char_string.proofs.Trimming.{before-some, before-none}
 use borrow.Author.Needs.{needs}

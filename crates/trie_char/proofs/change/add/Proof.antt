@@ -1,7 +1,7 @@
 -- Assumes nothing.
 use mathlib.Core.Path.{refl, sym}
 use native.Mathlib.Omega.{arith}
-use Rattle.pool_lent.proofs.Parts.{inside, long, readable}
+use Rattle.trie_check.proofs.Parts.{inside, long, readable}
 use Rattle.trie_char.proofs.Changing.{known, used-fits, add-full, add-blank, add-held, puts, add-done, add-refused}
 use borrow.Author.Needs.{needs}
 use Rattle.trie_char.proofs.change.add.Statement.{statement}

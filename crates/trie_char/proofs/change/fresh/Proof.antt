@@ -1,7 +1,7 @@
 -- Assumes nothing.
 use mathlib.Core.Path.{refl, sym, _∙_}
 use native.Mathlib.Omega.{arith}
-use Rattle.pool_lent.proofs.Parts.{long}
+use Rattle.trie_check.proofs.Parts.{long}
 use Rattle.trie_char.proofs.Freshness.{fresh-short, fresh-done}
 use borrow.Author.Needs.{needs}
 use Rattle.trie_char.proofs.change.fresh.Statement.{statement}

@@ -1,7 +1,7 @@
 -- Assumes nothing.
 use mathlib.Core.Path.{refl, sym}
 use borrow.Author.Tests.{not-true, not-false}
-use Rattle.pool_lent.proofs.Parts.{inside, long, readable}
+use Rattle.trie_check.proofs.Parts.{inside, long, readable}
 use Rattle.trie_char.proofs.Changing.{known, remove-absent, removes, remove-done, remove-refused}
 use borrow.Author.Needs.{needs}
 use Rattle.trie_char.proofs.change.remove.Statement.{statement}

@@ -1,7 +1,7 @@
 -- Assumes nothing.
 use mathlib.Core.Path.{sym}
 use borrow.Author.Tests.{not-true, not-false}
-use Rattle.pool_lent.proofs.Parts.{long}
+use Rattle.trie_check.proofs.Parts.{long}
 use Rattle.trie_char.proofs.Reading.{amount-refused, counts, amount-is}
 use borrow.Author.Needs.{needs}
 use Rattle.trie_char.proofs.read.amount_of_words.Statement.{statement}

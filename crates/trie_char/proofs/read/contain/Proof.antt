@@ -1,6 +1,6 @@
 -- Assumes nothing.
 use mathlib.Core.Path.{sym}
-use Rattle.pool_lent.proofs.Parts.{long, readable}
+use Rattle.trie_check.proofs.Parts.{long, readable}
 use Rattle.trie_char.proofs.Reading.{known, contain-yes, contain-no, contain-refused}
 use borrow.Author.Needs.{needs}
 use Rattle.trie_char.proofs.read.contain.Statement.{statement}

@@ -1,6 +1,6 @@
 -- Assumes nothing.
 use mathlib.Core.Path.{refl, sym}
-use Rattle.pool_lent.proofs.Parts.{long, readable}
+use Rattle.trie_check.proofs.Parts.{long, readable}
 use Rattle.trie_char.proofs.Reading.{known, asks, prefix-short, prefix-done, prefix-refused}
 use borrow.Author.Needs.{needs}
 use Rattle.trie_char.proofs.read.prefix_lengths.Statement.{statement}

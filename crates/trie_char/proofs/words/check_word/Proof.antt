@@ -1,6 +1,6 @@
 -- Assumes nothing.
 use native.Mathlib.Omega.{arith}
-use Rattle.pool.specs.Meaning.{meaning}
+use Rattle.trie_pool.specs.Meaning.{meaning}
 use Rattle.char_string.proofs.Trimming.{fits, length-is}
 use Rattle.trie_char.proofs.Rows.{word-read, word-long, word-short}
 use borrow.Author.Needs.{needs}

@@ -4,7 +4,7 @@ use mathlib.Core.Bool.{Bool}
 use Prim.Native.Nat.{ℕ}
 use lib.Dec.{eqb, eqb→eq}
 use lib.ListN.{getD}
-use Rattle.basics.proofs.Table.{at}
+use Rattle.lists.proofs.Table.{at}
 use Rattle.utf8.specs.Decoding.{leadOf}
 use Rattle.utf8.proofs.leads.lead_table.Statement.{statement}
 use Rattle.utf8.proofs.leads.lead_table.Tie as tie

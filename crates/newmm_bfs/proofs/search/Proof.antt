@@ -1,0 +1,165 @@
+-- Assumes nothing.
+use Prim.Native.Nat.{ℕ, _+_, _*_, _-_}
+use native.Mathlib.Omega.{arith}
+use mathlib.Core.Path.{_∙_, ap}
+use Rattle.newmm_bfs.proofs.Searching.{Agree, agree-same, agree-on, Searching, Reading, begun, front, taken, index, spans, hit, next, closed, keeps, nowhere}
+use borrow.Author.Needs.{needs}
+use Rattle.newmm_bfs.proofs.search.Statement.{statement}
+use Rattle.newmm_bfs.proofs.search.Tie as tie
+
+abbrev Inv-loop2 : tie.InvT-loop2
+Inv-loop2 row₀ m start goal tail₀ head v first count j₀ row tail j = Reading row m start goal head tail v first count j × Agree m row₀ row
+
+abbrev μ-loop2 : tie.MeasureT-loop2
+μ-loop2 row₀ m start goal tail₀ head v first count j₀ row tail j = count - j
+
+abbrev Inv-loop : tie.InvT-loop
+Inv-loop row₀ m start goal tail₀ head₀ row tail head = Searching row m start goal head tail × Agree m row₀ row
+
+abbrev μ-loop : tie.MeasureT-loop
+μ-loop row₀ m start goal tail₀ head₀ row tail head = goal - start - head
+
+queue-up-requires : tie.Need-queue-up-requires Inv-loop2 μ-loop2 Inv-loop μ-loop
+queue-up-requires c κs = (c .before .before .pre .sized, (let o = c .before .before .pre .order in let i = c .before .before .pre .inside in (omega arith, omega arith, omega arith)))
+
+loop-holds : tie.Need-loop-holds Inv-loop2 μ-loop2 Inv-loop μ-loop
+loop-holds c = (begun _ _ _ _ (c .before .before .before .before .before .pre) _ _ (c .before .before .queue-up .ensures .0) (c .before .before .queue-up .ensures .1) .0, agree-same _ _)
+
+add-wide : tie.Need-add-wide Inv-loop2 μ-loop2 Inv-loop μ-loop
+add-wide c = let g = c .before .loop .inv .0 .good in omega (arith, g .sized .small, g .room, g .inside)
+
+mul-wide : tie.Need-mul-wide Inv-loop2 μ-loop2 Inv-loop μ-loop
+mul-wide c = let g = c .before .loop .inv .0 .good in omega (arith, g .sized .small, g .room, g .inside)
+
+slice-read-wide : tie.Need-slice-read-wide Inv-loop2 μ-loop2 Inv-loop μ-loop
+slice-read-wide c = let g = c .before .before .loop .inv .0 .good in omega (arith, g .sized .long, g .room, g .inside)
+
+wide-requires : tie.Need-wide-requires Inv-loop2 μ-loop2 Inv-loop μ-loop
+wide-requires c κs = search needs
+
+mul-first : tie.Need-mul-first Inv-loop2 μ-loop2 Inv-loop μ-loop
+mul-first c = search needs
+
+mul-wide-2 : tie.Need-mul-wide-2 Inv-loop2 μ-loop2 Inv-loop μ-loop
+mul-wide-2 c = search needs
+
+add-wide-2 : tie.Need-add-wide-2 Inv-loop2 μ-loop2 Inv-loop μ-loop
+add-wide-2 c = let f = front (c .before .before .before .loop .inv .0) (c .before .before .loop-test .taken) in let g = c .before .before .before .loop .inv .0 .good in omega (arith, f .1, g .sized .small, g .inside, c .wide .ensures)
+
+mul-wide-3 : tie.Need-mul-wide-3 Inv-loop2 μ-loop2 Inv-loop μ-loop
+mul-wide-3 c = let f = front (c .before .before .before .loop .inv .0) (c .before .before .loop-test .taken) in let g = c .before .before .before .loop .inv .0 .good in omega (arith, f .1, g .sized .small, g .inside, c .wide .ensures)
+
+slice-read-wide-2 : tie.Need-slice-read-wide-2 Inv-loop2 μ-loop2 Inv-loop μ-loop
+slice-read-wide-2 c = let f = front (c .before .before .before .before .loop .inv .0) (c .before .before .before .loop-test .taken) in let g = c .before .before .before .before .loop .inv .0 .good in omega (arith, f .1, g .sized .long, g .inside, c .before .wide .ensures)
+
+wide-requires-2 : tie.Need-wide-requires-2 Inv-loop2 μ-loop2 Inv-loop μ-loop
+wide-requires-2 c κs = search needs
+
+add-first : tie.Need-add-first Inv-loop2 μ-loop2 Inv-loop μ-loop
+add-first c = let f = front (c .before .before .before .before .before .loop .inv .0) (c .before .before .before .before .loop-test .taken) in let g = c .before .before .before .before .before .loop .inv .0 .good in let e = g .edges (c .before .before .wide .result) (omega (arith, f .0, c .before .before .wide .ensures)) (omega (arith, f .1, c .before .before .wide .ensures)) .fits in omega (arith, e, c .wide2 .ensures)
+
+mul-wide-4 : tie.Need-mul-wide-4 Inv-loop2 μ-loop2 Inv-loop μ-loop
+mul-wide-4 c = search needs
+
+add-wide-3 : tie.Need-add-wide-3 Inv-loop2 μ-loop2 Inv-loop μ-loop
+add-wide-3 c = let f = front (c .before .before .before .before .before .loop .inv .0) (c .before .before .before .before .loop-test .taken) in let g = c .before .before .before .before .before .loop .inv .0 .good in omega (arith, f .1, g .sized .small, g .inside, c .before .before .wide .ensures)
+
+mul-wide-5 : tie.Need-mul-wide-5 Inv-loop2 μ-loop2 Inv-loop μ-loop
+mul-wide-5 c = let f = front (c .before .before .before .before .before .loop .inv .0) (c .before .before .before .before .loop-test .taken) in let g = c .before .before .before .before .before .loop .inv .0 .good in omega (arith, f .1, g .sized .small, g .inside, c .before .before .wide .ensures)
+
+slice-read-wide-3 : tie.Need-slice-read-wide-3 Inv-loop2 μ-loop2 Inv-loop μ-loop
+slice-read-wide-3 c = let f = front (c .before .before .before .before .before .before .loop .inv .0) (c .before .before .before .before .before .loop-test .taken) in let g = c .before .before .before .before .before .before .loop .inv .0 .good in omega (arith, f .1, g .sized .long, g .inside, c .before .before .before .wide .ensures)
+
+wide-requires-3 : tie.Need-wide-requires-3 Inv-loop2 μ-loop2 Inv-loop μ-loop
+wide-requires-3 c κs = search needs
+
+loop2-holds : tie.Need-loop2-holds Inv-loop2 μ-loop2 Inv-loop μ-loop
+loop2-holds c = (taken (c .before .before .before .before .before .before .before .loop .inv .0) (c .before .before .before .before .before .before .loop-test .taken) (c .before .before .before .before .wide .ensures) (ap (λ (i : ℕ). 7 * c .before .before .before .before .before .before .before .before .before .before .before .before .before .args .m + i) (c .before .before .wide2 .ensures)) (c .wide3 .ensures), agree-same _ _)
+
+add-wide-4 : tie.Need-add-wide-4 Inv-loop2 μ-loop2 Inv-loop μ-loop
+add-wide-4 c = let i = index (c .before .loop2 .inv .0) (c .loop2-test .taken) in omega (arith, i)
+
+mul-wide-6 : tie.Need-mul-wide-6 Inv-loop2 μ-loop2 Inv-loop μ-loop
+mul-wide-6 c = let i = index (c .before .loop2 .inv .0) (c .loop2-test .taken) in omega (arith, i)
+
+slice-read-wide-4 : tie.Need-slice-read-wide-4 Inv-loop2 μ-loop2 Inv-loop μ-loop
+slice-read-wide-4 c = index (c .before .before .loop2 .inv .0) (c .before .loop2-test .taken)
+
+wide-requires-4 : tie.Need-wide-requires-4 Inv-loop2 μ-loop2 Inv-loop μ-loop
+wide-requires-4 c κs = search needs
+
+same-length : tie.Need-same-length Inv-loop2 μ-loop2 Inv-loop μ-loop
+same-length c = c .before .before .before .before .loop2 .inv .1 .size ∙ c .before .before .before .before .before .before .before .before .before .before .before .before .loop .inv .1 .size ∙ c .before .before .before .before .before .before .before .before .before .before .before .before .before .before .before .queue-up .kept .0
+
+returns : tie.Need-returns Inv-loop2 μ-loop2 Inv-loop μ-loop
+returns c = let b = begun _ _ _ _ (c .before .before .before .before .before .before .before .before .before .before .before .before .before .before .before .before .before .before .pre) _ _ (c .before .before .before .before .before .before .before .before .before .before .before .before .before .before .before .queue-up .ensures .0) (c .before .before .before .before .before .before .before .before .before .before .before .before .before .before .before .queue-up .ensures .1) .1 in let a = agree-on b (agree-on (c .before .before .before .before .before .before .before .before .before .before .before .before .loop .inv .1) (c .before .before .before .before .loop2 .inv .1)) in (hit (c .before .before .before .before .loop2 .inv .0) _ a (c .before .before .before .loop2-test .taken) _ (c .before .wide4 .ensures) (c .if1 .taken), keeps (c .before .before .before .before .loop2 .inv .0 .good) a)
+
+queue-up-requires-2 : tie.Need-queue-up-requires-2 Inv-loop2 μ-loop2 Inv-loop μ-loop
+queue-up-requires-2 c κs = let r = c .before .before .before .before .before .loop2 .inv .0 in let s = spans r (c .before .before .before .before .loop2-test .taken) _ (c .before .before .wide4 .ensures) in (r .good .sized, (omega (arith, r .good .room, r .good .inside, r .good .order), omega (arith, r .below, r .good .inside), omega (arith, s .1, r .good .inside)))
+
+add-j : tie.Need-add-j Inv-loop2 μ-loop2 Inv-loop μ-loop
+add-j c = let i = index (c .before .before .before .before .before .before .before .before .loop2 .inv .0) (c .before .before .before .before .before .before .before .loop2-test .taken) in omega (arith, i)
+
+loop2-less : tie.Need-loop2-less Inv-loop2 μ-loop2 Inv-loop μ-loop
+loop2-less c = let t = c .before .before .before .before .before .before .before .loop2-test .taken in omega arith
+
+loop2-again : tie.Need-loop2-again Inv-loop2 μ-loop2 Inv-loop μ-loop
+loop2-again c = let n = next (c .before .before .before .before .before .before .before .before .loop2 .inv .0) (c .before .before .before .before .before .before .before .loop2-test .taken) _ (c .before .before .before .before .before .wide4 .ensures) (c .before .before .before .before .if1 .left) _ _ (c .before .before .queue-up2 .ensures .0) (c .before .before .queue-up2 .ensures .1) in (n .0, agree-on (c .before .before .before .before .before .before .before .before .loop2 .inv .1) (n .1))
+
+add-head : tie.Need-add-head Inv-loop2 μ-loop2 Inv-loop μ-loop
+add-head c = let r = c .before .loop2 .inv .0 in omega (arith, r .good .sized .small, r .good .room, r .good .inside, r .holds .last)
+
+loop-less : tie.Need-loop-less Inv-loop2 μ-loop2 Inv-loop μ-loop
+loop-less c = let r = c .before .loop2 .inv .0 in omega (arith, r .good .room, r .holds .last)
+
+loop-again : tie.Need-loop-again Inv-loop2 μ-loop2 Inv-loop μ-loop
+loop-again c = (closed (c .before .loop2 .inv .0) (c .loop2-test .left), agree-on (c .before .before .before .before .before .before .before .before .before .loop .inv .1) (c .before .loop2 .inv .1))
+
+same-length-2 : tie.Need-same-length-2 Inv-loop2 μ-loop2 Inv-loop μ-loop
+same-length-2 c = c .before .loop .inv .1 .size ∙ c .before .before .before .before .queue-up .kept .0
+
+returns-2 : tie.Need-returns-2 Inv-loop2 μ-loop2 Inv-loop μ-loop
+returns-2 c = let b = begun _ _ _ _ (c .before .before .before .before .before .before .before .pre) _ _ (c .before .before .before .before .queue-up .ensures .0) (c .before .before .before .before .queue-up .ensures .1) .1 in let a = agree-on b (c .before .loop .inv .1) in (nowhere (c .before .loop .inv .0) (c .loop-test .left) a, keeps (c .before .loop .inv .0 .good) a)
+
+pub search-spec : {M : Type 1} → statement M
+search-spec =
+    tie.close
+    (tie.spec
+    Inv-loop2
+    μ-loop2
+    Inv-loop
+    μ-loop
+    queue-up-requires
+    loop-holds
+    add-wide
+    mul-wide
+    slice-read-wide
+    wide-requires
+    mul-first
+    mul-wide-2
+    add-wide-2
+    mul-wide-3
+    slice-read-wide-2
+    wide-requires-2
+    add-first
+    mul-wide-4
+    add-wide-3
+    mul-wide-5
+    slice-read-wide-3
+    wide-requires-3
+    loop2-holds
+    add-wide-4
+    mul-wide-6
+    slice-read-wide-4
+    wide-requires-4
+    same-length
+    returns
+    queue-up-requires-2
+    add-j
+    loop2-less
+    loop2-again
+    add-head
+    loop-less
+    loop-again
+    same-length-2
+    returns-2)

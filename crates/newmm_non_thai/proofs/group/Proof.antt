@@ -1,0 +1,59 @@
+-- Assumes nothing.
+use Prim.Native.Nat.{_+_}
+use native.Mathlib.Omega.{arith}
+use mathlib.Core.Path.{sym, _∙_}
+use borrow.Author.Tests.{not-true, not-false}
+use Rattle.lists.specs.Scans.{within}
+use Rattle.newmm_non_thai.proofs.Matches.{group-none, group-other, group-back, group-some, tail-most}
+use borrow.Author.Needs.{needs}
+use Rattle.newmm_non_thai.proofs.group.Statement.{statement}
+use Rattle.newmm_non_thai.proofs.group.Tie as tie
+
+returns : tie.Need-returns
+returns c = group-none (within (c .before .before .args .zero) (c .before .before .args .zero + 9)) (c .before .before .args .s .now) (c .if1 .taken)
+
+shared-slice-read-is-point : tie.Need-shared-slice-read-is-point
+shared-slice-read-is-point c = search needs
+
+is-point-requires : tie.Need-is-point-requires
+is-point-requires c κs = search needs
+
+returns-2 : tie.Need-returns-2
+returns-2 c = group-other (within (c .before .before .before .before .before .args .zero) (c .before .before .before .before .before .args .zero + 9)) (c .before .before .before .before .before .args .s .now) (sym (c .before .is-point .ensures) ∙ not-true _ (c .if2 .taken))
+
+sub-digits : tie.Need-sub-digits
+sub-digits c = search needs
+
+part-digits-start : tie.Need-part-digits-start
+part-digits-start c = search needs
+
+part-digits-end : tie.Need-part-digits-end
+part-digits-end c = search needs
+
+digits-requires : tie.Need-digits-requires
+digits-requires c κs = search needs
+
+returns-3 : tie.Need-returns-3
+returns-3 c = group-back (within (c .before .before .before .before .before .before .before .before .args .zero) (c .before .before .before .before .before .before .before .before .args .zero + 9)) (c .before .before .before .before .before .before .before .before .args .s .now) _ (c .before .digits .ensures) (c .if3 .taken)
+
+add-result : tie.Need-add-result
+add-result c = omega (arith, tail-most (within (c .before .before .before .before .before .before .before .before .args .zero) (c .before .before .before .before .before .before .before .before .args .zero + 9)) (c .before .before .before .before .before .before .before .before .args .s .now) _ (c .before .digits .ensures) (c .before .before .before .before .before .before .if1 .left))
+
+returns-4 : tie.Need-returns-4
+returns-4 c = group-some (within (c .before .before .before .before .before .before .before .before .args .zero) (c .before .before .before .before .before .before .before .before .args .zero + 9)) (c .before .before .before .before .before .before .before .before .args .s .now) _ (sym (c .before .before .before .before .is-point .ensures) ∙ not-false _ (c .before .before .before .if2 .left)) (c .before .before .before .before .before .before .if1 .left) (c .before .digits .ensures) (c .if3 .left)
+
+pub group-spec : {M : Type 1} → statement M
+group-spec =
+    tie.close
+    (tie.spec
+    returns
+    shared-slice-read-is-point
+    is-point-requires
+    returns-2
+    sub-digits
+    part-digits-start
+    part-digits-end
+    digits-requires
+    returns-3
+    add-result
+    returns-4)

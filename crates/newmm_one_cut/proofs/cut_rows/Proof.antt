@@ -1,0 +1,131 @@
+-- Assumes nothing.
+use Prim.Native.Nat.{_-_}
+use native.Mathlib.Omega.{arith}
+use mathlib.Core.Path.{refl, sym, _∙_}
+use Rattle.newmm_rules.proofs.Spans.{token-spans}
+use Rattle.newmm_word_step.specs.Walks.{givenBy}
+use Rattle.newmm_one_cut.proofs.Rounds.{Round, b-inside, ends-few, committed-low, here, token-asks, token-round, start-one, round-one, round-more, still-sized}
+use Rattle.newmm_one_cut.proofs.Bounds.{ends-fit, done, first-round, size₁, part-long}
+use Rattle.newmm_one_cut.proofs.cut_rows.Statement.{statement}
+use Rattle.newmm_one_cut.proofs.cut_rows.Tie as tie
+
+abbrev Inv-loop : tie.InvT-loop
+Inv-loop text pool row₀ n m flags flags-end b₀ committed₀ ends₀ p₀ row b committed ends p = Round text pool row m b committed ends p
+
+abbrev μ-loop : tie.MeasureT-loop
+μ-loop text pool row₀ n m flags flags-end b₀ committed₀ ends₀ p₀ row b committed ends p = n - b
+
+add-m : tie.Need-add-m Inv-loop μ-loop
+add-m c = omega (arith, c .before .before .before .pre .short)
+
+mul-flags : tie.Need-mul-flags Inv-loop μ-loop
+mul-flags c = omega (arith, c .before .before .before .pre .short)
+
+mul-flags-end : tie.Need-mul-flags-end Inv-loop μ-loop
+mul-flags-end c = omega (arith, c .before .before .before .pre .short)
+
+mul-tcc-flags : tie.Need-mul-tcc-flags Inv-loop μ-loop
+mul-tcc-flags c = omega (arith, c .before .before .before .pre .short)
+
+sub-tcc-flags : tie.Need-sub-tcc-flags Inv-loop μ-loop
+sub-tcc-flags c = omega arith
+
+part-tcc-flags-start : tie.Need-part-tcc-flags-start Inv-loop μ-loop
+part-tcc-flags-start c = omega (arith, c .before .before .before .pre .size)
+
+part-tcc-flags-end : tie.Need-part-tcc-flags-end Inv-loop μ-loop
+part-tcc-flags-end c = omega (arith, c .before .before .before .pre .size)
+
+tcc-flags-requires : tie.Need-tcc-flags-requires Inv-loop μ-loop
+tcc-flags-requires c κs = part-long (c .before .before .before .before .pre) refl
+
+mul-row : tie.Need-mul-row Inv-loop μ-loop
+mul-row c = omega (arith, c .before .before .before .before .before .before .before .pre .short)
+
+mul-row-2 : tie.Need-mul-row-2 Inv-loop μ-loop
+mul-row-2 c = omega (arith, c .before .before .before .before .before .before .before .pre .short)
+
+slice-write-row : tie.Need-slice-write-row Inv-loop μ-loop
+slice-write-row c = omega (arith, size₁ _ _ (c .before .before .before .before .before .before .before .args .row .now) _ (c .before .before .before .before .before .before .before .pre) refl _ (c .before .before .tcc-flags .ensures), c .before .before .before .before .before .before .before .pre .size)
+
+loop-holds : tie.Need-loop-holds Inv-loop μ-loop
+loop-holds c = first-round _ _ _ _ (c .before .before .before .before .before .before .before .pre) refl _ (c .before .before .tcc-flags .ensures)
+
+record-words-requires : tie.Need-record-words-requires Inv-loop μ-loop
+record-words-requires c κs = here (c .before .before .loop .inv) (c .before .loop-test .taken)
+
+put-token-requires : tie.Need-put-token-requires Inv-loop μ-loop
+put-token-requires c κs = token-asks (c .before .before .before .before .before .before .before .loop .inv) (c .before .before .before .before .before .before .loop-test .taken) (c .before .before .before .before .record-words .ensures .0) (c .before .before .before .before .record-words .ensures .1) (c .before .before .before .before .record-words .kept .1 .1 .0) (c .before .if1 .taken)
+
+add-ends : tie.Need-add-ends Inv-loop μ-loop
+add-ends c = let r = c .before .before .before .before .before .before .before .before .before .before .loop .inv in omega (arith, ends-few r, committed-low r, b-inside r, r .sized .small, r .size-is)
+
+loop-less : tie.Need-loop-less Inv-loop μ-loop
+loop-less c = let t = token-spans (givenBy (c .before .before .before .before .before .before .before .before .before .before .before .before .before .before .before .before .before .before .args .text .now) (c .before .before .before .before .before .before .before .before .before .before .before .before .before .before .before .before .before .before .args .pool .now)) (c .before .before .before .before .before .before .before .before .before .before .loop .b) (c .before .before .before .before .before .before .before .before .before .loop-test .taken) in let e = c .before .before .put-token .ensures .0 in let l = c .before .before .before .before .before .before .before .before .before .loop-test .taken in omega (arith, t .0)
+
+loop-again : tie.Need-loop-again Inv-loop μ-loop
+loop-again c = token-round (c .before .before .before .before .before .before .before .before .before .before .loop .inv) (c .before .before .before .before .before .before .before .before .before .loop-test .taken) (c .before .before .before .before .before .before .before .record-words .ensures .0) (c .before .before .before .before .before .before .before .record-words .ensures .1) (c .before .before .before .before .before .before .before .record-words .kept .1 .1 .0) (c .before .before .before .before .if1 .taken) _ _ (c .before .before .put-token .ensures .0) (c .before .before .put-token .ensures .1)
+
+next-candidate-requires : tie.Need-next-candidate-requires Inv-loop μ-loop
+next-candidate-requires c κs = (still-sized (c .before .before .before .before .before .before .before .loop .inv) (c .before .before .before .before .before .before .loop-test .taken) (c .before .before .before .before .record-words .ensures .0) (c .before .before .before .before .record-words .ensures .1) (c .before .before .before .before .record-words .kept .1 .1 .0), (let l = c .before .before .before .before .before .before .loop-test .taken in omega (arith, c .before .before .before .before .before .before .before .loop .inv .size-is)))
+
+bfs-paths-graph-requires : tie.Need-bfs-paths-graph-requires Inv-loop μ-loop
+bfs-paths-graph-requires c κs = (start-one (c .before .before .before .before .before .before .before .before .before .before .loop .inv) (c .before .before .before .before .before .before .before .before .before .loop-test .taken) (c .before .before .before .before .before .before .before .record-words .ensures .0) (c .before .before .before .before .before .before .before .record-words .ensures .1) (c .before .before .before .before .before .before .before .record-words .kept .1 .1 .0) (c .before .before .next-candidate .ensures) (c .before .if2 .taken), ends-few (c .before .before .before .before .before .before .before .before .before .before .loop .inv))
+
+loop-less-2 : tie.Need-loop-less-2 Inv-loop μ-loop
+loop-less-2 c = let l = c .before .before .before .before .before .before .before .before .before .before .before .before .loop-test .taken in let n = c .before .before .before .before .before .next-candidate .ensures .above in omega arith
+
+loop-again-2 : tie.Need-loop-again-2 Inv-loop μ-loop
+loop-again-2 c = round-one (c .before .before .before .before .before .before .before .before .before .before .before .before .before .loop .inv) (c .before .before .before .before .before .before .before .before .before .before .before .before .loop-test .taken) (c .before .before .before .before .before .before .before .before .before .before .record-words .ensures .0) (c .before .before .before .before .before .before .before .before .before .before .record-words .ensures .1) (c .before .before .before .before .before .before .before .before .before .before .record-words .kept .1 .1 .0) (c .before .before .before .before .before .next-candidate .ensures) (c .before .before .before .before .if2 .taken) _ _ (c .before .before .bfs-paths-graph .kept .0) (c .before .before .bfs-paths-graph .ensures)
+
+sub-t32 : tie.Need-sub-t32 Inv-loop μ-loop
+sub-t32 c = let n = c .before .before .before .if1 .left in omega arith
+
+loop-less-3 : tie.Need-loop-less-3 Inv-loop μ-loop
+loop-less-3 c = let l = c .before .before .before .before .before .before .before .before .loop-test .taken in let n = c .before .next-candidate .ensures .above in omega arith
+
+loop-again-3 : tie.Need-loop-again-3 Inv-loop μ-loop
+loop-again-3 c = round-more (c .before .before .before .before .before .before .before .before .before .loop .inv) (c .before .before .before .before .before .before .before .before .loop-test .taken) (c .before .before .before .before .before .before .record-words .ensures .0) (c .before .before .before .before .before .before .record-words .ensures .1) (c .before .before .before .before .before .before .record-words .kept .1 .1 .0) (c .before .next-candidate .ensures) (c .before .before .before .if1 .left) (c .if2 .left)
+
+clear-requires : tie.Need-clear-requires Inv-loop μ-loop
+clear-requires c κs = ends-fit (c .before .before .loop .inv) (c .before .loop-test .left)
+
+same-length : tie.Need-same-length Inv-loop μ-loop
+same-length c = c .before .before .clear .kept .0 ∙ c .before .before .before .before .before .loop .inv .exact ∙ sym (c .before .before .before .before .before .before .before .before .before .before .before .before .before .pre .size)
+
+returns : tie.Need-returns Inv-loop μ-loop
+returns c = done (c .before .before .before .before .before .loop .inv) (c .before .before .before .before .loop-test .left) _ _ (c .before .before .before .before .before .before .before .before .before .before .before .before .before .pre) (c .before .before .before .before .before .loop .inv .exact ∙ sym (c .before .before .before .before .before .before .before .before .before .before .before .before .before .pre .size)) (c .before .before .clear .ensures)
+
+pub cut-rows-spec : {M : Type 1} → statement M
+cut-rows-spec =
+    tie.close
+    (tie.spec
+    Inv-loop
+    μ-loop
+    add-m
+    mul-flags
+    mul-flags-end
+    mul-tcc-flags
+    sub-tcc-flags
+    part-tcc-flags-start
+    part-tcc-flags-end
+    tcc-flags-requires
+    mul-row
+    mul-row-2
+    slice-write-row
+    loop-holds
+    record-words-requires
+    put-token-requires
+    add-ends
+    loop-less
+    loop-again
+    next-candidate-requires
+    bfs-paths-graph-requires
+    loop-less-2
+    loop-again-2
+    sub-t32
+    loop-less-3
+    loop-again-3
+    clear-requires
+    same-length
+    returns)

@@ -1,0 +1,10 @@
+pub mod Words
+pub mod NonThai
+pub mod NonDictionary
+pub mod Positions
+pub mod Search
+pub mod Cutting
+pub mod Longest
+pub mod Parts
+pub mod Modes
+pub mod Climbing

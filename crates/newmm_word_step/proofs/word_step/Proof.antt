@@ -1,0 +1,75 @@
+-- Assumes nothing.
+use native.Mathlib.Omega.{arith}
+use Rattle.newmm_word_step.proofs.Steps.{no-more, found-node, flag-index, unmarked-part, unended-part, whole-word}
+use borrow.Author.Needs.{needs}
+use Rattle.newmm_word_step.proofs.word_step.Statement.{statement}
+use Rattle.newmm_word_step.proofs.word_step.Tie as tie
+
+mul-find-child : tie.Need-mul-find-child
+mul-find-child c = search needs
+
+shared-slice-read-find-child : tie.Need-shared-slice-read-find-child
+shared-slice-read-find-child c = search needs
+
+find-child-requires : tie.Need-find-child-requires
+find-child-requires c κs = search needs
+
+enum-told : tie.Need-enum-told
+enum-told c = search needs
+
+enum-known-kid : tie.Need-enum-known-kid
+enum-known-kid c = search needs
+
+mul-if1 : tie.Need-mul-if1
+mul-if1 c = let n = found-node (c .before .before .before .before .before .before .before .before .pre) (c .before .before .before .find-child .ensures) (c .before .kid .given .1) in omega (arith, n .inside, n .fits)
+
+add-if1 : tie.Need-add-if1
+add-if1 c = let n = found-node (c .before .before .before .before .before .before .before .before .pre) (c .before .before .before .find-child .ensures) (c .before .kid .given .1) in omega (arith, n .inside, n .fits)
+
+mul-if1-2 : tie.Need-mul-if1-2
+mul-if1-2 c = let n = found-node (c .before .before .before .before .before .before .before .before .pre) (c .before .before .before .find-child .ensures) (c .before .kid .given .1) in omega (arith, n .inside, n .fits)
+
+shared-slice-read-if1 : tie.Need-shared-slice-read-if1
+shared-slice-read-if1 c = let n = found-node (c .before .before .before .before .before .before .before .before .before .pre) (c .before .before .before .before .find-child .ensures) (c .before .before .kid .given .1) in omega (arith, n .inside, n .fits)
+
+returns : tie.Need-returns
+returns c = unmarked-part (c .before .before .before .before .before .before .before .before .before .before .pre) (c .before .before .before .before .before .find-child .ensures) (c .before .before .before .kid .given .1) (c .if1 .taken)
+
+add-if2 : tie.Need-add-if2
+add-if2 c = search needs
+
+mul-if2 : tie.Need-mul-if2
+mul-if2 c = search needs
+
+shared-slice-read-if2 : tie.Need-shared-slice-read-if2
+shared-slice-read-if2 c = flag-index (c .before .before .before .before .before .before .before .before .before .before .before .pre) (c .before .before .before .before .before .before .find-child .ensures) (c .before .before .before .before .kid .given .1)
+
+returns-2 : tie.Need-returns-2
+returns-2 c = unended-part (c .before .before .before .before .before .before .before .before .before .before .before .before .pre) (c .before .before .before .before .before .before .before .find-child .ensures) (c .before .before .before .before .before .kid .given .1) (c .if2 .taken)
+
+returns-3 : tie.Need-returns-3
+returns-3 c = λ b w. no-more (c .before .before .before .before .before .before .before .pre) w _ (c .before .before .find-child .ensures) (c .enum-told .given .1)
+
+returns-4 : tie.Need-returns-4
+returns-4 c = whole-word (c .before .before .before .before .before .before .before .before .before .before .before .before .pre) (c .before .before .before .before .before .before .before .find-child .ensures) (c .before .before .before .before .before .kid .given .1) (c .before .before .if1 .left) (c .if2 .left)
+
+pub word-step-spec : {M : Type 1} → statement M
+word-step-spec =
+    tie.close
+    (tie.spec
+    mul-find-child
+    shared-slice-read-find-child
+    find-child-requires
+    enum-told
+    enum-known-kid
+    mul-if1
+    add-if1
+    mul-if1-2
+    shared-slice-read-if1
+    returns
+    add-if2
+    mul-if2
+    shared-slice-read-if2
+    returns-2
+    returns-3
+    returns-4)

@@ -1,0 +1,50 @@
+// A pool as it is lent: which of its cells are read and written, whether it is a dictionary, and the refusals that every operation on a text gives.
+// For our own crates.
+mod rules;
+
+use crate::rules::well_formed;
+use char_string::check_text;
+use refusal::Answer;
+use refusal::Refusal;
+use trie_pool::MAX_NODES;
+ghost use mathlib.Core.Path.{_≡_};
+ghost use Prim.Native.Nat.{_/_, min};
+ghost use lib.ListN.{length};
+ghost use Rattle.refusal.specs.Answers.{answer};
+ghost use Rattle.trie_pool.specs.Rules.{isDictionary};
+ghost use Rattle.trie_pool.specs.Meaning.{meaning};
+ghost use Rattle.trie_check.specs.Refusals.{readRows};
+
+// The nodes that a pool of so many cells has room for.
+pub fn capacity(cells: usize) -> usize
+    ensures { λ r. ⌜ r ≡ min (cells / 8) 1048576 ⌝ }
+{
+    if cells / 8 < MAX_NODES {
+        return cells / 8;
+    }
+    MAX_NODES
+}
+
+// Whether the pool is a dictionary.
+pub fn is_dictionary(pool: &[u32]) -> bool
+    ensures { λ r. ⌜ r ≡ isDictionary (now (pool .entry)) ⌝ }
+{
+    let cells = 8 * capacity(pool.len());
+    well_formed(&pool[..cells])
+}
+
+// Refusals 2, 3 and 4, accepted with the text's length.
+pub fn check(pool: &[u32], text: &[u32]) -> Answer
+    ensures { λ r. ⌜ r ≡ answer (readRows (now (text .entry)) (meaning (now (pool .entry)))) (length (now (text .entry))) ⌝ }
+{
+    let first = check_text(text);
+    match first {
+        Answer::Refused(r) => Answer::Refused(r),
+        Answer::Accepted(n) => {
+            if !is_dictionary(pool) {
+                return Answer::Refused(Refusal::NotADictionary);
+            }
+            Answer::Accepted(n)
+        }
+    }
+}
