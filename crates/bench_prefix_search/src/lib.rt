@@ -2,7 +2,7 @@
 use trie_search::prefix_lengths;
 ghost use Rattle.trie_pool.specs.Words.{holds};
 ghost use Rattle.trie_pool.specs.Meaning.{prefixLengths};
-ghost use Rattle.trie_search.specs.Search.{Asks, Wrote};
+ghost use Rattle.trie_search.specs.inner.Search.{Asks, Wrote};
 
 // Writes the lengths of the words that the text starts with to the front of out, and returns their number.
 #[no_mangle]

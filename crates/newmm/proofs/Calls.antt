@@ -14,13 +14,14 @@ use Rattle.refusal.specs.declared.Refusal.{Refusal}
 use Rattle.refusal.specs.declared.Refusal.the-variants.{ScratchTooShort, OutputTooShort}
 use Rattle.refusal.specs.declared.Answer.{Answer}
 use Rattle.refusal.specs.declared.Answer.the-variants.{Accepted, Refused}
-use Rattle.refusal.specs.Answers.{Row, answer, output}
+use Rattle.refusal.specs.Answers.{Cause, answer, output}
 use Rattle.refusal.proofs.Order.{refused-first, accepted-first}
 use Rattle.trie_pool.specs.Words.{holds}
 use Rattle.trie_pool.specs.Rules.{isDictionary}
 use Rattle.trie_pool.specs.Meaning.{Words, meaning}
-use Rattle.trie_check.specs.Refusals.{held, readRows}
-use Rattle.trie_check.proofs.Rows.{None, none-of, again, still, row-yes, row-kept, read-of}
+use Rattle.trie_check.specs.Refusals.{held, readCauses}
+use Rattle.refusal.proofs.Causes.{None, none-of, again, still, cause-yes, cause-kept}
+use Rattle.trie_check.proofs.Refusals.{read-of}
 use Rattle.trie_check.proofs.Parts.{known-is, readable, held-part}
 use Rattle.newmm_rules.specs.Cutting.{Cut}
 use Rattle.newmm_one_cut.specs.declared.Ends.{Ends}
@@ -30,38 +31,38 @@ use Rattle.newmm_rules.proofs.Modes.{modes-climb}
 use Rattle.newmm_answers.proofs.Plain.{plain-right}
 use Rattle.newmm_answers.specs.declared.CutAnswer.{CutAnswer}
 use Rattle.newmm_answers.specs.declared.CutAnswer.the-variants as variants
-use Rattle.newmm_answers.specs.Answers.{plainCut, cutOf, scratchRows, outRows, firstRows, accepts, told, cutAnswer, outAfter, cleared, scratchAfter}
-use Rattle.newmm_segment.specs.Rows.{Ready, Written}
+use Rattle.newmm_answers.specs.Answers.{plainCut, cutOf, scratchCauses, outCauses, firstCauses, accepts, told, cutAnswer, outAfter, cleared, scratchAfter}
+use Rattle.newmm_segment.specs.inner.Written.{Ready, Written}
 use Rattle.newmm_segment.proofs.Samples.{front, behind, fits}
-use Rattle.newmm.specs.Calls.{Passes}
+use Rattle.newmm.specs.inner.Calls.{Passes}
 
 -- ---- refusals 2 to 5
 
-module _ (text pool : List ℕ) (cells : ℕ) {a : Answer} (is : a ≡ answer (readRows text (meaning pool)) (length text)) where
-  abbrev scratchRow : Row
-  scratchRow = record { refusal = ScratchTooShort (9 * length text + 128); holds = ltb cells (9 * length text + 128) }
+module _ (text pool : List ℕ) (cells : ℕ) {a : Answer} (is : a ≡ answer (readCauses text (meaning pool)) (length text)) where
+  abbrev scratchCause : Cause
+  scratchCause = record { refusal = ScratchTooShort (9 * length text + 128); holds = ltb cells (9 * length text + 128) }
 
-  pub refused-early : {r : Refusal} → a ≡ Refused r → Refused r ≡ answer (firstRows text (meaning pool) cells) (length text)
-  refused-early e = sym (refused-first (readRows text (meaning pool)) (scratchRows text cells) (length text) (length text) (sym is ∙ e))
+  pub refused-early : {r : Refusal} → a ≡ Refused r → Refused r ≡ answer (firstCauses text (meaning pool) cells) (length text)
+  refused-early e = sym (refused-first (readCauses text (meaning pool)) (scratchCauses text cells) (length text) (length text) (sym is ∙ e))
 
   module _ {n : ℕ} (yes′ : a ≡ Accepted n) where
-    first : answer (readRows text (meaning pool)) (length text) ≡ Accepted n
+    first : answer (readCauses text (meaning pool)) (length text) ≡ Accepted n
     first = sym is ∙ yes′
 
     pub size-is : n ≡ length text
-    size-is = let q : Accepted (length text) ≡ Accepted n = again (readRows text (meaning pool)) (length text) (length text) first ∙ first in cc
+    size-is = let q : Accepted (length text) ≡ Accepted n = again (readCauses text (meaning pool)) (length text) (length text) first ∙ first in cc
 
     pub short : length text ≤ 65535
     short = read-of text (meaning pool) (length text) n first .short
 
-    pub refused-scratch : (k : ℕ) → k ≡ 9 * n + 128 → cells < k → Refused (ScratchTooShort k) ≡ answer (firstRows text (meaning pool) cells) (length text)
+    pub refused-scratch : (k : ℕ) → k ≡ 9 * n + 128 → cells < k → Refused (ScratchTooShort k) ≡ answer (firstCauses text (meaning pool) cells) (length text)
     refused-scratch k e l =
         let q : k ≡ 9 * length text + 128 = omega (arith, size-is) in
         ap (λ (z : ℕ). Refused (ScratchTooShort z)) q
-        ∙ row-yes (readRows text (meaning pool)) scratchRow (length text) (length text) first (lt-ltb cells (9 * length text + 128) (omega arith))
+        ∙ cause-yes (readCauses text (meaning pool)) scratchCause (length text) (length text) first (lt-ltb cells (9 * length text + 128) (omega arith))
 
-    pub accepted-early : (k : ℕ) → k ≡ 9 * n + 128 → k ≤ cells → Accepted n ≡ answer (firstRows text (meaning pool) cells) (length text)
-    accepted-early k e l = row-kept (readRows text (meaning pool)) scratchRow (length text) first (le-ltb cells (9 * length text + 128) (omega (arith, size-is)))
+    pub accepted-early : (k : ℕ) → k ≡ 9 * n + 128 → k ≤ cells → Accepted n ≡ answer (firstCauses text (meaning pool) cells) (length text)
+    accepted-early k e l = cause-kept (readCauses text (meaning pool)) scratchCause (length text) first (le-ltb cells (9 * length text + 128) (omega (arith, size-is)))
 
 -- ---- a call that passes
 
@@ -77,8 +78,8 @@ pub cleared-all : (row : List ℕ) {row₁ : List ℕ} → row₁ ≡ replicate 
 cleared-all row e = e ∙ ap (λ (l : List ℕ). replicate {A = ℕ} (length row) 0 ++ l) (drop-length row) ∙ append-nil (replicate {A = ℕ} (length row) 0)
 
 module _ (mode : Mode) (text pool : List ℕ) (cells : ℕ) (p : Passes text pool cells) where
-  rows : None (firstRows text (meaning pool) cells)
-  rows = none-of (firstRows text (meaning pool) cells) 0 0 (p .accepted)
+  rows : None (firstCauses text (meaning pool) cells)
+  rows = none-of (firstCauses text (meaning pool) cells) 0 0 (p .accepted)
 
   known : isDictionary pool ≡ true
   known = known-is pool (rows .1 .1 .0)
@@ -135,8 +136,8 @@ module _ (mode : Mode) (text pool : List ℕ) (cells : ℕ) (p : Passes text poo
           in
           e ∙ ap (λ (x : List ℕ). replicate {A = ℕ} (r .ends) 0 ++ x) (behind v ∙ y) ∙ replicate-append-replicate {A = ℕ} (r .ends) (cells - r .ends) 0 ∙ ap (λ (k : ℕ). replicate {A = ℕ} k 0) (sym d)
 
-      late : (room : ℕ) → accepts mode text (meaning pool) cells room ≡ answer (outRows (whole .ends) room) (length (whole .ends))
-      late room = accepted-first (firstRows text (meaning pool) cells) (outRows (whole .ends) room) 0 (length (whole .ends)) (p .accepted)
+      late : (room : ℕ) → accepts mode text (meaning pool) cells room ≡ answer (outCauses (whole .ends) room) (length (whole .ends))
+      late room = accepted-first (firstCauses text (meaning pool) cells) (outCauses (whole .ends) room) 0 (length (whole .ends)) (p .accepted)
 
       accepts-no : (room : ℕ) → room < r .ends → accepts mode text (meaning pool) cells room ≡ Refused (OutputTooShort (r .ends))
       accepts-no room h =
@@ -168,13 +169,13 @@ module _ (mode : Mode) (text pool : List ℕ) (cells : ℕ) (p : Passes text poo
 
 -- ---- the whole call
 
-module _ (mode : Mode) (text pool scratch : List ℕ) {a : Answer} (is : a ≡ answer (firstRows text (meaning pool) (length scratch)) (length text)) where
+module _ (mode : Mode) (text pool scratch : List ℕ) {a : Answer} (is : a ≡ answer (firstCauses text (meaning pool) (length scratch)) (length text)) where
   module _ {r : Refusal} (no′ : a ≡ Refused r) where
-    refused : (m : ℕ) → answer (firstRows text (meaning pool) (length scratch)) m ≡ Refused r
-    refused m = sym (still (firstRows text (meaning pool) (length scratch)) (length text) m (sym is ∙ no′))
+    refused : (m : ℕ) → answer (firstCauses text (meaning pool) (length scratch)) m ≡ Refused r
+    refused m = sym (still (firstCauses text (meaning pool) (length scratch)) (length text) m (sym is ∙ no′))
 
     all-refused : (room : ℕ) → accepts mode text (meaning pool) (length scratch) room ≡ Refused r
-    all-refused room = refused-first (firstRows text (meaning pool) (length scratch)) (outRows (cutOf mode (held (meaning pool)) text .ends) room) 0 _ (refused 0)
+    all-refused room = refused-first (firstCauses text (meaning pool) (length scratch)) (outCauses (cutOf mode (held (meaning pool)) text .ends) room) 0 _ (refused 0)
 
     pub early-answer : (room : ℕ) → variants.Refused r ≡ cutAnswer mode text (meaning pool) (length scratch) room
     early-answer room = sym (ap (λ (x : Answer). told x (cutOf mode (held (meaning pool)) text .edges)) (all-refused room))
@@ -187,7 +188,7 @@ module _ (mode : Mode) (text pool scratch : List ℕ) {a : Answer} (is : a ≡ a
 
   module _ {n : ℕ} (yes′ : a ≡ Accepted n) where
     pub passes : Passes text pool (length scratch)
-    passes = record { accepted = sym (again (firstRows text (meaning pool) (length scratch)) (length text) 0 (sym is ∙ yes′)) }
+    passes = record { accepted = sym (again (firstCauses text (meaning pool) (length scratch)) (length text) 0 (sym is ∙ yes′)) }
 
     pub late-scratch : replicate {A = ℕ} (length scratch) 0 ≡ scratchAfter text (meaning pool) scratch
     late-scratch = sym (ap (λ (x : Answer). cleared x scratch) (passes .accepted))

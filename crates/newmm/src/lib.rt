@@ -12,12 +12,12 @@ ghost use mathlib.Core.Path.{_≡_};
 ghost use lib.ListN.{length, replicate};
 ghost use Rattle.refusal.specs.Answers.{answer};
 ghost use Rattle.trie_pool.specs.Meaning.{meaning};
-ghost use Rattle.newmm_answers.specs.Answers.{firstRows, cutAnswer, outAfter, scratchAfter};
-ghost use Rattle.newmm.specs.Calls.{Passes};
+ghost use Rattle.newmm_answers.specs.Answers.{firstCauses, cutAnswer, outAfter, scratchAfter};
+ghost use Rattle.newmm.specs.inner.Calls.{Passes};
 
 // Refusals 2, 3, 4 and 5, by the number of scratch cells; accepted with the text's length.
 fn check_cut(text: &[u32], pool: &[u32], cells: usize) -> Answer
-    ensures { λ r. ⌜ r ≡ answer (firstRows (now (text .entry)) (meaning (now (pool .entry))) cells) (length (now (text .entry))) ⌝ }
+    ensures { λ r. ⌜ r ≡ answer (firstCauses (now (text .entry)) (meaning (now (pool .entry))) cells) (length (now (text .entry))) ⌝ }
 {
     let first = check(pool, text);
     match first {

@@ -7,9 +7,9 @@ use lib.ListN.{length, replicate}
 use Rattle.refusal.specs.declared.Refusal.the-variants.{ScratchTooShort, OutputTooShort}
 use Rattle.refusal.specs.declared.Answer.{Answer}
 use Rattle.refusal.specs.declared.Answer.the-variants.{Accepted, Refused}
-use Rattle.refusal.specs.Answers.{Row, answer, output}
+use Rattle.refusal.specs.Answers.{Cause, answer, output}
 use Rattle.trie_pool.specs.Meaning.{Words}
-use Rattle.trie_check.specs.Refusals.{held, readRows}
+use Rattle.trie_check.specs.Refusals.{held, readCauses}
 use Rattle.tcc.specs.Flags.{isEnd}
 use Rattle.newmm_rules.specs.Cutting.{Cut, cut}
 use Rattle.newmm_rules.specs.declared.Mode.{Mode}
@@ -27,24 +27,24 @@ unfoldable pub cutOf : Mode → Words → List ℕ → Cut
 cutOf mode words text = segmented mode (plainCut words) text
 
 -- 5: scratch has fewer than 9n+128 cells; 9n+128.
-abbrev pub scratchRows : List ℕ → ℕ → List Row
-scratchRows text cells = record { refusal = ScratchTooShort (9 * length text + 128); holds = ltb cells (9 * length text + 128) } ∷ []
+abbrev pub scratchCauses : List ℕ → ℕ → List Cause
+scratchCauses text cells = record { refusal = ScratchTooShort (9 * length text + 128); holds = ltb cells (9 * length text + 128) } ∷ []
 
 -- 6: the output has fewer cells than the answer; cells needed.
-abbrev pub outRows : List ℕ → ℕ → List Row
-outRows ends room = record { refusal = OutputTooShort (length ends); holds = ltb room (length ends) } ∷ []
+abbrev pub outCauses : List ℕ → ℕ → List Cause
+outCauses ends room = record { refusal = OutputTooShort (length ends); holds = ltb room (length ends) } ∷ []
 
 -- 2, 3, 4, 5: before any cutting is done. `cells` is the number of scratch cells.
-abbrev pub firstRows : List ℕ → Option Words → ℕ → List Row
-firstRows text pool cells = readRows text pool ++ scratchRows text cells
+abbrev pub firstCauses : List ℕ → Option Words → ℕ → List Cause
+firstCauses text pool cells = readCauses text pool ++ scratchCauses text cells
 
 -- Cutting: 2, 3, 4, 5, 6. `room` is the number of output cells.
-abbrev pub cutRows : Mode → List ℕ → Option Words → ℕ → ℕ → List Row
-cutRows mode text pool cells room = firstRows text pool cells ++ outRows (cutOf mode (held pool) text .ends) room
+abbrev pub cutCauses : Mode → List ℕ → Option Words → ℕ → ℕ → List Cause
+cutCauses mode text pool cells room = firstCauses text pool cells ++ outCauses (cutOf mode (held pool) text .ends) room
 
 -- The call is accepted with the number of ends, or refused.
 abbrev pub accepts : Mode → List ℕ → Option Words → ℕ → ℕ → Answer
-accepts mode text pool cells room = answer (cutRows mode text pool cells room) (length (cutOf mode (held pool) text .ends))
+accepts mode text pool cells room = answer (cutCauses mode text pool cells room) (length (cutOf mode (held pool) text .ends))
 
 -- The result carries the number of ends and reports the number of edges recorded in the whole call.
 abbrev pub told : Answer → ℕ → CutAnswer
@@ -64,4 +64,4 @@ cleared (Accepted n) scratch = replicate (length scratch) 0
 cleared (Refused r) scratch = scratch
 
 abbrev pub scratchAfter : List ℕ → Option Words → List ℕ → List ℕ
-scratchAfter text pool scratch = cleared (answer (firstRows text pool (length scratch)) 0) scratch
+scratchAfter text pool scratch = cleared (answer (firstCauses text pool (length scratch)) 0) scratch

@@ -1,4 +1,4 @@
-pub mod Rows
+pub mod Strips
 pub mod Searching
 pub mod Tracing
 pub mod Same

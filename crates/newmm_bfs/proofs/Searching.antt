@@ -13,9 +13,9 @@ use borrow.Author.Tests.{eq-eqb, ne-eqb, eqb-true, eqb-false}
 use Rattle.newmm_rules.specs.Positions.{any, member, howMany}
 use Rattle.newmm_rules.specs.Search.{Graph, Way, farther, Queue, queued, Passed, passed, after, searched, pathTo}
 use Rattle.newmm_rules.proofs.Counting.{many-all}
-use Rattle.newmm_bfs.specs.Rows.{Sized, graphIn, before, unmarked, tailAfter, rowAfter, Edges, Start, Kept}
-use Rattle.newmm_bfs.specs.Ways.{Trace, home, step, Reaches}
-use Rattle.newmm_bfs.proofs.Rows.{above-same, graph-same, after-old, marked, after-new, size-new, low-new, high-new, before-new, before-other, queue-new, queue-old, marked-less}
+use Rattle.newmm_bfs.specs.inner.Strips.{Sized, graphIn, before, unmarked, tailAfter, rowAfter, Edges, Start, Kept}
+use Rattle.newmm_bfs.specs.inner.Ways.{Trace, home, step, Reaches}
+use Rattle.newmm_bfs.proofs.Strips.{above-same, graph-same, after-old, marked, after-new, size-new, low-new, high-new, before-new, before-other, queue-new, queue-old, marked-less}
 
 -- the cells that a search doesn't touch
 pub record Agree (m : ℕ) (row row′ : List ℕ) : Type 0 where

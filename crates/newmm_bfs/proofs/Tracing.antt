@@ -7,8 +7,8 @@ use mathlib.Core.List.{List, [], _∷_, _++_, append-nil, append-assoc}
 use lib.ListN.{length, getD, set, take, drop, length-append, length-drop, take-append-drop}
 use lib.Seq.{append-snoc, take-suc, set-at, take-at, drop-at, length-take-le, getD-append-add, getD-drop, take-suc-set, drop-drop, getD-set-other, drop-set-lt, take-take}
 use Rattle.newmm_rules.specs.Search.{pathTo}
-use Rattle.newmm_bfs.specs.Rows.{Sized, graphIn, before, Start, Kept, Path}
-use Rattle.newmm_bfs.specs.Ways.{Trace, home, step, Traced, TracedBy, Reaches, FoundIs}
+use Rattle.newmm_bfs.specs.inner.Strips.{Sized, graphIn, before, Start, Kept, Path}
+use Rattle.newmm_bfs.specs.inner.Ways.{Trace, home, step, Traced, TracedBy, Reaches, FoundIs}
 use Rattle.newmm_bfs.specs.declared.Found.{Found}
 use Rattle.newmm_bfs.specs.declared.Found.the-variants.{Last, Nowhere}
 

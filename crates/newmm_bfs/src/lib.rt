@@ -6,8 +6,8 @@ ghost use mathlib.Core.Path.{_≡_};
 ghost use Prim.Native.Nat.{ℕ, _<_, _≤_, _+_, _*_};
 ghost use mathlib.Core.List.{List, _++_};
 ghost use lib.ListN.{length, take, drop};
-ghost use Rattle.newmm_bfs.specs.Rows.{Sized, before, tailAfter, rowAfter, Start, Kept, Path};
-ghost use Rattle.newmm_bfs.specs.Ways.{Trace, Traced, TracedBy, FoundIs};
+ghost use Rattle.newmm_bfs.specs.inner.Strips.{Sized, before, tailAfter, rowAfter, Start, Kept, Path};
+ghost use Rattle.newmm_bfs.specs.inner.Ways.{Trace, Traced, TracedBy, FoundIs};
 
 // What a search finds: the vertex from which an edge reaches the goal, or nothing.
 pub enum Found {

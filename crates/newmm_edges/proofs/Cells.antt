@@ -6,8 +6,8 @@ use mathlib.Core.Path.{_≡_, sym, _∙_, ap}
 use mathlib.Core.List.{List, [], _∷_, _++_}
 use lib.ListN.{length, getD, set, take, drop, length-set, length-drop}
 use lib.Seq.{getD-set-same, getD-set-other, take-set-le, drop-set-lt, drop-set-add, take-suc-set}
-use Rattle.newmm_bfs.specs.Rows.{Sized, graphIn}
-use Rattle.newmm_edges.specs.Recording.{rowAfter}
+use Rattle.newmm_bfs.specs.inner.Strips.{Sized, graphIn}
+use Rattle.newmm_edges.specs.inner.Recording.{rowAfter}
 
 -- a store behind a part, and one right behind it
 part-above : (row : List ℕ) (at c i x : ℕ) → at + c ≤ i → take c (drop at (set row i x)) ≡ take c (drop at row)

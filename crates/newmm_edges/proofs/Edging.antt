@@ -13,9 +13,9 @@ use Rattle.newmm_rules.specs.Positions.{any, member, inserted}
 use Rattle.newmm_rules.specs.Cutting.{State, recorded, graphOf}
 use Rattle.newmm_rules.proofs.Positions.{In, not-in, put-only, put-size}
 use Rattle.newmm_rules.proofs.Edges.{graph-more, one-more, one-counted}
-use Rattle.newmm_bfs.specs.Rows.{Sized, graphIn}
+use Rattle.newmm_bfs.specs.inner.Strips.{Sized, graphIn}
 use Rattle.newmm_edges.specs.declared.Progress.{Progress}
-use Rattle.newmm_edges.specs.Recording.{rowAfter, progressAfter, Rows, Counts, Alone}
+use Rattle.newmm_edges.specs.inner.Recording.{rowAfter, progressAfter, Rows, Counts, Alone}
 use Rattle.newmm_edges.proofs.Cells.{low-same, cell-same, count-new, mark-new, flags-same, graph-other, graph-here}
 
 -- while words at b are recorded, of which the edges start at first

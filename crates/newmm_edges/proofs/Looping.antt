@@ -11,15 +11,15 @@ use borrow.Author.Tests.{eq-eqb, ne-eqb, lt-ltb, le-ltb}
 use Rattle.newmm_rules.specs.Words.{Given, size, wordEnds}
 use Rattle.newmm_rules.specs.Cutting.{State, recorded, recordedAll, graphOf}
 use Rattle.newmm_rules.proofs.Lengths.{behind, behind-all, behind-end, behind-none, behind-word, behind-part}
-use Rattle.newmm_bfs.specs.Rows.{Sized, graphIn}
+use Rattle.newmm_bfs.specs.inner.Strips.{Sized, graphIn}
 use Rattle.tcc.specs.Flags.{endFlags}
-use Rattle.trie_pool.specs.Sound.{Readable}
+use Rattle.trie_pool.specs.inner.Sound.{Readable}
 use Rattle.newmm_word_step.specs.declared.Step.{Step}
 use Rattle.newmm_word_step.specs.declared.Step.the-variants.{Nothing, Word, Part}
-use Rattle.newmm_word_step.specs.Walks.{givenBy, Walked, Asks, Next, StepIs}
+use Rattle.newmm_word_step.specs.inner.Walks.{givenBy, Walked, Asks, Next, StepIs}
 use Rattle.newmm_word_step.proofs.Steps.{start-walk}
 use Rattle.newmm_edges.specs.declared.Progress.{Progress}
-use Rattle.newmm_edges.specs.Recording.{rowAfter, progressAfter, Rows, Counts, Here, Alone, After, RecordsAll}
+use Rattle.newmm_edges.specs.inner.Recording.{rowAfter, progressAfter, Rows, Counts, Here, Alone, After, RecordsAll}
 use Rattle.newmm_edges.proofs.Cells.{size-same}
 use Rattle.newmm_edges.proofs.Edging.{Mid, mid-done, mid-more, counts-more, alone-more}
 

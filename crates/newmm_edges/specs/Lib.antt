@@ -1,1 +1,1 @@
-pub mod Recording
+pub mod inner

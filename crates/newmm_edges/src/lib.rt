@@ -6,8 +6,8 @@ use newmm_word_step::word_step;
 ghost use mathlib.Core.Path.{_≡_};
 ghost use Prim.Native.Nat.{ℕ, _+_, _≤_, _<_};
 ghost use lib.ListN.{length};
-ghost use Rattle.newmm_bfs.specs.Rows.{Sized};
-ghost use Rattle.newmm_edges.specs.Recording.{rowAfter, progressAfter, Here, Alone, RecordsAll};
+ghost use Rattle.newmm_bfs.specs.inner.Strips.{Sized};
+ghost use Rattle.newmm_edges.specs.inner.Recording.{rowAfter, progressAfter, Here, Alone, RecordsAll};
 
 // The most edges that stand before a place stops recording.
 const MAX_GRAPH_SIZE: usize = 50;

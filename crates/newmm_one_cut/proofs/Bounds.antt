@@ -12,12 +12,12 @@ use Rattle.newmm_rules.specs.Positions.{any, member}
 use Rattle.newmm_rules.specs.Words.{Given, size}
 use Rattle.newmm_rules.specs.Cutting.{State, begin, turns, cut}
 use Rattle.newmm_rules.proofs.Turns.{Between, at-first, turn-off}
-use Rattle.newmm_bfs.specs.Rows.{before}
+use Rattle.newmm_bfs.specs.inner.Strips.{before}
 use Rattle.tcc.specs.Flags.{endFlags}
 use Rattle.tcc.proofs.Marks.{ends-long}
-use Rattle.newmm_word_step.specs.Walks.{givenBy}
+use Rattle.newmm_word_step.specs.inner.Walks.{givenBy}
 use Rattle.newmm_edges.specs.declared.Progress.{Progress}
-use Rattle.newmm_one_cut.specs.Rows.{Fresh, Done}
+use Rattle.newmm_one_cut.specs.inner.Strips.{Fresh, Done}
 use Rattle.newmm_one_cut.proofs.Rounds.{Round, b-inside, ends-few, committed-low}
 
 first-marks : (row : List ℕ) (m x : ℕ) → getD row (5 * m) 0 ≡ 1 → ((x ≡ 0 → ⊥) → getD row (5 * m + x) 0 ≡ 0) → member x (0 ∷ []) ≡ not (eqb (getD row (5 * m + x) 0) 0)

@@ -21,15 +21,15 @@ use Rattle.newmm_rules.proofs.Edges.{graph-in, few-stand}
 use Rattle.newmm_rules.proofs.Tokens.{few-tokens}
 use Rattle.newmm_rules.proofs.Recording.{Placing}
 use Rattle.newmm_rules.proofs.Turns.{Between, Turned, afterWords, At, turn-at}
-use Rattle.newmm_bfs.specs.Rows.{Sized, graphIn, before, Edges, Start, Path}
-use Rattle.newmm_bfs.proofs.Rows.{above-same, drop-same}
+use Rattle.newmm_bfs.specs.inner.Strips.{Sized, graphIn, before, Edges, Start, Path}
+use Rattle.newmm_bfs.proofs.Strips.{above-same, drop-same}
 use Rattle.newmm_bfs.proofs.Same.{path-same}
 use Rattle.tcc.specs.Flags.{endFlags}
-use Rattle.trie_pool.specs.Sound.{Readable}
-use Rattle.newmm_word_step.specs.Walks.{givenBy}
+use Rattle.trie_pool.specs.inner.Sound.{Readable}
+use Rattle.newmm_word_step.specs.inner.Walks.{givenBy}
 use Rattle.newmm_edges.specs.declared.Progress.{Progress}
-use Rattle.newmm_edges.specs.Recording.{Rows, Counts, Here, Alone, After, RecordsAll}
-use Rattle.newmm_one_cut.specs.Rows.{NextIs, TokenAt}
+use Rattle.newmm_edges.specs.inner.Recording.{Rows, Counts, Here, Alone, After, RecordsAll}
+use Rattle.newmm_one_cut.specs.inner.Strips.{NextIs, TokenAt}
 
 -- the rows stand for the state s of the definition, whose least candidate is b
 pub record Round (text pool row : List ℕ) (m b committed ends : ℕ) (p : Progress) : Type 0 where

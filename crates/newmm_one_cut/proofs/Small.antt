@@ -6,7 +6,7 @@ use mathlib.Core.Path.{_≡_, refl, sym, _∙_, ap}
 use mathlib.Core.List.{List, _++_}
 use lib.ListN.{length, getD, set, take, replicate, length-set, length-append, length-replicate, getD-replicate, List·getD-append}
 use lib.Seq.{getD-set-same, getD-set-other, getD-take, ext-getD, length-take-le, getD-append-add}
-use Rattle.newmm_one_cut.specs.Rows.{NextIs}
+use Rattle.newmm_one_cut.specs.inner.Strips.{NextIs}
 
 -- ---- the next candidate
 

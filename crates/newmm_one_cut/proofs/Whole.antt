@@ -9,9 +9,9 @@ use lib.Seq.{getD-take, length-take-le, drop-append-le}
 use Rattle.newmm_rules.specs.Words.{size}
 use Rattle.newmm_rules.specs.Cutting.{cut}
 use Rattle.newmm_rules.proofs.Result.{ends-most}
-use Rattle.newmm_word_step.specs.Walks.{givenBy}
+use Rattle.newmm_word_step.specs.inner.Walks.{givenBy}
 use Rattle.newmm_one_cut.specs.declared.Ends.{Ends}
-use Rattle.newmm_one_cut.specs.Rows.{Fresh, Lent, Done}
+use Rattle.newmm_one_cut.specs.inner.Strips.{Fresh, Lent, Done}
 
 -- 9n + 128 CELLS ARE ALWAYS ENOUGH.
 pub enough : (n cells : ℕ) → 9 * n + 128 ≤ cells → 8 * n + 58 ≤ cells

@@ -10,9 +10,9 @@ ghost use Prim.Native.Nat.{ℕ, _+_, _*_, _-_, _≤_, _<_};
 ghost use mathlib.Core.List.{_++_};
 ghost use lib.ListN.{length, take, set, getD, replicate};
 ghost use Rattle.newmm_rules.specs.NonDictionary.{tokenEnd};
-ghost use Rattle.newmm_bfs.specs.Rows.{Sized};
-ghost use Rattle.newmm_word_step.specs.Walks.{givenBy};
-ghost use Rattle.newmm_one_cut.specs.Rows.{NextIs, TokenAt, Fresh, Lent, Done};
+ghost use Rattle.newmm_bfs.specs.inner.Strips.{Sized};
+ghost use Rattle.newmm_word_step.specs.inner.Walks.{givenBy};
+ghost use Rattle.newmm_one_cut.specs.inner.Strips.{NextIs, TokenAt, Fresh, Lent, Done};
 
 // The number of ends, and the number of edges recorded in the whole call.
 pub struct Ends {

@@ -10,7 +10,7 @@ use lib.Dec.{leb}
 use borrow.Author.Tests.{leb-true, leb-false, le-leb, lt-leb}
 use Rattle.newmm_rules.specs.Climbing.{Climbs, there, up}
 use Rattle.newmm_rules.specs.Longest.{lengths, longest, beforeLongest}
-use Rattle.newmm_segment.specs.Rows.{Rising}
+use Rattle.newmm_segment.specs.inner.Written.{Rising}
 
 -- the start of the longest of the tokens so far, which start before `from`, and of those still to come
 unfoldable pub best : ℕ → ℕ → ℕ → List ℕ → ℕ

@@ -14,7 +14,7 @@ use Rattle.newmm_rules.specs.declared.Mode.the-variants.{Plain, Safe}
 use Rattle.newmm_rules.specs.Parts.{runsOf}
 use Rattle.newmm_rules.specs.Modes.{joined, inParts, unshifted, segmented}
 use Rattle.newmm_answers.specs.Answers.{plainCut, cutOf}
-use Rattle.newmm_segment.specs.Rows.{Written}
+use Rattle.newmm_segment.specs.inner.Written.{Written}
 
 module _ (words : Words) (text : List ℕ) (mode : Mode) where
   pub plain-is : mode ≡ Plain → plainCut words text ≡ cutOf mode words text

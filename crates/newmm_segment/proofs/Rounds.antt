@@ -25,7 +25,7 @@ use Rattle.newmm_rules.proofs.Climbing as climbing
 use Rattle.newmm_rules.proofs.Samples.{Fits, Right, cut-inside}
 use Rattle.newmm_answers.specs.Answers.{plainCut}
 use Rattle.newmm_segment.specs.declared.Part.{Part}
-use Rattle.newmm_segment.specs.Rows.{Ready, Written, shiftedCut, firstOf, FirstPart}
+use Rattle.newmm_segment.specs.inner.Written.{Ready, Written, shiftedCut, firstOf, FirstPart}
 use Rattle.newmm_segment.proofs.Samples.{sample-few}
 use Rattle.newmm_segment.proofs.Behind.{behind}
 

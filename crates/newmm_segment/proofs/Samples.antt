@@ -11,8 +11,8 @@ use Rattle.char_string.specs.Blanks.{lastSpace}
 use Rattle.trie_pool.specs.Words.{holds}
 use Rattle.newmm_rules.specs.Cutting.{Cut}
 use Rattle.newmm_one_cut.specs.declared.Ends.{Ends}
-use Rattle.newmm_word_step.specs.Walks.{givenBy}
-use Rattle.newmm_one_cut.specs.Rows.{Lent, Done}
+use Rattle.newmm_word_step.specs.inner.Walks.{givenBy}
+use Rattle.newmm_one_cut.specs.inner.Strips.{Lent, Done}
 use Rattle.cells.proofs.Filling.{map-long}
 use Rattle.newmm_rules.specs.Climbing.{Climbs, there, up}
 use Rattle.newmm_rules.specs.Longest.{lengths, beforeLongest}
@@ -23,7 +23,7 @@ use Rattle.newmm_rules.proofs.Samples.{Fits, Right, space-inside, starts-inside
 use Rattle.newmm_answers.specs.Answers.{plainCut}
 use Rattle.newmm_segment.specs.declared.Part.{Part}
 use Rattle.newmm_segment.specs.declared.PartEnd.{PartEnd}
-use Rattle.newmm_segment.specs.Rows.{Rising, Ready, Written, shiftedCut, Sampled, firstOf, FirstPart}
+use Rattle.newmm_segment.specs.inner.Written.{Rising, Ready, Written, shiftedCut, Sampled, firstOf, FirstPart}
 
 -- a text that is no longer finds all that it asks
 pub lent : {text pool row : List ℕ} → Ready text pool row → (part : List ℕ) → length part ≤ length text → Lent part pool row

@@ -16,7 +16,7 @@ ghost use Rattle.trie_pool.specs.Words.{holds};
 ghost use Rattle.newmm_rules.specs.Longest.{lengths, beforeLongest};
 ghost use Rattle.newmm_rules.specs.Modes.{inParts};
 ghost use Rattle.newmm_answers.specs.Answers.{plainCut, cutOf};
-ghost use Rattle.newmm_segment.specs.Rows.{Rising, Ready, Written, shiftedCut, Sampled, FirstPart};
+ghost use Rattle.newmm_segment.specs.inner.Written.{Rising, Ready, Written, shiftedCut, Sampled, FirstPart};
 
 // Where a part ends, and the edges that were recorded to find that.
 pub struct PartEnd {

@@ -15,11 +15,11 @@ use Rattle.newmm_rules.specs.Words.{Given, size, span, isWord}
 use Rattle.newmm_rules.specs.NonDictionary.{nonThaiAt, isConsonant, isShort, startsWord, stopsAt, skipEnd, tokenEnd}
 use Rattle.newmm_rules.proofs.Spans.{non-thai-inside}
 use Rattle.newmm_rules.proofs.Lengths.{behind, behind-all, behind-end, behind-none, behind-word, behind-part}
-use Rattle.trie_pool.specs.Sound.{Readable}
+use Rattle.trie_pool.specs.inner.Sound.{Readable}
 use Rattle.tcc.specs.Flags.{isEnd, endFlags}
 use Rattle.newmm_word_step.specs.declared.Step.{Step}
 use Rattle.newmm_word_step.specs.declared.Step.the-variants.{Nothing, Word, Part}
-use Rattle.newmm_word_step.specs.Walks.{givenBy, Walked, Asks, Next, StepIs}
+use Rattle.newmm_word_step.specs.inner.Walks.{givenBy, Walked, Asks, Next, StepIs}
 use Rattle.newmm_word_step.proofs.Steps.{start-walk, end-no, end-yes}
 
 -- ---- one or two consonants

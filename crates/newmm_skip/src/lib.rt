@@ -8,8 +8,8 @@ ghost use mathlib.Core.Path.{_≡_};
 ghost use Prim.Native.Nat.{_<_};
 ghost use lib.ListN.{length};
 ghost use Rattle.newmm_rules.specs.NonDictionary.{isConsonant, isShort, skipEnd, tokenEnd};
-ghost use Rattle.newmm_word_step.specs.Walks.{givenBy};
-ghost use Rattle.newmm_skip.specs.Places.{Place};
+ghost use Rattle.newmm_word_step.specs.inner.Walks.{givenBy};
+ghost use Rattle.newmm_skip.specs.inner.Places.{Place};
 
 fn is_consonant(x: u32) -> bool
     ensures { λ r. ⌜ r ≡ isConsonant x ⌝ }

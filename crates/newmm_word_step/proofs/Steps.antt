@@ -12,12 +12,12 @@ use Rattle.tcc.specs.Flags.{isEnd, flag, endFlags}
 use Rattle.tcc.proofs.Marks.{ends-long, ends-at}
 use Rattle.trie_pool.specs.Cells.{markAt}
 use Rattle.trie_pool.specs.Words.{Place, none, at, on-place, child, walk, marked}
-use Rattle.trie_pool.specs.Sound.{Readable}
+use Rattle.trie_pool.specs.inner.Sound.{Readable}
 use Rattle.trie_pool.proofs.Shape.{within, child-found, walk-more, walk-append}
-use Rattle.trie_search.specs.Search.{toPlace}
+use Rattle.trie_search.specs.inner.Search.{toPlace}
 use Rattle.trie_search.specs.declared.search.Kid.{Kid}
 use Rattle.trie_search.specs.declared.search.Kid.the-variants.{Nothing, Is}
-use Rattle.newmm_word_step.specs.Walks.{givenBy, Walked, Asks, Next}
+use Rattle.newmm_word_step.specs.inner.Walks.{givenBy, Walked, Asks, Next}
 
 pub start-walk : (text pool : List ℕ) (b : ℕ) → Walked text pool b b 0
 start-walk text pool b = record { order = omega arith; leads = ap (λ (k : ℕ). walk pool (take k (drop b text)) 0) (sub-self b) }

@@ -3,7 +3,7 @@ use trie_search::Kid;
 use trie_search::find_child;
 ghost use mathlib.Core.Path.{_≡_};
 ghost use Prim.Native.Nat.{ℕ, _≤_, _+_, _-_, min};
-ghost use Rattle.newmm_word_step.specs.Walks.{Walked, Asks, StepIs};
+ghost use Rattle.newmm_word_step.specs.inner.Walks.{Walked, Asks, StepIs};
 
 // The most characters of a word.
 const MAX_WORD: usize = 255;

@@ -9,10 +9,10 @@ use Rattle.refusal.specs.declared.Refusal.{Refusal}
 use Rattle.refusal.specs.declared.Answer.{Answer}
 use Rattle.refusal.specs.declared.Answer.the-variants as answers
 use Rattle.refusal.specs.Answers.{output}
-use Rattle.utf8.specs.Decoding.{scalarsOf, decodeRows, decoded}
+use Rattle.utf8.specs.Decoding.{scalarsOf, decodeCauses, decoded}
 use Rattle.trie_pool.specs.Meaning.{Words, meaning}
 use Rattle.trie_check.specs.Refusals.{held}
-use Rattle.trie_check.proofs.Rows.{again}
+use Rattle.refusal.proofs.Causes.{again}
 use Rattle.trie_char.specs.Changes.{After}
 use Rattle.newmm_rules.specs.declared.Mode.{Mode}
 use Rattle.newmm_answers.specs.declared.CutAnswer.{CutAnswer}
@@ -54,7 +54,7 @@ module _ (text scalars : List ℕ) {scalars₁ : List ℕ} {d : Answer} (is : d 
     count : n ≡ length (scalarsOf text)
     count =
         let e : answers.Accepted n ≡ answers.Accepted (length (scalarsOf text)) =
-        sym passed ∙ sym (again (decodeRows text (length scalars)) (length (scalarsOf text)) (length (scalarsOf text)) passed) in
+        sym passed ∙ sym (again (decodeCauses text (length scalars)) (length (scalarsOf text)) (length (scalarsOf text)) passed) in
         cc
 
     front : scalars₁ ≡ scalarsOf text ++ drop (length (scalarsOf text)) scalars

@@ -17,7 +17,7 @@ use Rattle.newmm_rules.specs.declared.Mode.{Mode}
 use Rattle.newmm_rules.specs.declared.Mode.the-variants.{Plain, Safe}
 use Rattle.newmm_answers.specs.declared.CutAnswer.{CutAnswer}
 use Rattle.newmm_answers.specs.declared.CutAnswer.the-variants as cuts
-use Rattle.newmm_answers.specs.Answers.{cutOf, firstRows, accepts, cleared}
+use Rattle.newmm_answers.specs.Answers.{cutOf, firstCauses, accepts, cleared}
 use Rattle.sheet_replies.specs.declared.reply.Asked.{Asked}
 use Rattle.sheet_replies.specs.declared.reply.Asked.the-variants.{Nothing, Add, Remove, Cut}
 use Rattle.sheet_replies.specs.declared.reply.Reply.{Reply}
@@ -100,7 +100,7 @@ unfoldable pub scratchAfter : Asked → List ℕ → List ℕ → ℕ → List �
 scratchAfter Nothing text pool room row = row
 scratchAfter Add text pool room row = row
 scratchAfter Remove text pool room row = row
-scratchAfter (Cut mode) text pool room row = cleared (next (decoded text room) (answer (firstRows (scalarsOf text) (meaning pool) (length row)) 0)) row
+scratchAfter (Cut mode) text pool room row = cleared (next (decoded text room) (answer (firstCauses (scalarsOf text) (meaning pool) (length row)) 0)) row
 
 -- the rows that are lent to a line, before and after
 pub record RowsAfter (what : Asked) (text pool pool₁ scalars scalars₁ ends ends₁ scratch scratch₁ : List ℕ) : Type 0 where

@@ -11,7 +11,7 @@ ghost use Rattle.trie_pool.specs.Meaning.{meaning};
 ghost use Rattle.trie_check.specs.Refusals.{held};
 ghost use Rattle.trie_char.specs.Answers.{added, removed};
 ghost use Rattle.trie_char.specs.Changes.{After};
-ghost use Rattle.newmm_answers.specs.Answers.{cutOf, firstRows, cleared};
+ghost use Rattle.newmm_answers.specs.Answers.{cutOf, firstCauses, cleared};
 ghost use Rattle.sheet_replies.specs.Replies.{asked as askedOf, next, addText, removeText, cutText, reported as reportedOf, ended as endedOf, endedBy, textOf, replyOf, RowsAfter};
 
 // The most bytes that a line may have, without its line feed.
@@ -121,7 +121,7 @@ fn cut(
         (cutText mode (now (text .entry)) (now (pool .entry)) (length (now (scalars .entry))) (length (now (scratch .entry))) (length (now (ends .entry))))
         (cutOf mode (held (meaning (now (pool .entry)))) (scalarsOf (now (text .entry))) .ends) (now (ends .entry)) ⌝ }
     ensures { λ _. ⌜ now (scratch .exit) ≡ cleared
-        (next (decoded (now (text .entry)) (length (now (scalars .entry)))) (answer (firstRows (scalarsOf (now (text .entry))) (meaning (now (pool .entry))) (length (now (scratch .entry)))) 0))
+        (next (decoded (now (text .entry)) (length (now (scalars .entry)))) (answer (firstCauses (scalarsOf (now (text .entry))) (meaning (now (pool .entry))) (length (now (scratch .entry)))) 0))
         (now (scratch .entry)) ⌝ }
 {
     let decoded = utf8::decode(text, scalars);

@@ -17,7 +17,7 @@ ghost use mathlib.Core.Path.{_≡_};
 ghost use mathlib.Core.List.{_∷_, [], _++_};
 ghost use Rattle.tcc_rules.specs.Rules.{is, consonant, dOrI};
 ghost use Rattle.tcc_rules.specs.Clusters.{clusterEnd};
-ghost use Rattle.tcc_rules.specs.Inner.{exact, some, Begins};
+ghost use Rattle.tcc_rules.specs.inner.Optional.{exact, some, Begins};
 
 pub fn from_consonant(text: &[u32], p: usize) -> usize
     requires { ⌜ Begins (some consonant ∷ []) (now text) p ⌝ }

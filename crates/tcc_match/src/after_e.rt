@@ -20,7 +20,7 @@ ghost use mathlib.Core.Path.{_≡_};
 ghost use mathlib.Core.List.{_∷_, []};
 ghost use Rattle.tcc_rules.specs.Rules.{consonant, tone};
 ghost use Rattle.tcc_rules.specs.Clusters.{clusterEnd};
-ghost use Rattle.tcc_rules.specs.Inner.{exact, some, Begins};
+ghost use Rattle.tcc_rules.specs.inner.Optional.{exact, some, Begins};
 
 pub fn from_e(text: &[u32], p: usize) -> usize
     requires { ⌜ Begins (exact 0xE40 ∷ []) (now text) p ⌝ }

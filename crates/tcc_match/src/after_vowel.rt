@@ -9,7 +9,7 @@ ghost use mathlib.Core.Path.{_≡_};
 ghost use mathlib.Core.List.{_∷_, []};
 ghost use Rattle.tcc_rules.specs.Rules.{upTo, consonant};
 ghost use Rattle.tcc_rules.specs.Clusters.{clusterEnd};
-ghost use Rattle.tcc_rules.specs.Inner.{exact, some, Begins};
+ghost use Rattle.tcc_rules.specs.inner.Optional.{exact, some, Begins};
 
 pub fn from_ae(text: &[u32], p: usize) -> usize
     requires { ⌜ Begins (exact 0xE41 ∷ []) (now text) p ⌝ }

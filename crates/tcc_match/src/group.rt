@@ -11,7 +11,7 @@ use crate::letters::is_tone;
 ghost use mathlib.Core.Path.{_≡_};
 ghost use mathlib.Core.List.{_++_};
 ghost use Rattle.tcc_rules.specs.Rules.{is, tone};
-ghost use Rattle.tcc_rules.specs.Inner.{skipped, kEnd, shorter};
+ghost use Rattle.tcc_rules.specs.inner.Optional.{skipped, kEnd, shorter};
 
 pub fn skip_tone(text: &[u32], p: usize) -> usize
     ensures { λ r. ⌜ r ≡ skipped tone (now (text .entry)) p ⌝ }

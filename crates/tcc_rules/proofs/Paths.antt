@@ -9,7 +9,7 @@ use lib.Dec.{T}
 use Rattle.tcc_rules.specs.Patterns.{Range, holds, Pattern, firstOf}
 use Rattle.tcc_rules.specs.Rules.{alternatives, lookahead}
 use Rattle.tcc_rules.specs.Clusters.{clusterEnd}
-use Rattle.tcc_rules.specs.Inner.{Known, Fact, place, KnownFrom, Begins}
+use Rattle.tcc_rules.specs.inner.Optional.{Known, Fact, place, KnownFrom, Begins}
 use Rattle.tcc_rules.proofs.Known.{T-left, T-right, real}
 use Rattle.tcc_rules.proofs.Steps.{stops, next, asked, prune, endBy, step, stay}
 

@@ -10,7 +10,7 @@ use lib.Dec.{T, ltb}
 use borrow.Author.Tests.{ltb-true, ltb-false}
 use Rattle.tcc_rules.specs.Patterns.{Range, holds, holdsAt, Pattern, end, fail, then, either, Match, none, upto, orElse, match, isMatch}
 use Rattle.tcc_rules.specs.Clusters.{ended}
-use Rattle.tcc_rules.specs.Inner.{Known, Fact}
+use Rattle.tcc_rules.specs.inner.Optional.{Known, Fact}
 use Rattle.tcc_rules.proofs.Known.{T-left, T-right, T-or, T-not, not-both, covered, covered-no, real, settled, gives, at-known, at-outside, at-not}
 
 -- ---- matches

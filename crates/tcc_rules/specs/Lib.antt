@@ -1,4 +1,4 @@
 pub mod Patterns
 pub mod Rules
 pub mod Clusters
-pub mod Inner
+pub mod inner

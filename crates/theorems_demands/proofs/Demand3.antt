@@ -12,14 +12,14 @@ use borrow.Author.Tests.{le-ltb}
 use Rattle.refusal.specs.declared.Refusal.{Refusal}
 use Rattle.refusal.specs.declared.Answer.{Answer}
 use Rattle.refusal.specs.declared.Answer.the-variants.{Accepted, Refused}
-use Rattle.refusal.specs.Answers.{Row, answer, output}
+use Rattle.refusal.specs.Answers.{Cause, answer, output}
 use Rattle.trie_pool.specs.Meaning.{Words, meaning}
 use Rattle.trie_check.specs.Refusals.{held}
-use Rattle.trie_check.proofs.Rows.{None, none-of, again}
+use Rattle.refusal.proofs.Causes.{None, none-of, again}
 use Rattle.newmm_rules.specs.declared.Mode.{Mode}
 use Rattle.newmm_answers.specs.declared.CutAnswer.{CutAnswer}
 use Rattle.newmm_answers.specs.declared.CutAnswer.the-variants.{Ends}
-use Rattle.newmm_answers.specs.Answers.{cutOf, cutRows, accepts, told, cutAnswer, outAfter}
+use Rattle.newmm_answers.specs.Answers.{cutOf, cutCauses, accepts, told, cutAnswer, outAfter}
 use Rattle.theorems_demands.specs.Demand3.{Reached, Call, answerOf, outOf, Demand3}
 use Rattle.theorems_demands.proofs.Reaching.{means}
 
@@ -29,10 +29,10 @@ told-ends (Accepted m) k n e h = (let q : m ≡ n = cc in ap Accepted q, cc)
 told-ends (Refused r) k n e h = absurd (let z : _≡_ {A = ℕ} 0 1 = cc in omega arith)
 
 -- the number that a call is accepted with is the one that it is asked for
-accepted-is : (rs : List Row) (n k : ℕ) → answer rs n ≡ Accepted k → n ≡ k
+accepted-is : (rs : List Cause) (n k : ℕ) → answer rs n ≡ Accepted k → n ≡ k
 accepted-is rs n k h = let q : Accepted n ≡ Accepted k = again rs n n h ∙ h in cc
 
-all-pass : (rs : List Row) (n : ℕ) → None rs → answer rs n ≡ Accepted n
+all-pass : (rs : List Cause) (n : ℕ) → None rs → answer rs n ≡ Accepted n
 all-pass [] n t = refl
 all-pass (r ∷ rs) n t = ap (λ (b : Bool). cond b (Refused (r .refusal)) (answer rs n)) (t .0) ∙ all-pass rs n (t .1)
 
@@ -41,15 +41,15 @@ module _ (mode : Mode) (text : List ℕ) (words : Words) (n : ℕ) where
   front-is : (cells : ℕ) (out : List ℕ) → accepts mode text (some words) cells (length out) ≡ Accepted n → take n (outAfter mode text (some words) cells out) ≡ cutOf mode words text .ends
   front-is cells out h =
       ap (λ (r : Answer). take n (output r (cutOf mode words text .ends) out)) h
-      ∙ take-at (cutOf mode words text .ends) (drop (length (cutOf mode words text .ends)) out) n (accepted-is (cutRows mode text (some words) cells (length out)) _ n h)
+      ∙ take-at (cutOf mode words text .ends) (drop (length (cutOf mode words text .ends)) out) n (accepted-is (cutCauses mode text (some words) cells (length out)) _ n h)
 
   -- with scratch and room enough, one accepted call makes the other accepted
   other-accepted : (cells cells′ room room′ : ℕ) → accepts mode text (some words) cells room ≡ Accepted n → 9 * length text + 128 ≤ cells′ → n ≤ room′
       → accepts mode text (some words) cells′ room′ ≡ Accepted n
   other-accepted cells cells′ room room′ h s o =
-      let r = none-of (cutRows mode text (some words) cells room) (length (cutOf mode words text .ends)) n h in
-      let e = accepted-is (cutRows mode text (some words) cells room) (length (cutOf mode words text .ends)) n h in
-      all-pass (cutRows mode text (some words) cells′ room′) (length (cutOf mode words text .ends))
+      let r = none-of (cutCauses mode text (some words) cells room) (length (cutOf mode words text .ends)) n h in
+      let e = accepted-is (cutCauses mode text (some words) cells room) (length (cutOf mode words text .ends)) n h in
+      all-pass (cutCauses mode text (some words) cells′ room′) (length (cutOf mode words text .ends))
       (r .0, (r .1 .0, (refl, (le-ltb cells′ (9 * length text + 128) s, (le-ltb room′ (length (cutOf mode words text .ends)) (omega arith), tt)))))
       ∙ ap Accepted e
 

@@ -7,11 +7,11 @@ use native.Mathlib.Decide.{decLt}
 use lib.ListN.{length, getD, drop, set, drop-of-length-le}
 use Rattle.char_string.specs.Blanks.{isTrimmed}
 use Rattle.trie_pool.specs.Cells.{scalarAt, firstAt, countAt, markAt, used}
-use Rattle.trie_pool.specs.Paths.{reach, rev}
-use Rattle.trie_pool.specs.Sound.{Shaped, Sound}
+use Rattle.trie_pool.specs.inner.Paths.{reach, rev}
+use Rattle.trie_pool.specs.inner.Sound.{Shaped, Sound}
 use Rattle.trie_pool.specs.Words.{lacking, none, at, on-place, scan, child, holds}
-use Rattle.trie_search.specs.Search.{Sought}
-use Rattle.trie_change.specs.Planting.{Room, Plants, Planted, Enters, Entered, stayed, grew, Puts, PutIn}
+use Rattle.trie_search.specs.inner.Search.{Sought}
+use Rattle.trie_change.specs.inner.Planting.{Room, Plants, Planted, Enters, Entered, stayed, grew, Puts, PutIn}
 use Rattle.trie_pool.proofs.Lists.{drop-next}
 use Rattle.trie_pool.proofs.Shape.{within, reach-within, child-found, step, child-after, first-is, count-is, climb}
 use Rattle.trie_search.proofs.Finding.{past, other, found}

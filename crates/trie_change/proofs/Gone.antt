@@ -9,10 +9,11 @@ use lib.Dec.{eqb}
 use borrow.Author.Tests.{eqb-true, eqb-false}
 use lib.ListN.{length}
 use Rattle.trie_pool.specs.Cells.{scalarAt, firstAt, countAt, markAt}
-use Rattle.trie_pool.specs.Paths.{reach}
-use Rattle.trie_pool.specs.Sound.{Fit, Shaped, Spare, Rising, ends, Sound}
+use Rattle.trie_pool.specs.inner.Paths.{reach}
+use Rattle.trie_pool.specs.inner.Sound.{Fit, Shaped, Spare, Rising, Sound}
+use Rattle.trie_pool.specs.Levels.{levelEnd}
 use Rattle.trie_pool.specs.Words.{Place, none, at, on-place, child, holds}
-use Rattle.trie_change.specs.Planting.{Room, Planted}
+use Rattle.trie_change.specs.inner.Planting.{Room, Planted}
 use Rattle.trie_pool.proofs.Shape.{refit, apart, within, Step, step, child-found, reach-within, climb}
 use Rattle.trie_pool.proofs.Level.{ends-mono, level-high, level-low}
 use Rattle.trie_change.proofs.Leaf.{sh, sh-low, sh-high, moved, child-new, child-moved, same-words}
@@ -27,7 +28,7 @@ module _ (p q : List ℕ) (m b j : ℕ) (s : Shaped p (suc m)) (parent : b < suc
   inside : j ≤ m
   inside = omega (arith, within p (suc m) s b parent)
 
-  -- the new block of i ends where that of the old node after it starts
+  -- the new block of i levelEnd where that of the old node after it starts
   next-at : (i : ℕ) → suc i ≡ j → j < m → firstAt q j ≡ firstAt q i + countAt q i
   next-at i e l = omega (arith, h .first-high j (omega arith) l, s .next j (omega arith), h .count-new, h .first-new i e)
 

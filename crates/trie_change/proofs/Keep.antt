@@ -7,10 +7,11 @@ use native.Mathlib.Omega.{arith}
 use native.Mathlib.Decide.{decLt}
 use lib.ListN.{length}
 use Rattle.trie_pool.specs.Cells.{scalarAt, firstAt, countAt, markAt}
-use Rattle.trie_pool.specs.Paths.{reach}
-use Rattle.trie_pool.specs.Sound.{Fit, Shaped, Rising, hop, ends, Sound}
+use Rattle.trie_pool.specs.inner.Paths.{reach}
+use Rattle.trie_pool.specs.inner.Sound.{Fit, Shaped, Rising, Sound}
+use Rattle.trie_pool.specs.Levels.{hop, levelEnd}
 use Rattle.trie_pool.specs.Words.{none, at, on-place, child}
-use Rattle.trie_change.specs.Planting.{Room, Planted}
+use Rattle.trie_change.specs.inner.Planting.{Room, Planted}
 use Rattle.trie_pool.proofs.Shape.{refit, apart, within, step, reach-within}
 use Rattle.trie_pool.proofs.Level.{hop-first, hop-stay, ends-zero, ends-suc, ends-upto, ends-mono, first-mono, block-before, level-high, level-low}
 use Rattle.trie_change.proofs.Leaf.{behind, sh, sh-low, moved, child-new, child-lack, child-moved}
@@ -62,7 +63,7 @@ module _ (p p′ : List ℕ) (n b j x : ℕ) (s : Shaped p n) (o : Room p n b j 
   end-high : (i : ℕ) → j ≤ i → i < n → firstAt p′ (suc i) + countAt p′ (suc i) ≡ suc (firstAt p i + countAt p i)
   end-high i l u = omega (arith, h .first-high i l u, h .count-high i l u)
 
-  -- the first child of i + 1 is where the block of i ends
+  -- the first child of i + 1 is where the block of i levelEnd
   next′ : (i : ℕ) → suc i < suc n → Spot j i → firstAt p′ (suc i) ≡ firstAt p′ i + countAt p′ i
   next′ i l (low u) = go (decLt i b) (decLt (suc i) j)
     where
@@ -160,27 +161,27 @@ module _ (p p′ : List ℕ) (n b j x : ℕ) (s : Shaped p n) (o : Room p n b j 
   -- ---- levels
 
   -- D is the level of b
-  module _ (D : ℕ) (inside : b < ends p n D) (above : (d : ℕ) → suc d ≡ D → ends p n d ≤ b) where
-    ends-low : (d : ℕ) → d ≤ D → ends p′ (suc n) d ≡ ends p n d
+  module _ (D : ℕ) (inside : b < levelEnd p n D) (above : (d : ℕ) → suc d ≡ D → levelEnd p n d ≤ b) where
+    ends-low : (d : ℕ) → d ≤ D → levelEnd p′ (suc n) d ≡ levelEnd p n d
     ends-low zero l = ends-zero p′ (suc n) ∙ sym (ends-zero p n)
     ends-low (suc d) l =
-        let ih : ends p′ (suc n) d ≡ ends p n d = ends-low d (omega arith) in
-        let m : ends p n d ≤ b = omega (arith, ends-mono p n s d (D - 1) (omega arith), above (D - 1) (omega arith)) in
-        let f : ends p n d < n = omega (arith, o .parent) in
-        ends-suc p′ (suc n) d ∙ ap (hop p′ (suc n)) ih ∙ hop-first p′ (suc n) (ends p n d) (omega arith) ∙ h .first-low (ends p n d) m
-        ∙ sym (ends-suc p n d ∙ hop-first p n (ends p n d) f)
+        let ih : levelEnd p′ (suc n) d ≡ levelEnd p n d = ends-low d (omega arith) in
+        let m : levelEnd p n d ≤ b = omega (arith, ends-mono p n s d (D - 1) (omega arith), above (D - 1) (omega arith)) in
+        let f : levelEnd p n d < n = omega (arith, o .parent) in
+        ends-suc p′ (suc n) d ∙ ap (hop p′ (suc n)) ih ∙ hop-first p′ (suc n) (levelEnd p n d) (omega arith) ∙ h .first-low (levelEnd p n d) m
+        ∙ sym (ends-suc p n d ∙ hop-first p n (levelEnd p n d) f)
 
-    -- the level of b ends before the place of its children
-    near : ends p n D ≤ j
+    -- the level of b levelEnd before the place of its children
+    near : levelEnd p n D ≤ j
     near = go D refl
       where
-        go : (k : ℕ) → k ≡ D → ends p n D ≤ j
-        go zero e = let z : ends p n D ≡ 1 = ap (ends p n) (sym e) ∙ ends-zero p n in omega (arith, after)
+        go : (k : ℕ) → k ≡ D → levelEnd p n D ≤ j
+        go zero e = let z : levelEnd p n D ≡ 1 = ap (levelEnd p n) (sym e) ∙ ends-zero p n in omega (arith, after)
         go (suc k) e =
-            let z : ends p n D ≡ hop p n (ends p n k) = ap (ends p n) (sym e) ∙ ends-suc p n k in
+            let z : levelEnd p n D ≡ hop p n (levelEnd p n k) = ap (levelEnd p n) (sym e) ∙ ends-suc p n k in
             let m = above k e in
-            let f : ends p n k < n = omega (arith, o .parent) in
-            omega (arith, hop-first p n (ends p n k) f, first-mono p n s (ends p n k) b m (o .parent), o .from)
+            let f : levelEnd p n k < n = omega (arith, o .parent) in
+            omega (arith, hop-first p n (levelEnd p n k) f, first-mono p n s (levelEnd p n k) b m (o .parent), o .from)
 
     -- one more, for what lies behind b and not behind j
     hop-mid : (e : ℕ) → b < e → e ≤ j → hop p′ (suc n) e ≡ suc (hop p n e)
@@ -211,20 +212,20 @@ module _ (p p′ : List ℕ) (n b j x : ℕ) (s : Shaped p n) (o : Room p n b j 
         go (yes q) = hop-first p′ (suc n) (suc e) (omega arith) ∙ h .first-high e l q ∙ ap suc (sym (hop-first p n e q))
         go (no q) = hop-stay p′ (suc n) (suc e) (omega arith) ∙ ap suc (sym (hop-stay p n e (omega arith)))
 
-    pub ends-high : (d : ℕ) → D < d → ends p′ (suc n) d ≡ suc (ends p n d)
+    pub ends-high : (d : ℕ) → D < d → levelEnd p′ (suc n) d ≡ suc (levelEnd p n d)
     ends-high zero l = absurd (omega arith)
     ends-high (suc d) l = go (decLt D d) (ends-high d)
       where
-        go : Dec (D < d) → (D < d → ends p′ (suc n) d ≡ suc (ends p n d)) → ends p′ (suc n) (suc d) ≡ suc (ends p n (suc d))
+        go : Dec (D < d) → (D < d → levelEnd p′ (suc n) d ≡ suc (levelEnd p n d)) → levelEnd p′ (suc n) (suc d) ≡ suc (levelEnd p n (suc d))
         go (yes q) ih =
-            let far′ : j ≤ ends p n d =
-            omega (arith, ends-mono p n s (suc D) d q, ends-suc p n D, block-before p n s (ends p n D) b inside (ends-upto p n s D), o .upto) in
-            ends-suc p′ (suc n) d ∙ ap (hop p′ (suc n)) (ih q) ∙ hop-far (ends p n d) far′ (ends-upto p n s d) ∙ ap suc (sym (ends-suc p n d))
+            let far′ : j ≤ levelEnd p n d =
+            omega (arith, ends-mono p n s (suc D) d q, ends-suc p n D, block-before p n s (levelEnd p n D) b inside (ends-upto p n s D), o .upto) in
+            ends-suc p′ (suc n) d ∙ ap (hop p′ (suc n)) (ih q) ∙ hop-far (levelEnd p n d) far′ (ends-upto p n s d) ∙ ap suc (sym (ends-suc p n d))
         go (no q) ih =
             let e : d ≡ D = omega arith in
-            let in′ : b < ends p n d = subst (λ (z : ℕ). b < ends p n z) (sym e) inside in
-            let near′ : ends p n d ≤ j = subst (λ (z : ℕ). ends p n z ≤ j) (sym e) near in
-            ends-suc p′ (suc n) d ∙ ap (hop p′ (suc n)) (ends-low d (omega arith)) ∙ hop-mid (ends p n d) in′ near′ ∙ ap suc (sym (ends-suc p n d))
+            let in′ : b < levelEnd p n d = subst (λ (z : ℕ). b < levelEnd p n z) (sym e) inside in
+            let near′ : levelEnd p n d ≤ j = subst (λ (z : ℕ). levelEnd p n z ≤ j) (sym e) near in
+            ends-suc p′ (suc n) d ∙ ap (hop p′ (suc n)) (ends-low d (omega arith)) ∙ hop-mid (levelEnd p n d) in′ near′ ∙ ap suc (sym (ends-suc p n d))
 
   -- ---- words
 
@@ -244,7 +245,7 @@ module _ (p p′ : List ℕ) (n b j x : ℕ) (s : Shaped p n) (o : Room p n b j 
   pub reach-new : (u : List ℕ) → reach p u ≡ at b → reach p′ (x ∷ u) ≡ at j
   reach-new u e = ap (on-place none (λ i. child p′ i x)) (reach-kept u b e) ∙ ap (λ (z : ℕ). child p′ z x) (sh-low j b after) ∙ child-new p p′ n b j x s o h
 
-  pub level-above : (u : List ℕ) (r : ℕ) → reach p u ≡ at r → (d : ℕ) → suc d ≡ length u → ends p n d ≤ r
+  pub level-above : (u : List ℕ) (r : ℕ) → reach p u ≡ at r → (d : ℕ) → suc d ≡ length u → levelEnd p n d ≤ r
   level-above [] r e d q = absurd (omega arith)
   level-above (y ∷ u) r e d q = let z : d ≡ length u = omega arith in rw z (level-low p n s y u r e)
 

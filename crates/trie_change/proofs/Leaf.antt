@@ -8,9 +8,9 @@ use native.Mathlib.Decide.{decLt}
 use borrow.Author.Tests.{lt-ltb, le-ltb, ne-eqb, eqb-true, eqb-false}
 use lib.Dec.{ltb, eqb}
 use Rattle.trie_pool.specs.Cells.{scalarAt, firstAt, countAt, markAt}
-use Rattle.trie_pool.specs.Sound.{Shaped}
+use Rattle.trie_pool.specs.inner.Sound.{Shaped}
 use Rattle.trie_pool.specs.Words.{Place, none, at, on-place, scan, child, walk, marked, holds}
-use Rattle.trie_change.specs.Planting.{Room, Planted}
+use Rattle.trie_change.specs.inner.Planting.{Room, Planted}
 use Rattle.trie_pool.proofs.Shape.{apart, within, child-found, scan-new}
 
 -- the new number of node i, where one is put in at j

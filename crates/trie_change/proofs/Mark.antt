@@ -9,8 +9,9 @@ use lib.Dec.{ltb, eqb}
 use lib.ListN.{length, getD, set, length-set}
 use lib.Seq.{getD-set-same, getD-set-other}
 use Rattle.trie_pool.specs.Cells.{scalarAt, firstAt, countAt, markAt}
-use Rattle.trie_pool.specs.Paths.{reach, rev}
-use Rattle.trie_pool.specs.Sound.{Fit, Shaped, hop, ends, Sound}
+use Rattle.trie_pool.specs.inner.Paths.{reach, rev}
+use Rattle.trie_pool.specs.inner.Sound.{Fit, Shaped, Sound}
+use Rattle.trie_pool.specs.Levels.{hop, levelEnd}
 use Rattle.trie_pool.specs.Words.{Place, none, at, on-place, scan, child, marked, holds}
 use Rattle.trie_pool.proofs.Shape.{refit, walk-reach, one-path, walk-is, rev-rev, on-at}
 use Rattle.char_string.specs.Blanks.{isTrimmed}
@@ -79,10 +80,10 @@ module _ (p : List ℕ) (i m : ℕ) (l : 8 * i + 3 < length p) where
           let w : rev v [] ≡ u = one-path p n s (rev v []) u i f′ e in
           ne (sym (rev-rev v []) ∙ ap (λ (z : List ℕ). rev z []) w)))
 
-  ends-same : (n d : ℕ) → ends q n d ≡ ends p n d
-  unfolding ends
+  ends-same : (n d : ℕ) → levelEnd q n d ≡ levelEnd p n d
+  unfolding levelEnd
   ends-same n zero = refl
-  ends-same n (suc d) = ap (hop q n) (ends-same n d) ∙ ap (λ (f : ℕ). cond (ltb (ends p n d) n) f (ends p n d)) (first-same (ends p n d))
+  ends-same n (suc d) = ap (hop q n) (ends-same n d) ∙ ap (λ (f : ℕ). cond (ltb (levelEnd p n d) n) f (levelEnd p n d)) (first-same (levelEnd p n d))
 
   pub shaped-same : (n : ℕ) → Shaped p n → Shaped q n
   shaped-same n s = record {
@@ -93,7 +94,7 @@ module _ (p : List ℕ) (i m : ℕ) (l : 8 * i + 3 < length p) where
     ahead = λ k h. omega (arith, first-same k, s .ahead k h);
   }
 
-  -- a node that ends a word needs no child
+  -- a node that levelEnd a word needs no child
   pub sound-marked : (n : ℕ) → m ≡ 1 → 0 < i → i < n → isTrimmed (scalarAt p i) ≡ false → Sound p n i → Sound q n 0
   sound-marked n one some inside stop g = record {
     shaped = shaped-same n (g .shaped);

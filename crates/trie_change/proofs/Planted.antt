@@ -7,8 +7,8 @@ use native.Mathlib.Decide.{decLt}
 use lib.ListN.{length, getD, set, length-set}
 use lib.Seq.{getD-set-same, getD-set-other}
 use Rattle.trie_pool.specs.Cells.{scalarAt, firstAt, countAt, markAt}
-use Rattle.trie_pool.specs.Sound.{Spare}
-use Rattle.trie_change.specs.Planting.{Plants, Planted, Shifted, Put, Bumps, Bumped}
+use Rattle.trie_pool.specs.inner.Sound.{Spare}
+use Rattle.trie_change.specs.inner.Planting.{Plants, Planted, Shifted, Put, Bumps, Bumped}
 use Rattle.trie_pool.proofs.Shape.{within, first-is, count-is}
 
 -- where the new leaf stands

@@ -7,8 +7,8 @@ use native.Mathlib.Decide.{decLt}
 use lib.ListN.{length, getD, set, length-set}
 use lib.Seq.{getD-set-same, getD-set-other}
 use Rattle.trie_pool.specs.Cells.{scalarAt, firstAt, countAt, markAt}
-use Rattle.trie_pool.specs.Sound.{Shaped, Spare}
-use Rattle.trie_change.specs.Plucking.{Unshifted, Wiped, Lowers, Lowered, Plucks, Plucked}
+use Rattle.trie_pool.specs.inner.Sound.{Shaped, Spare}
+use Rattle.trie_change.specs.inner.Plucking.{Unshifted, Wiped, Lowers, Lowered, Plucks, Plucked}
 use Rattle.trie_pool.proofs.Shape.{within, first-is, count-is}
 
 pub record Where (p : List ℕ) (m b j : ℕ) : Type 0 where

@@ -8,11 +8,11 @@ use native.Mathlib.Decide.{decLt}
 use lib.ListN.{length, getD, drop, take, set, length-drop}
 use lib.Seq.{take-all}
 use Rattle.trie_pool.specs.Cells.{firstAt, countAt, markAt, used}
-use Rattle.trie_pool.specs.Paths.{reach, rev}
-use Rattle.trie_pool.specs.Sound.{Shaped, Readable, Spare, Rising, Sound}
+use Rattle.trie_pool.specs.inner.Paths.{reach, rev}
+use Rattle.trie_pool.specs.inner.Sound.{Shaped, Readable, Spare, Rising, Sound}
 use Rattle.trie_pool.specs.Words.{none, at, on-place, child, walk, marked, holds}
-use Rattle.trie_search.specs.Search.{toPlace}
-use Rattle.trie_change.specs.Plucking.{Plucks, Plucked, Prunes, Pruned, Removes, Removed}
+use Rattle.trie_search.specs.inner.Search.{toPlace}
+use Rattle.trie_change.specs.inner.Plucking.{Plucks, Plucked, Prunes, Pruned, Removes, Removed}
 use Rattle.trie_search.specs.declared.search.Kid.{Kid}
 use Rattle.trie_search.specs.declared.search.Kid.the-variants.{Nothing, Is}
 use Rattle.trie_pool.proofs.Shape.{within, reach-within, child-found, child-after, walk-reach, count-is}

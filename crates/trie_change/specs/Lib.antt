@@ -1,2 +1,1 @@
-pub mod Planting
-pub mod Plucking
+pub mod inner

@@ -4,7 +4,7 @@ use cells::wide;
 use trie_search::seek;
 ghost use Prim.Native.Nat.{_+_, _≤_};
 ghost use lib.ListN.{length};
-ghost use Rattle.trie_change.specs.Planting.{Shifted, Put, Bumps, Bumped, Plants, Planted, Enters, Entered, Puts, PutIn};
+ghost use Rattle.trie_change.specs.inner.Planting.{Shifted, Put, Bumps, Bumped, Plants, Planted, Enters, Entered, Puts, PutIn};
 
 // Moves the cells from `low` to `high` eight places on.
 fn shift(p: &mut [u32], low: usize, high: usize)

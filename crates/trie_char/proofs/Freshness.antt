@@ -13,10 +13,10 @@ use Rattle.refusal.specs.declared.Answer.the-variants.{Accepted, Refused}
 use Rattle.refusal.specs.Answers.{answer}
 use Rattle.trie_pool.specs.Cells.{scalarAt, firstAt, countAt, markAt, used}
 use Rattle.trie_pool.specs.Words.{none, on-place, scan, child, walk, marked, holds}
-use Rattle.trie_pool.specs.Sound.{Shaped, Sound}
+use Rattle.trie_pool.specs.inner.Sound.{Shaped, Sound}
 use Rattle.trie_pool.specs.Meaning.{noWord}
 use Rattle.trie_check.proofs.Whole.{stay, ends-start}
-use Rattle.trie_char.specs.Refusals.{freshRows}
+use Rattle.trie_char.specs.Refusals.{freshCauses}
 use Rattle.trie_char.specs.Changes.{Became, RootAlone}
 use Rattle.trie_check.proofs.Parts.{long}
 use Rattle.trie_char.proofs.Changing.{became}
@@ -95,11 +95,11 @@ module _ (p : List ℕ) (h : RootAlone p) (some : 8 ≤ length p) where
 
 -- ---- the answer
 
-pub fresh-short : (old : List ℕ) → length old < 8 → Refused (TooFewNodes 1) ≡ answer (freshRows old) 0
+pub fresh-short : (old : List ℕ) → length old < 8 → Refused (TooFewNodes 1) ≡ answer (freshCauses old) 0
 fresh-short old l = sym (ap (λ (b : Bool). cond b (Refused (TooFewNodes 1)) (Accepted 0)) (lt-ltb (length old) 8 l))
 
 pub fresh-done : (old : List ℕ) (n : ℕ) → n ≡ min (length old / 8) 1048576 → 8 ≤ length old → (new : List ℕ) → length new ≡ 8 * n → RootAlone new
-    → (Accepted 0 ≡ answer (freshRows old) 0) × Became old (new ++ drop (8 * n) old) noWord
+    → (Accepted 0 ≡ answer (freshCauses old) 0) × Became old (new ++ drop (8 * n) old) noWord
 fresh-done old n n-is l new k h = (
   sym (ap (λ (b : Bool). cond b (Refused (TooFewNodes 1)) (Accepted 0)) (le-ltb (length old) 8 l)),
   became old n n-is new noWord k (alone-sound new h (omega arith)) (alone-holds new h (omega arith)),

@@ -8,11 +8,11 @@ ghost use mathlib.Core.Path.{_≡_};
 ghost use lib.ListN.{length};
 ghost use Rattle.refusal.specs.Answers.{answer};
 ghost use Rattle.trie_pool.specs.Meaning.{meaning};
-ghost use Rattle.trie_char.specs.Refusals.{removeRows};
+ghost use Rattle.trie_char.specs.Refusals.{removeCauses};
 
 // Refusals 2, 3, 4 and 7, accepted with the word's length.
 pub fn check_word(pool: &[u32], word: &[u32]) -> Answer
-    ensures { λ r. ⌜ r ≡ answer (removeRows (now (word .entry)) (meaning (now (pool .entry)))) (length (now (word .entry))) ⌝ }
+    ensures { λ r. ⌜ r ≡ answer (removeCauses (now (word .entry)) (meaning (now (pool .entry)))) (length (now (word .entry))) ⌝ }
 {
     let first = check(pool, word);
     match first {

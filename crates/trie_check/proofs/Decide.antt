@@ -5,10 +5,10 @@ use mathlib.Core.Bool.{Bool, true, false}
 use Prim.Native.Nat.{ℕ}
 use native.Mathlib.Omega.{arith}
 use Rattle.trie_pool.specs.Cells.{used}
-use Rattle.trie_pool.specs.Sound.{Sound}
+use Rattle.trie_pool.specs.inner.Sound.{Sound}
 use Rattle.trie_pool.specs.Rules.{wellFormed}
 use Rattle.trie_pool.proofs.Rules.{sound, passes}
-use Rattle.trie_check.specs.Checks.{Decides}
+use Rattle.trie_check.specs.inner.Checks.{Decides}
 
 pub denied : {P : Type 0} → (P → ⊥) → Decides false P
 denied f = record { yes′ = λ e. let z : _≡_ {A = ℕ} 0 1 = cc in absurd (omega arith); no′ = λ e p. f p }

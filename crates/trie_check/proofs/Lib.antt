@@ -1,4 +1,4 @@
 pub mod Decide
 pub mod Whole
-pub mod Rows
+pub mod Refusals
 pub mod Parts

@@ -9,7 +9,7 @@ use lib.ListN.{length, take}
 use lib.Seq.{length-take-le}
 use Rattle.trie_pool.specs.Cells.{used}
 use Rattle.trie_pool.specs.Words.{holds}
-use Rattle.trie_pool.specs.Sound.{Sound, Readable}
+use Rattle.trie_pool.specs.inner.Sound.{Sound, Readable}
 use Rattle.trie_pool.specs.Rules.{cellsOf, wellFormed, isDictionary}
 use Rattle.trie_pool.specs.Meaning.{meaning}
 use Rattle.trie_pool.proofs.Rules.{sound, clash}

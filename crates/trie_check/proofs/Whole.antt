@@ -11,8 +11,9 @@ use lib.ListN.{length, getD}
 use Rattle.char_string.specs.Scalars.{isScalar}
 use Rattle.char_string.specs.Blanks.{isTrimmed}
 use Rattle.trie_pool.specs.Cells.{scalarAt, firstAt, countAt, markAt, used}
-use Rattle.trie_pool.specs.Sound.{Shaped, Rising, hop, ends, Sound}
-use Rattle.trie_check.specs.Checks.{Decides, Inner, Each, Nodes}
+use Rattle.trie_pool.specs.inner.Sound.{Shaped, Rising, Sound}
+use Rattle.trie_pool.specs.Levels.{hop, levelEnd}
+use Rattle.trie_check.specs.inner.Checks.{Decides, Inner, Each, Nodes}
 use Rattle.trie_pool.proofs.Shape.{within}
 use Rattle.trie_check.proofs.Decide.{clash}
 
@@ -60,7 +61,7 @@ module _ (c k m z : ℕ) (zero′ : z ≡ 0) (mark : m ≤ 1) (leaf : 1 ≤ k + 
   pub inner-inside : isScalar c ≡ true → m ≡ 0 → Inner c k m z
   inner-inside legal none = record { fit = record { legal = legal; mark = mark; stop = λ l. absurd (omega arith) }; leaf = leaf; zero′ = zero′ }
 
-  -- where a word ends, the scalar must not be trimmed
+  -- where a word levelEnd, the scalar must not be trimmed
   pub inner-end : isScalar c ≡ true → (t : Bool) → (m ≡ 0 → ⊥) → t ≡ isTrimmed c → Decides (not t) (Inner c k m z)
   inner-end legal t some e = record {
     yes′ = λ y. record { fit = record { legal = legal; mark = mark; stop = λ l. sym e ∙ not-true _ y }; leaf = leaf; zero′ = zero′ };
@@ -149,38 +150,38 @@ done p n i s v some l = record {
 
 -- ---- levels
 
-pub stay : (p : List ℕ) (n k d : ℕ) → d ≤ k → ends p n d ≡ n → ends p n k ≡ n
-unfolding ends
-stay p n zero d h e = let z : d ≡ 0 = omega arith in ap (ends p n) (sym z) ∙ e
+pub stay : (p : List ℕ) (n k d : ℕ) → d ≤ k → levelEnd p n d ≡ n → levelEnd p n k ≡ n
+unfolding levelEnd
+stay p n zero d h e = let z : d ≡ 0 = omega arith in ap (levelEnd p n) (sym z) ∙ e
 stay p n (suc k) d h e = go (decLt k d) (stay p n k d)
   where
-    go : Dec (k < d) → (d ≤ k → ends p n d ≡ n → ends p n k ≡ n) → ends p n (suc k) ≡ n
-    go (yes l) ih = let z : d ≡ suc k = omega arith in ap (ends p n) (sym z) ∙ e
-    go (no l) ih = let q : ends p n k ≡ n = ih (omega arith) e in ap (hop p n) q ∙ ap (λ (t : Bool). cond t (firstAt p n) n) (le-ltb n n (omega arith))
+    go : Dec (k < d) → (d ≤ k → levelEnd p n d ≡ n → levelEnd p n k ≡ n) → levelEnd p n (suc k) ≡ n
+    go (yes l) ih = let z : d ≡ suc k = omega arith in ap (levelEnd p n) (sym z) ∙ e
+    go (no l) ih = let q : levelEnd p n k ≡ n = ih (omega arith) e in ap (hop p n) q ∙ ap (λ (t : Bool). cond t (firstAt p n) n) (le-ltb n n (omega arith))
 
-pub ends-start : (p : List ℕ) (n : ℕ) → ends p n 0 ≡ 1
-unfolding ends
+pub ends-start : (p : List ℕ) (n : ℕ) → levelEnd p n 0 ≡ 1
+unfolding levelEnd
 ends-start p n = refl
 
-pub ends-on : (p : List ℕ) (n d e : ℕ) → ends p n d ≡ e → e < n → ends p n (d + 1) ≡ firstAt p e
-unfolding ends
+pub ends-on : (p : List ℕ) (n d e : ℕ) → levelEnd p n d ≡ e → e < n → levelEnd p n (d + 1) ≡ firstAt p e
+unfolding levelEnd
 ends-on p n d e q l =
     let z : d + 1 ≡ suc d = omega arith in
-    ap (ends p n) z ∙ ap (hop p n) q ∙ ap (λ (t : Bool). cond t (firstAt p e) e) (lt-ltb e n l)
+    ap (levelEnd p n) z ∙ ap (hop p n) q ∙ ap (λ (t : Bool). cond t (firstAt p e) e) (lt-ltb e n l)
 
 pub record Levels (p : List ℕ) (n e d : ℕ) : Type 0 where
   pub upto : d ≤ 255
   pub fits : e ≤ n
-  pub is : ends p n d ≡ e
+  pub is : levelEnd p n d ≡ e
 
 pub level-on : (p : List ℕ) (n e d f : ℕ) → Shaped p n → Levels p n e d → d < 255 → e < n → f ≡ getD p (8 * e + 1) 0 → Levels p n f (d + 1)
 unfolding firstAt
 level-on p n e d f s v l h q = record { upto = omega arith; fits = omega (arith, within p n s e h); is = ends-on p n d e (v .is) h ∙ sym q }
 
-pub level-done : (p : List ℕ) (n e d : ℕ) → Levels p n e d → 255 ≤ d → Decides (leb n e) (ends p n 255 ≡ n)
+pub level-done : (p : List ℕ) (n e d : ℕ) → Levels p n e d → 255 ≤ d → Decides (leb n e) (levelEnd p n 255 ≡ n)
 level-done p n e d v l =
     let z : d ≡ 255 = omega (arith, v .upto) in
-    let is′ : ends p n 255 ≡ e = ap (ends p n) (sym z) ∙ v .is in
+    let is′ : levelEnd p n 255 ≡ e = ap (levelEnd p n) (sym z) ∙ v .is in
     record { yes′ = λ t. omega (arith, leb-true n e t, v .fits); no′ = λ t q. omega (arith, leb-false n e t) }
 
 -- ---- the whole
@@ -199,7 +200,7 @@ nodes-of p n h = record {
 }
 
 pub sound-of : (p : List ℕ) (n : ℕ) → Nodes p n → 8 * n ≤ length p → n ≤ 1048576 → getD p 0 0 ≡ 0 → getD p 3 0 ≡ 0 → getD p 4 0 ≡ n
-    → ((k : ℕ) → 8 * n ≤ k → getD p k 0 ≡ 0) → ((i : ℕ) → 0 < i → i ≤ countAt p 0 → isTrimmed (scalarAt p i) ≡ false) → ends p n 255 ≡ n → Sound p n 0
+    → ((k : ℕ) → 8 * n ≤ k → getD p k 0 ≡ 0) → ((i : ℕ) → 0 < i → i ≤ countAt p 0 → isTrimmed (scalarAt p i) ≡ false) → levelEnd p n 255 ≡ n → Sound p n 0
 unfolding scalarAt markAt
 sound-of p n h fit small root um used blank starts deep = record {
   shaped = h .shaped;

@@ -1,2 +1,2 @@
-pub mod Checks
 pub mod Refusals
+pub mod inner

@@ -3,9 +3,9 @@ use Prim.Native.Nat.{ℕ}
 use mathlib.Core.Bool.{Bool, true, false}
 use mathlib.Core.List.{List, [], _∷_, _++_}
 use mathlib.Core.Option.{Option, none, some}
-use Rattle.refusal.specs.Answers.{Row}
+use Rattle.refusal.specs.Answers.{Cause}
 use Rattle.refusal.specs.declared.Refusal.the-variants.{NotADictionary}
-use Rattle.char_string.specs.Scalars.{textRows}
+use Rattle.char_string.specs.Scalars.{textCauses}
 use Rattle.trie_pool.specs.Meaning.{Words, noWord}
 
 abbrev pub isNone : Option Words → Bool
@@ -18,9 +18,9 @@ held none = noWord
 held (some f) = f
 
 -- 4: the pool isn't a dictionary; 0.
-abbrev pub poolRows : Option Words → List Row
-poolRows m = record { refusal = NotADictionary; holds = isNone m } ∷ []
+abbrev pub poolCauses : Option Words → List Cause
+poolCauses m = record { refusal = NotADictionary; holds = isNone m } ∷ []
 
--- Contains: 2, 3, 4. The rows of every operation on a text start with these.
-abbrev pub readRows : List ℕ → Option Words → List Row
-readRows text m = textRows text ++ poolRows m
+-- Contains: 2, 3, 4. The causes of every operation on a text start with these.
+abbrev pub readCauses : List ℕ → Option Words → List Cause
+readCauses text m = textCauses text ++ poolCauses m

@@ -13,7 +13,7 @@ ghost use lib.ListN.{length};
 ghost use Rattle.refusal.specs.Answers.{answer};
 ghost use Rattle.trie_pool.specs.Rules.{isDictionary};
 ghost use Rattle.trie_pool.specs.Meaning.{meaning};
-ghost use Rattle.trie_check.specs.Refusals.{readRows};
+ghost use Rattle.trie_check.specs.Refusals.{readCauses};
 
 // The nodes that a pool of so many cells has room for.
 pub fn capacity(cells: usize) -> usize
@@ -35,7 +35,7 @@ pub fn is_dictionary(pool: &[u32]) -> bool
 
 // Refusals 2, 3 and 4, accepted with the text's length.
 pub fn check(pool: &[u32], text: &[u32]) -> Answer
-    ensures { λ r. ⌜ r ≡ answer (readRows (now (text .entry)) (meaning (now (pool .entry)))) (length (now (text .entry))) ⌝ }
+    ensures { λ r. ⌜ r ≡ answer (readCauses (now (text .entry)) (meaning (now (pool .entry)))) (length (now (text .entry))) ⌝ }
 {
     let first = check_text(text);
     match first {

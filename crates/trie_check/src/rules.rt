@@ -10,9 +10,10 @@ ghost use Prim.Native.Nat.{ℕ, _*_, _≤_, _<_};
 ghost use lib.ListN.{length, getD};
 ghost use Rattle.char_string.specs.Blanks.{isTrimmed};
 ghost use Rattle.trie_pool.specs.Cells.{scalarAt};
-ghost use Rattle.trie_pool.specs.Sound.{Shaped, Rising, ends};
+ghost use Rattle.trie_pool.specs.inner.Sound.{Shaped, Rising};
+ghost use Rattle.trie_pool.specs.Levels.{levelEnd};
 ghost use Rattle.trie_pool.specs.Rules.{wellFormed};
-ghost use Rattle.trie_check.specs.Checks.{Decides, Inner, Each, Nodes};
+ghost use Rattle.trie_check.specs.inner.Checks.{Decides, Inner, Each, Nodes};
 
 // The Thai block, of which nearly all nodes are. None of it is trimmed.
 fn is_thai(x: u32) -> bool
@@ -142,7 +143,7 @@ fn starts_ok(p: &[u32], k: usize) -> bool
 // Whether the nodes stand on at most 255 levels below the root.
 fn shallow(p: &[u32], n: usize) -> bool
     requires { ⌜ (Shaped (now p) n) × (8 * n ≤ length (now p)) ⌝ }
-    ensures { λ r. ⌜ Decides r (ends (now (p .entry)) n 255 ≡ n) ⌝ }
+    ensures { λ r. ⌜ Decides r (levelEnd (now (p .entry)) n 255 ≡ n) ⌝ }
 {
     let mut e: usize = 1;
     let mut d: usize = 0;

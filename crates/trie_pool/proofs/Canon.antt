@@ -8,8 +8,8 @@ use native.Mathlib.Decide.{decLt}
 use lib.ListN.{length, getD}
 use lib.Seq.{ext-getD}
 use Rattle.trie_pool.specs.Cells.{scalarAt, firstAt, countAt, markAt}
-use Rattle.trie_pool.specs.Paths.{reach, rev}
-use Rattle.trie_pool.specs.Sound.{Rising, Sound}
+use Rattle.trie_pool.specs.inner.Paths.{reach, rev}
+use Rattle.trie_pool.specs.inner.Sound.{Rising, Sound}
 use Rattle.trie_pool.specs.Words.{Place, none, at, on-place, child, walk, marked, holds}
 use Rattle.trie_pool.proofs.Shape.{within, one-parent, child-found, step, walk-reach, reach-within, scan-new, climb}
 

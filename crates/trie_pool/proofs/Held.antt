@@ -10,8 +10,9 @@ use Rattle.char_string.specs.Scalars.{isScalar}
 use Rattle.char_string.specs.Blanks.{isTrimmed, trimmedOf}
 use Rattle.trie_pool.specs.Cells.{markAt}
 use Rattle.trie_pool.specs.Words.{Place, none, at, on-place, child, walk, marked, holds}
-use Rattle.trie_pool.specs.Paths.{reach, rev}
-use Rattle.trie_pool.specs.Sound.{Sound, ends}
+use Rattle.trie_pool.specs.inner.Paths.{reach, rev}
+use Rattle.trie_pool.specs.inner.Sound.{Sound}
+use Rattle.trie_pool.specs.Levels.{levelEnd}
 use Rattle.trie_pool.proofs.Shape.{child-found, child-after, within, reach-within, walk-is, rev-rev, Step, step}
 use Rattle.trie_pool.proofs.Level.{ends-mono, level-low}
 use Rattle.trie_pool.proofs.Rules.{clash}
@@ -23,7 +24,7 @@ pub record Word (w : List ℕ) : Type 0 where
   pub short : length w ≤ 255
   pub legal : (i : ℕ) → i < length w → isScalar (getD w i 0) ≡ true
 
--- where the word ends
+-- where the word levelEnd
 pub record Ending (p w : List ℕ) : Type 0 where
   pub node : ℕ
   pub there : walk p w 0 ≡ at node

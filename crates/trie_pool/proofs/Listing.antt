@@ -11,8 +11,8 @@ use lib.Dec.{ltb}
 use lib.ListN.{length}
 use Rattle.trie_pool.specs.Cells.{markAt}
 use Rattle.trie_pool.specs.Words.{Place, none, at, on-place, walk, marked, holds}
-use Rattle.trie_pool.specs.Paths.{reach, rev}
-use Rattle.trie_pool.specs.Sound.{Sound}
+use Rattle.trie_pool.specs.inner.Paths.{reach, rev}
+use Rattle.trie_pool.specs.inner.Sound.{Sound}
 use Rattle.trie_pool.specs.Meaning.{tally}
 use Rattle.trie_pool.specs.Listing.{Member, Distinct, Number, Held, Prefix}
 use Rattle.trie_pool.proofs.Shape.{child-after, reach-within, walk-is, walk-two, rev-rev, step, one-path}

@@ -12,7 +12,8 @@ use Rattle.char_string.specs.Scalars.{isScalar}
 use Rattle.char_string.specs.Blanks.{isTrimmed}
 use Rattle.trie_pool.specs.Cells.{scalarAt, firstAt, countAt, markAt, used}
 use Rattle.trie_pool.specs.Words.{marked}
-use Rattle.trie_pool.specs.Sound.{Shaped, Rising, Fit, Spare, ends, Sound}
+use Rattle.trie_pool.specs.inner.Sound.{Shaped, Rising, Fit, Spare, Sound}
+use Rattle.trie_pool.specs.Levels.{levelEnd}
 use Rattle.trie_pool.specs.Rules.{capacity, every, rising, zeros, rules, all, wellFormed}
 
 -- ---- truth values
@@ -171,7 +172,7 @@ module _ (p : List ℕ) (h : Each (rules p)) where
     fit = fit-is;
     leaf = λ i a l ne. leaf-is i a l;
     start = start-is;
-    shallow = eqb-true (ends p (used p) 255) (used p) (h .1 .1 .1 .1 .1 .1 .1 .1 .1 .1 .0);
+    shallow = eqb-true (levelEnd p (used p) 255) (used p) (h .1 .1 .1 .1 .1 .1 .1 .1 .1 .1 .0);
     spare = spare-is;
   }
 
@@ -203,7 +204,7 @@ passes p g = of-each (rules p) (
                   every-of (countAt p 0) _ (λ i l. ap not (g .start (suc i) (omega arith) (omega arith))),
                   (
                     inner-of (used p) (λ i. not (marked (markAt p i) && isTrimmed (scalarAt p i))) (λ i a l. of-stop (markAt p i) (isTrimmed (scalarAt p i)) (g .fit i a l .stop)),
-                    (eq-eqb (ends p (used p) 255) (used p) (g .shallow), (blanks, tt)),
+                    (eq-eqb (levelEnd p (used p) 255) (used p) (g .shallow), (blanks, tt)),
                   ),
                 ),
               ),

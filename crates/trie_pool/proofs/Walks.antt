@@ -10,7 +10,7 @@ use lib.ListN.{length, getD, take, drop, length-drop}
 use lib.Seq.{getD-drop, length-take-le}
 use Rattle.trie_pool.specs.Cells.{markAt}
 use Rattle.trie_pool.specs.Words.{none, at, on-place, child, walk, marked, holds}
-use Rattle.trie_pool.specs.Sound.{Sound, Readable}
+use Rattle.trie_pool.specs.inner.Sound.{Sound, Readable}
 use Rattle.trie_pool.proofs.Shape.{within, child-found, walk-more, walk-append}
 use Rattle.trie_pool.proofs.Held.{held-word}
 

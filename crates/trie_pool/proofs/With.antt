@@ -7,7 +7,7 @@ use mathlib.Core.List.{List, [], _∷_, _++_}
 use mathlib.Core.Logic.{_⊎_, inl, inr}
 use lib.ListN.{length, length-append}
 use Rattle.trie_pool.specs.Words.{Place, none, at, on-place, child, walk, holds, lacking}
-use Rattle.trie_pool.specs.Sound.{Sound}
+use Rattle.trie_pool.specs.inner.Sound.{Sound}
 use Rattle.trie_pool.specs.Meaning.{same, withWord}
 use Rattle.trie_pool.specs.Listing.{Member, Distinct, Number, Prefix}
 use Rattle.trie_pool.proofs.Shape.{walk-two}

@@ -8,7 +8,7 @@ use Rattle.char_string.specs.Scalars.{isScalar}
 use Rattle.char_string.specs.Blanks.{isTrimmed}
 use Rattle.trie_pool.specs.Cells.{scalarAt, firstAt, countAt, markAt, used}
 use Rattle.trie_pool.specs.Words.{marked}
-use Rattle.trie_pool.specs.Sound.{ends}
+use Rattle.trie_pool.specs.Levels.{levelEnd}
 
 -- Eight cells to a node, at most 1,048,576 nodes.
 abbrev pub capacity : List ℕ → ℕ
@@ -69,13 +69,13 @@ leaves p = eachInner p (λ i. leb 1 (countAt p i) || marked (markAt p i))
 abbrev pub starts : List ℕ → Bool
 starts p = every (countAt p 0) (λ i. not (isTrimmed (scalarAt p (suc i))))
 
--- 10. No word ends with a trimmed character.
+-- 10. No word levelEnd with a trimmed character.
 abbrev pub stops : List ℕ → Bool
 stops p = eachInner p (λ i. not (marked (markAt p i) && isTrimmed (scalarAt p i)))
 
 -- 11. There are at most 255 levels below the root.
 abbrev pub levels : List ℕ → Bool
-levels p = eqb (ends p (used p) 255) (used p)
+levels p = eqb (levelEnd p (used p) 255) (used p)
 
 -- 12. Cells that mean nothing are 0: the fifth of each node but the root, the last three of each, and all of the nodes that are not in use.
 abbrev pub zeros : List ℕ → Bool

@@ -11,9 +11,9 @@ use lib.Dec.{eqb, eqb·suc-zero}
 use lib.ListN.{length, getD, drop, drop-of-length-le, length-drop}
 use Rattle.trie_pool.specs.Meaning.{tally, amount}
 use Rattle.trie_pool.specs.Cells.{used, scalarAt, firstAt, countAt, markAt}
-use Rattle.trie_pool.specs.Sound.{Readable}
+use Rattle.trie_pool.specs.inner.Sound.{Readable}
 use Rattle.trie_pool.specs.Words.{lacking, none, at, on-place, scan, child, walk, marked, holds}
-use Rattle.trie_search.specs.Search.{Sought, toPlace}
+use Rattle.trie_search.specs.inner.Search.{Sought, toPlace}
 use Rattle.trie_search.specs.declared.search.Kid.{Kid}
 use Rattle.trie_search.specs.declared.search.Kid.the-variants.{Nothing, Is}
 use Rattle.trie_pool.proofs.Lists.{drop-next}

@@ -6,9 +6,9 @@ use mathlib.Core.Path.{_≡_, sym, subst}
 use mathlib.Core.List.{List}
 use lib.ListN.{length, getD}
 use Rattle.trie_pool.specs.Cells.{firstAt, countAt, scalarAt}
-use Rattle.trie_pool.specs.Sound.{Readable, Rising}
+use Rattle.trie_pool.specs.inner.Sound.{Readable, Rising}
 use Rattle.trie_pool.proofs.Shape.{within, climb, first-is, count-is}
-use Rattle.trie_search.specs.Search.{Sought}
+use Rattle.trie_search.specs.inner.Search.{Sought}
 
 -- children rise by one at least
 steep : (p : List ℕ) (s e : ℕ) → Rising p s e → (d : ℕ) → s + d < e → scalarAt p s + d ≤ scalarAt p (s + d)

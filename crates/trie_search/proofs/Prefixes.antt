@@ -9,12 +9,12 @@ use lib.ListN.{length, getD, take, drop, set, length-append, length-set, drop-of
 use lib.Seq.{take-suc-set, drop-set-lt, length-take-le, append-snoc, drop-drop, drop-cons}
 use Rattle.trie_pool.specs.Cells.{markAt}
 use Rattle.trie_pool.specs.Words.{Place, none, at, on-place, child, walk, marked, holds}
-use Rattle.trie_pool.specs.Sound.{Readable}
+use Rattle.trie_pool.specs.inner.Sound.{Readable}
 use Rattle.trie_pool.specs.Meaning.{lengthsFrom, prefixLengths}
 use Rattle.trie_pool.proofs.Lists.{drop-next}
 use Rattle.trie_pool.proofs.Shape.{walk-append, walk-more}
 use Rattle.trie_pool.proofs.Walks.{readable-child}
-use Rattle.trie_search.specs.Search.{toPlace, Wrote}
+use Rattle.trie_search.specs.inner.Search.{toPlace, Wrote}
 use Rattle.trie_search.specs.declared.search.Kid.{Kid}
 use Rattle.trie_search.specs.declared.search.Kid.the-variants.{Nothing, Is}
 

@@ -6,8 +6,8 @@ ghost use lib.ListN.{length};
 ghost use Rattle.trie_pool.specs.Cells.{markAt};
 ghost use Rattle.trie_pool.specs.Words.{child, marked, holds, lacking};
 ghost use Rattle.trie_pool.specs.Meaning.{prefixLengths, amount};
-ghost use Rattle.trie_pool.specs.Sound.{Readable};
-ghost use Rattle.trie_search.specs.Search.{Sought, toPlace, Asks, Wrote, Counts};
+ghost use Rattle.trie_pool.specs.inner.Sound.{Readable};
+ghost use Rattle.trie_search.specs.inner.Search.{Sought, toPlace, Asks, Wrote, Counts};
 
 // A child, or none.
 pub enum Kid {

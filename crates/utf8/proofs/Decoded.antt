@@ -10,11 +10,11 @@ use Rattle.refusal.specs.declared.Answer.the-variants.{Accepted, Refused}
 use Rattle.refusal.specs.declared.Refusal.the-variants.{IllFormed, TooManyScalars, OutputTooShort}
 use Rattle.utf8.specs.declared.Counted.{Counted}
 use Rattle.refusal.specs.Answers.{numbers}
-use Rattle.utf8.specs.Decoding.{runAll, scalarsOf, decodeRows, decoded}
-use Rattle.utf8.specs.Passes.{countedOf}
+use Rattle.utf8.specs.Decoding.{runAll, scalarsOf, decodeCauses, decoded}
+use Rattle.utf8.specs.inner.Passes.{countedOf}
 
 -- Decoding: 1, 2, 6.
-pub decoding : (bytes : List ℕ) (room : ℕ) → numbers (decodeRows bytes room) ≡ 1 ∷ 2 ∷ 6 ∷ []
+pub decoding : (bytes : List ℕ) (room : ℕ) → numbers (decodeCauses bytes room) ≡ 1 ∷ 2 ∷ 6 ∷ []
 decoding bytes room = refl
 
 module _ (bytes : List ℕ) (room : ℕ) (c : Counted) (h : c ≡ countedOf (runAll bytes)) where

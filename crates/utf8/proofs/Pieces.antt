@@ -12,7 +12,7 @@ use borrow.Author.Tests.{ltb-true, ltb-false}
 use Rattle.utf8.specs.declared.Piece.{Piece}
 use Rattle.utf8.specs.Utf8.{Range, scalarOf}
 use Rattle.utf8.specs.Decoding.{starts, sizeOf}
-use Rattle.utf8.specs.Passes.{pieceOf}
+use Rattle.utf8.specs.inner.Passes.{pieceOf}
 use Rattle.utf8.proofs.FirstBytes.{Opens, Kind, shut, one, two, three, four, kind-of}
 use Rattle.utf8.proofs.Sizes.{third-range, fourth-range, size-inside}
 

@@ -8,7 +8,7 @@ use lib.Dec.{ltb, eqb}
 use Rattle.lists.specs.Scans.{within}
 use Rattle.refusal.specs.declared.Answer.{Answer}
 use Rattle.refusal.specs.declared.Refusal.the-variants.{IllFormed, TooManyScalars, OutputTooShort}
-use Rattle.refusal.specs.Answers.{Row, answer}
+use Rattle.refusal.specs.Answers.{Cause, answer}
 use Rattle.utf8.specs.Utf8.{Range, table37, scalarOf}
 
 -- The entry of a first byte: the sequence length (0 for none) and the allowed second-byte range, as one number, a byte each.
@@ -72,8 +72,8 @@ abbrev pub scalarsOf : List ℕ → List ℕ
 scalarsOf bytes = runAll bytes .scalars
 
 -- Decoding: 1, 2, 6.
-abbrev pub decodeRows : List ℕ → ℕ → List Row
-decodeRows bytes room =
+abbrev pub decodeCauses : List ℕ → ℕ → List Cause
+decodeCauses bytes room =
     record { refusal = IllFormed (runAll bytes .taken); holds = not (runAll bytes .whole) }
     ∷ record { refusal = TooManyScalars (length (scalarsOf bytes)); holds = ltb 65535 (length (scalarsOf bytes)) }
     ∷ record { refusal = OutputTooShort (length (scalarsOf bytes)); holds = ltb room (length (scalarsOf bytes)) }
@@ -81,4 +81,4 @@ decodeRows bytes room =
 
 -- accepted with the number of scalars
 abbrev pub decoded : List ℕ → ℕ → Answer
-decoded bytes room = answer (decodeRows bytes room) (length (scalarsOf bytes))
+decoded bytes room = answer (decodeCauses bytes room) (length (scalarsOf bytes))

@@ -14,7 +14,7 @@ ghost use mathlib.Core.List.{_++_};
 ghost use Rattle.lists.specs.Scans.{within};
 ghost use Rattle.refusal.specs.Answers.{output};
 ghost use Rattle.utf8.specs.Decoding.{Leads, sizeOf, runAll, scalarsOf, decoded};
-ghost use Rattle.utf8.specs.Passes.{pieceOf, countedOf};
+ghost use Rattle.utf8.specs.inner.Passes.{pieceOf, countedOf};
 
 // The scalar at a place, and the number of bytes of its sequence.
 pub struct Piece {

@@ -31,13 +31,21 @@ loop-less : tie.Need-loop-less Inv-loop μ-loop
 loop-less c = omega arith
 
 loop-again : tie.Need-loop-again Inv-loop μ-loop
-loop-again c = let f = c .before .loop .inv in filled-more f 0 (c .loop-test .taken) (sym (getD-replicate {A = ℕ} (length (c .before .before .args .row .now)) _ 0 0 (omega (arith, f .fits))))
+loop-again c =
+    let c2 = c .before .before in
+    let f = c .before .loop .inv in
+    filled-more f 0 (c .loop-test .taken)
+    (sym (getD-replicate {A = ℕ} (length (c2 .args .row .now)) _ 0 0 (omega (arith, f .fits))))
 
 same-length : tie.Need-same-length Inv-loop μ-loop
 same-length c = long (c .before .loop .inv)
 
 returns : tie.Need-returns Inv-loop μ-loop
-returns c = let f = c .before .loop .inv in filled-all f (c .loop-test .left) ∙ ap (λ (z : List ℕ). z ++ drop (c .before .before .args .k) (c .before .before .args .row .now)) (zeros-take (c .before .before .args .k) (length (c .before .before .args .row .now)) (f .fits))
+returns c =
+    let c2 = c .before .before in
+    let f = c .before .loop .inv in
+    filled-all f (c .loop-test .left) ∙ ap (λ (z : List ℕ). z ++ drop (c2 .args .k) (c2 .args .row .now))
+    (zeros-take (c2 .args .k) (length (c2 .args .row .now)) (f .fits))
 
 pub clear-spec : {M : Type 1} → statement M
 clear-spec =

@@ -28,10 +28,20 @@ wide-requires : tie.Need-wide-requires Inv-loop μ-loop
 wide-requires c κs = search needs
 
 add-narrow : tie.Need-add-narrow Inv-loop μ-loop
-add-narrow c = let f = c .before .before .before .loop .inv in omega (arith, c .wide .ensures, unmoved f (c .before .before .loop-test .taken), c .before .before .before .before .before .pre .1 (c .before .before .before .loop .i) (c .before .before .loop-test .taken))
+add-narrow c =
+    let c2 = c .before .before in
+    let c3 = c2 .before in
+    let c5 = c3 .before .before in
+    let f = c3 .loop .inv in
+    omega (arith, c .wide .ensures, unmoved f (c2 .loop-test .taken), c5 .pre .1 (c3 .loop .i) (c2 .loop-test .taken))
 
 narrow-requires : tie.Need-narrow-requires Inv-loop μ-loop
-narrow-requires c κs = let f = c .before .before .before .loop .inv in omega (arith, c .wide .ensures, unmoved f (c .before .before .loop-test .taken), c .before .before .before .before .before .pre .1 (c .before .before .before .loop .i) (c .before .before .loop-test .taken))
+narrow-requires c κs =
+    let c2 = c .before .before in
+    let c3 = c2 .before in
+    let c5 = c3 .before .before in
+    let f = c3 .loop .inv in
+    omega (arith, c .wide .ensures, unmoved f (c2 .loop-test .taken), c5 .pre .1 (c3 .loop .i) (c2 .loop-test .taken))
 
 mul-row : tie.Need-mul-row Inv-loop μ-loop
 mul-row c = search needs
@@ -46,13 +56,25 @@ loop-less : tie.Need-loop-less Inv-loop μ-loop
 loop-less c = omega arith
 
 loop-again : tie.Need-loop-again Inv-loop μ-loop
-loop-again c = let f = c .before .before .before .before .loop .inv in filled-more f _ (c .before .before .before .loop-test .taken) (c .narrow .ensures ∙ ap (λ (e : ℕ). c .before .before .before .before .before .before .args .by + e) (c .before .wide .ensures ∙ unmoved f (c .before .before .before .loop-test .taken)) ∙ sym (map-at (λ (e : ℕ). c .before .before .before .before .before .before .args .by + e) (c .before .before .before .before .before .before .args .row .now) _ (omega (arith, f .fits))))
+loop-again c =
+    let c3 = c .before .before .before in
+    let c4 = c3 .before in
+    let c6 = c4 .before .before in
+    let f = c4 .loop .inv in
+    filled-more f _ (c3 .loop-test .taken)
+    (c .narrow .ensures ∙ ap (λ (e : ℕ). c6 .args .by + e)
+    (c .before .wide .ensures ∙ unmoved f (c3 .loop-test .taken)) ∙ sym
+    (map-at (λ (e : ℕ). c6 .args .by + e) (c6 .args .row .now) _ (omega (arith, f .fits))))
 
 same-length : tie.Need-same-length Inv-loop μ-loop
 same-length c = long (c .before .loop .inv)
 
 returns : tie.Need-returns Inv-loop μ-loop
-returns c = let f = c .before .loop .inv in filled-all f (c .loop-test .left) ∙ ap (λ (z : List ℕ). z ++ drop (c .before .before .before .args .k) (c .before .before .before .args .row .now)) (map-take (λ (e : ℕ). c .before .before .before .args .by + e) (c .before .before .before .args .k) (c .before .before .before .args .row .now))
+returns c =
+    let c3 = c .before .before .before in
+    let f = c .before .loop .inv in
+    filled-all f (c .loop-test .left) ∙ ap (λ (z : List ℕ). z ++ drop (c3 .args .k) (c3 .args .row .now))
+    (map-take (λ (e : ℕ). c3 .args .by + e) (c3 .args .k) (c3 .args .row .now))
 
 pub shift-spec : {M : Type 1} → statement M
 shift-spec =

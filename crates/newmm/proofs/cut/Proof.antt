@@ -16,16 +16,27 @@ enum-told : tie.Need-enum-told
 enum-told c = search needs
 
 cut-checked-requires : tie.Need-cut-checked-requires
-cut-checked-requires c κs = passes (c .before .before .before .before .before .before .before .before .before .args .mode) (c .before .before .before .before .before .before .before .before .before .args .text .now) (c .before .before .before .before .before .before .before .before .before .args .pool .now) (c .before .before .before .before .before .before .before .before .before .args .scratch .now) (c .before .before .before .before .check-cut .ensures) (c .before .before .enum-told .given .1)
+cut-checked-requires c κs =
+    let c2 = c .before .before in
+    let c4 = c2 .before .before in
+    let c9 = c4 .before .before .before .before .before in
+    passes (c9 .args .mode) (c9 .args .text .now) (c9 .args .pool .now) (c9 .args .scratch .now)
+    (c4 .check-cut .ensures) (c2 .enum-told .given .1)
 
 returns : tie.Need-returns
-returns c = (
-  early-answer (c .before .before .before .before .before .before .before .before .args .mode) (c .before .before .before .before .before .before .before .before .args .text .now) (c .before .before .before .before .before .before .before .before .args .pool .now) (c .before .before .before .before .before .before .before .before .args .scratch .now) (c .before .before .before .check-cut .ensures) (c .before .first .given .1) (length (c .before .before .before .before .before .before .before .before .args .out .now)),
-  (
-    early-out (c .before .before .before .before .before .before .before .before .args .mode) (c .before .before .before .before .before .before .before .before .args .text .now) (c .before .before .before .before .before .before .before .before .args .pool .now) (c .before .before .before .before .before .before .before .before .args .scratch .now) (c .before .before .before .check-cut .ensures) (c .before .first .given .1) (c .before .before .before .before .before .before .before .before .args .out .now),
-    early-scratch (c .before .before .before .before .before .before .before .before .args .mode) (c .before .before .before .before .before .before .before .before .args .text .now) (c .before .before .before .before .before .before .before .before .args .pool .now) (c .before .before .before .before .before .before .before .before .args .scratch .now) (c .before .before .before .check-cut .ensures) (c .before .first .given .1),
-  ),
-)
+returns c =
+    let c3 = c .before .before .before in
+    let c8 = c3 .before .before .before .before .before in (
+      early-answer (c8 .args .mode) (c8 .args .text .now) (c8 .args .pool .now) (c8 .args .scratch .now)
+          (c3 .check-cut .ensures) (c .before .first .given .1) (length (c8 .args .out .now)),
+      (
+        early-out (c8 .args .mode) (c8 .args .text .now) (c8 .args .pool .now) (c8 .args .scratch .now)
+            (c3 .check-cut .ensures) (c .before .first .given .1) (c8 .args .out .now),
+        early-scratch (c8 .args .mode)
+            (c8 .args .text .now) (c8 .args .pool .now) (c8 .args .scratch .now) (c3 .check-cut .ensures)
+            (c .before .first .given .1),
+      ),
+    )
 
 same-length : tie.Need-same-length
 same-length c = search needs
@@ -34,10 +45,19 @@ same-length-2 : tie.Need-same-length-2
 same-length-2 c = search needs
 
 returns-2 : tie.Need-returns-2
-returns-2 c = (
-  c .before .before .before .before .cut-checked .ensures .0,
-  (c .before .before .before .before .cut-checked .ensures .1 .0, c .before .before .before .before .cut-checked .ensures .1 .1 ∙ late-scratch (c .before .before .before .before .before .before .before .before .before .before .before .before .before .before .args .mode) (c .before .before .before .before .before .before .before .before .before .before .before .before .before .before .args .text .now) (c .before .before .before .before .before .before .before .before .before .before .before .before .before .before .args .pool .now) (c .before .before .before .before .before .before .before .before .before .before .before .before .before .before .args .scratch .now) (c .before .before .before .before .before .before .before .before .before .check-cut .ensures) (c .before .before .before .before .before .before .before .enum-told .given .1)),
-)
+returns-2 c =
+    let c4 = c .before .before .before .before in
+    let c7 = c4 .before .before .before in
+    let c9 = c7 .before .before in
+    let c14 = c9 .before .before .before .before .before in (
+      c4 .cut-checked .ensures .0,
+      (
+        c4 .cut-checked .ensures .1 .0,
+        c4 .cut-checked .ensures .1 .1 ∙ late-scratch (c14 .args .mode)
+            (c14 .args .text .now) (c14 .args .pool .now) (c14 .args .scratch .now) (c9 .check-cut .ensures)
+            (c7 .enum-told .given .1),
+      ),
+    )
 
 pub cut-spec : {M : Type 1} → statement M
 cut-spec =

@@ -1,7 +1,7 @@
 -- Assumes nothing.
 use native.Mathlib.Omega.{arith}
 use lib.ListN.{length-set}
-use Rattle.newmm_bfs.proofs.Rows.{up-old, up-new}
+use Rattle.newmm_bfs.proofs.Strips.{up-old, up-new}
 use borrow.Author.Needs.{needs}
 use Rattle.newmm_bfs.proofs.queue_up.Statement.{statement}
 use Rattle.newmm_bfs.proofs.queue_up.Tie as tie
@@ -19,7 +19,9 @@ slice-read-if1 : tie.Need-slice-read-if1
 slice-read-if1 c = search needs
 
 returns : tie.Need-returns
-returns c = up-old (c .before .before .before .args .row .now) (c .before .before .before .args .m) (c .before .before .before .args .tail) (c .before .before .before .args .v) (c .before .before .before .args .x) (c .if1 .taken)
+returns c =
+    let c3 = c .before .before .before in
+    up-old (c3 .args .row .now) (c3 .args .m) (c3 .args .tail) (c3 .args .v) (c3 .args .x) (c .if1 .taken)
 
 add-narrow : tie.Need-add-narrow
 add-narrow c = search needs
@@ -52,7 +54,11 @@ same-length : tie.Need-same-length
 same-length c = search needs
 
 returns-2 : tie.Need-returns-2
-returns-2 c = up-new (c .before .before .before .before .before .args .row .now) (c .before .before .before .before .before .args .m) (c .before .before .before .before .before .args .tail) (c .before .before .before .before .before .args .v) (c .before .before .before .before .before .args .x) _ _ (c .before .before .if1 .left) (c .before .narrow .ensures) (c .narrow2 .ensures)
+returns-2 c =
+    let c2 = c .before .before in
+    let c5 = c2 .before .before .before in
+    up-new (c5 .args .row .now) (c5 .args .m) (c5 .args .tail) (c5 .args .v) (c5 .args .x) _ _ (c2 .if1 .left)
+    (c .before .narrow .ensures) (c .narrow2 .ensures)
 
 pub queue-up-spec : {M : Type 1} → statement M
 queue-up-spec =

@@ -20,10 +20,15 @@ abbrev μ-loop : tie.MeasureT-loop
 μ-loop row₀ m start goal tail₀ head₀ row tail head = goal - start - head
 
 queue-up-requires : tie.Need-queue-up-requires Inv-loop2 μ-loop2 Inv-loop μ-loop
-queue-up-requires c κs = (c .before .before .pre .sized, (let o = c .before .before .pre .order in let i = c .before .before .pre .inside in (omega arith, omega arith, omega arith)))
+queue-up-requires c κs =
+    let c2 = c .before .before in
+    (c2 .pre .sized, (let o = c2 .pre .order in let i = c2 .pre .inside in (omega arith, omega arith, omega arith)))
 
 loop-holds : tie.Need-loop-holds Inv-loop2 μ-loop2 Inv-loop μ-loop
-loop-holds c = (begun _ _ _ _ (c .before .before .before .before .before .pre) _ _ (c .before .before .queue-up .ensures .0) (c .before .before .queue-up .ensures .1) .0, agree-same _ _)
+loop-holds c =
+    let c2 = c .before .before in
+    let c5 = c2 .before .before .before in
+    (begun _ _ _ _ (c5 .pre) _ _ (c2 .queue-up .ensures .0) (c2 .queue-up .ensures .1) .0, agree-same _ _)
 
 add-wide : tie.Need-add-wide Inv-loop2 μ-loop2 Inv-loop μ-loop
 add-wide c = let g = c .before .loop .inv .0 .good in omega (arith, g .sized .small, g .room, g .inside)
@@ -44,37 +49,87 @@ mul-wide-2 : tie.Need-mul-wide-2 Inv-loop2 μ-loop2 Inv-loop μ-loop
 mul-wide-2 c = search needs
 
 add-wide-2 : tie.Need-add-wide-2 Inv-loop2 μ-loop2 Inv-loop μ-loop
-add-wide-2 c = let f = front (c .before .before .before .loop .inv .0) (c .before .before .loop-test .taken) in let g = c .before .before .before .loop .inv .0 .good in omega (arith, f .1, g .sized .small, g .inside, c .wide .ensures)
+add-wide-2 c =
+    let c2 = c .before .before in
+    let c3 = c2 .before in
+    let f = front (c3 .loop .inv .0) (c2 .loop-test .taken) in
+    let g = c3 .loop .inv .0 .good in
+    omega (arith, f .1, g .sized .small, g .inside, c .wide .ensures)
 
 mul-wide-3 : tie.Need-mul-wide-3 Inv-loop2 μ-loop2 Inv-loop μ-loop
-mul-wide-3 c = let f = front (c .before .before .before .loop .inv .0) (c .before .before .loop-test .taken) in let g = c .before .before .before .loop .inv .0 .good in omega (arith, f .1, g .sized .small, g .inside, c .wide .ensures)
+mul-wide-3 c =
+    let c2 = c .before .before in
+    let c3 = c2 .before in
+    let f = front (c3 .loop .inv .0) (c2 .loop-test .taken) in
+    let g = c3 .loop .inv .0 .good in
+    omega (arith, f .1, g .sized .small, g .inside, c .wide .ensures)
 
 slice-read-wide-2 : tie.Need-slice-read-wide-2 Inv-loop2 μ-loop2 Inv-loop μ-loop
-slice-read-wide-2 c = let f = front (c .before .before .before .before .loop .inv .0) (c .before .before .before .loop-test .taken) in let g = c .before .before .before .before .loop .inv .0 .good in omega (arith, f .1, g .sized .long, g .inside, c .before .wide .ensures)
+slice-read-wide-2 c =
+    let c3 = c .before .before .before in
+    let c4 = c3 .before in
+    let f = front (c4 .loop .inv .0) (c3 .loop-test .taken) in
+    let g = c4 .loop .inv .0 .good in
+    omega (arith, f .1, g .sized .long, g .inside, c .before .wide .ensures)
 
 wide-requires-2 : tie.Need-wide-requires-2 Inv-loop2 μ-loop2 Inv-loop μ-loop
 wide-requires-2 c κs = search needs
 
 add-first : tie.Need-add-first Inv-loop2 μ-loop2 Inv-loop μ-loop
-add-first c = let f = front (c .before .before .before .before .before .loop .inv .0) (c .before .before .before .before .loop-test .taken) in let g = c .before .before .before .before .before .loop .inv .0 .good in let e = g .edges (c .before .before .wide .result) (omega (arith, f .0, c .before .before .wide .ensures)) (omega (arith, f .1, c .before .before .wide .ensures)) .fits in omega (arith, e, c .wide2 .ensures)
+add-first c =
+    let c2 = c .before .before in
+    let c4 = c2 .before .before in
+    let c5 = c4 .before in
+    let f = front (c5 .loop .inv .0) (c4 .loop-test .taken) in
+    let g = c5 .loop .inv .0 .good in
+    let e = g .edges (c2 .wide .result) (omega (arith, f .0, c2 .wide .ensures))
+    (omega (arith, f .1, c2 .wide .ensures)) .fits in
+    omega (arith, e, c .wide2 .ensures)
 
 mul-wide-4 : tie.Need-mul-wide-4 Inv-loop2 μ-loop2 Inv-loop μ-loop
 mul-wide-4 c = search needs
 
 add-wide-3 : tie.Need-add-wide-3 Inv-loop2 μ-loop2 Inv-loop μ-loop
-add-wide-3 c = let f = front (c .before .before .before .before .before .loop .inv .0) (c .before .before .before .before .loop-test .taken) in let g = c .before .before .before .before .before .loop .inv .0 .good in omega (arith, f .1, g .sized .small, g .inside, c .before .before .wide .ensures)
+add-wide-3 c =
+    let c2 = c .before .before in
+    let c4 = c2 .before .before in
+    let c5 = c4 .before in
+    let f = front (c5 .loop .inv .0) (c4 .loop-test .taken) in
+    let g = c5 .loop .inv .0 .good in
+    omega (arith, f .1, g .sized .small, g .inside, c2 .wide .ensures)
 
 mul-wide-5 : tie.Need-mul-wide-5 Inv-loop2 μ-loop2 Inv-loop μ-loop
-mul-wide-5 c = let f = front (c .before .before .before .before .before .loop .inv .0) (c .before .before .before .before .loop-test .taken) in let g = c .before .before .before .before .before .loop .inv .0 .good in omega (arith, f .1, g .sized .small, g .inside, c .before .before .wide .ensures)
+mul-wide-5 c =
+    let c2 = c .before .before in
+    let c4 = c2 .before .before in
+    let c5 = c4 .before in
+    let f = front (c5 .loop .inv .0) (c4 .loop-test .taken) in
+    let g = c5 .loop .inv .0 .good in
+    omega (arith, f .1, g .sized .small, g .inside, c2 .wide .ensures)
 
 slice-read-wide-3 : tie.Need-slice-read-wide-3 Inv-loop2 μ-loop2 Inv-loop μ-loop
-slice-read-wide-3 c = let f = front (c .before .before .before .before .before .before .loop .inv .0) (c .before .before .before .before .before .loop-test .taken) in let g = c .before .before .before .before .before .before .loop .inv .0 .good in omega (arith, f .1, g .sized .long, g .inside, c .before .before .before .wide .ensures)
+slice-read-wide-3 c =
+    let c3 = c .before .before .before in
+    let c5 = c3 .before .before in
+    let c6 = c5 .before in
+    let f = front (c6 .loop .inv .0) (c5 .loop-test .taken) in
+    let g = c6 .loop .inv .0 .good in
+    omega (arith, f .1, g .sized .long, g .inside, c3 .wide .ensures)
 
 wide-requires-3 : tie.Need-wide-requires-3 Inv-loop2 μ-loop2 Inv-loop μ-loop
 wide-requires-3 c κs = search needs
 
 loop2-holds : tie.Need-loop2-holds Inv-loop2 μ-loop2 Inv-loop μ-loop
-loop2-holds c = (taken (c .before .before .before .before .before .before .before .loop .inv .0) (c .before .before .before .before .before .before .loop-test .taken) (c .before .before .before .before .wide .ensures) (ap (λ (i : ℕ). 7 * c .before .before .before .before .before .before .before .before .before .before .before .before .before .args .m + i) (c .before .before .wide2 .ensures)) (c .wide3 .ensures), agree-same _ _)
+loop2-holds c =
+    let c2 = c .before .before in
+    let c4 = c2 .before .before in
+    let c6 = c4 .before .before in
+    let c7 = c6 .before in
+    let c13 = c7 .before .before .before .before .before .before in (
+      taken (c7 .loop .inv .0) (c6 .loop-test .taken) (c4 .wide .ensures)
+          (ap (λ (i : ℕ). 7 * c13 .args .m + i) (c2 .wide2 .ensures)) (c .wide3 .ensures),
+      agree-same _ _,
+    )
 
 add-wide-4 : tie.Need-add-wide-4 Inv-loop2 μ-loop2 Inv-loop μ-loop
 add-wide-4 c = let i = index (c .before .loop2 .inv .0) (c .loop2-test .taken) in omega (arith, i)
@@ -89,22 +144,62 @@ wide-requires-4 : tie.Need-wide-requires-4 Inv-loop2 μ-loop2 Inv-loop μ-loop
 wide-requires-4 c κs = search needs
 
 same-length : tie.Need-same-length Inv-loop2 μ-loop2 Inv-loop μ-loop
-same-length c = c .before .before .before .before .loop2 .inv .1 .size ∙ c .before .before .before .before .before .before .before .before .before .before .before .before .loop .inv .1 .size ∙ c .before .before .before .before .before .before .before .before .before .before .before .before .before .before .before .queue-up .kept .0
+same-length c =
+    let c4 = c .before .before .before .before in
+    let c12 = c4 .before .before .before .before .before .before .before .before in
+    let c15 = c12 .before .before .before in
+    c4 .loop2 .inv .1 .size ∙ c12 .loop .inv .1 .size ∙ c15 .queue-up .kept .0
 
 returns : tie.Need-returns Inv-loop2 μ-loop2 Inv-loop μ-loop
-returns c = let b = begun _ _ _ _ (c .before .before .before .before .before .before .before .before .before .before .before .before .before .before .before .before .before .before .pre) _ _ (c .before .before .before .before .before .before .before .before .before .before .before .before .before .before .before .queue-up .ensures .0) (c .before .before .before .before .before .before .before .before .before .before .before .before .before .before .before .queue-up .ensures .1) .1 in let a = agree-on b (agree-on (c .before .before .before .before .before .before .before .before .before .before .before .before .loop .inv .1) (c .before .before .before .before .loop2 .inv .1)) in (hit (c .before .before .before .before .loop2 .inv .0) _ a (c .before .before .before .loop2-test .taken) _ (c .before .wide4 .ensures) (c .if1 .taken), keeps (c .before .before .before .before .loop2 .inv .0 .good) a)
+returns c =
+    let c3 = c .before .before .before in
+    let c4 = c3 .before in
+    let c12 = c4 .before .before .before .before .before .before .before .before in
+    let c15 = c12 .before .before .before in
+    let c18 = c15 .before .before .before in
+    let b = begun _ _ _ _ (c18 .pre) _ _ (c15 .queue-up .ensures .0) (c15 .queue-up .ensures .1) .1 in
+    let a = agree-on b (agree-on (c12 .loop .inv .1) (c4 .loop2 .inv .1)) in (
+      hit (c4 .loop2 .inv .0) _ a (c3 .loop2-test .taken) _ (c .before .wide4 .ensures) (c .if1 .taken),
+      keeps
+          (c4 .loop2 .inv .0 .good) a,
+    )
 
 queue-up-requires-2 : tie.Need-queue-up-requires-2 Inv-loop2 μ-loop2 Inv-loop μ-loop
-queue-up-requires-2 c κs = let r = c .before .before .before .before .before .loop2 .inv .0 in let s = spans r (c .before .before .before .before .loop2-test .taken) _ (c .before .before .wide4 .ensures) in (r .good .sized, (omega (arith, r .good .room, r .good .inside, r .good .order), omega (arith, r .below, r .good .inside), omega (arith, s .1, r .good .inside)))
+queue-up-requires-2 c κs =
+    let c2 = c .before .before in
+    let c4 = c2 .before .before in
+    let c5 = c4 .before in
+    let r = c5 .loop2 .inv .0 in
+    let s = spans r (c4 .loop2-test .taken) _ (c2 .wide4 .ensures) in (
+      r .good .sized,
+      (
+        omega (arith, r .good .room, r .good .inside, r .good .order),
+        omega
+            (arith, r .below, r .good .inside),
+        omega (arith, s .1, r .good .inside),
+      ),
+    )
 
 add-j : tie.Need-add-j Inv-loop2 μ-loop2 Inv-loop μ-loop
-add-j c = let i = index (c .before .before .before .before .before .before .before .before .loop2 .inv .0) (c .before .before .before .before .before .before .before .loop2-test .taken) in omega (arith, i)
+add-j c =
+    let c7 = c .before .before .before .before .before .before .before in
+    let c8 = c7 .before in
+    let i = index (c8 .loop2 .inv .0) (c7 .loop2-test .taken) in
+    omega (arith, i)
 
 loop2-less : tie.Need-loop2-less Inv-loop2 μ-loop2 Inv-loop μ-loop
 loop2-less c = let t = c .before .before .before .before .before .before .before .loop2-test .taken in omega arith
 
 loop2-again : tie.Need-loop2-again Inv-loop2 μ-loop2 Inv-loop μ-loop
-loop2-again c = let n = next (c .before .before .before .before .before .before .before .before .loop2 .inv .0) (c .before .before .before .before .before .before .before .loop2-test .taken) _ (c .before .before .before .before .before .wide4 .ensures) (c .before .before .before .before .if1 .left) _ _ (c .before .before .queue-up2 .ensures .0) (c .before .before .queue-up2 .ensures .1) in (n .0, agree-on (c .before .before .before .before .before .before .before .before .loop2 .inv .1) (n .1))
+loop2-again c =
+    let c2 = c .before .before in
+    let c4 = c2 .before .before in
+    let c5 = c4 .before in
+    let c7 = c5 .before .before in
+    let c8 = c7 .before in
+    let n = next (c8 .loop2 .inv .0) (c7 .loop2-test .taken) _ (c5 .wide4 .ensures) (c4 .if1 .left) _ _
+    (c2 .queue-up2 .ensures .0) (c2 .queue-up2 .ensures .1) in
+    (n .0, agree-on (c8 .loop2 .inv .1) (n .1))
 
 add-head : tie.Need-add-head Inv-loop2 μ-loop2 Inv-loop μ-loop
 add-head c = let r = c .before .loop2 .inv .0 in omega (arith, r .good .sized .small, r .good .room, r .good .inside, r .holds .last)
@@ -113,13 +208,20 @@ loop-less : tie.Need-loop-less Inv-loop2 μ-loop2 Inv-loop μ-loop
 loop-less c = let r = c .before .loop2 .inv .0 in omega (arith, r .good .room, r .holds .last)
 
 loop-again : tie.Need-loop-again Inv-loop2 μ-loop2 Inv-loop μ-loop
-loop-again c = (closed (c .before .loop2 .inv .0) (c .loop2-test .left), agree-on (c .before .before .before .before .before .before .before .before .before .loop .inv .1) (c .before .loop2 .inv .1))
+loop-again c =
+    let c9 = c .before .before .before .before .before .before .before .before .before in
+    (closed (c .before .loop2 .inv .0) (c .loop2-test .left), agree-on (c9 .loop .inv .1) (c .before .loop2 .inv .1))
 
 same-length-2 : tie.Need-same-length-2 Inv-loop2 μ-loop2 Inv-loop μ-loop
 same-length-2 c = c .before .loop .inv .1 .size ∙ c .before .before .before .before .queue-up .kept .0
 
 returns-2 : tie.Need-returns-2 Inv-loop2 μ-loop2 Inv-loop μ-loop
-returns-2 c = let b = begun _ _ _ _ (c .before .before .before .before .before .before .before .pre) _ _ (c .before .before .before .before .queue-up .ensures .0) (c .before .before .before .before .queue-up .ensures .1) .1 in let a = agree-on b (c .before .loop .inv .1) in (nowhere (c .before .loop .inv .0) (c .loop-test .left) a, keeps (c .before .loop .inv .0 .good) a)
+returns-2 c =
+    let c4 = c .before .before .before .before in
+    let c7 = c4 .before .before .before in
+    let b = begun _ _ _ _ (c7 .pre) _ _ (c4 .queue-up .ensures .0) (c4 .queue-up .ensures .1) .1 in
+    let a = agree-on b (c .before .loop .inv .1) in
+    (nowhere (c .before .loop .inv .0) (c .loop-test .left) a, keeps (c .before .loop .inv .0 .good) a)
 
 pub search-spec : {M : Type 1} → statement M
 search-spec =

@@ -73,7 +73,16 @@ same-length : tie.Need-same-length
 same-length c = search needs
 
 returns : tie.Need-returns
-returns c = (rec-new (c .before .before .before .before .before .before .before .args .row .now) (c .before .before .before .before .before .before .before .args .m) (c .before .before .before .before .before .before .before .args .e) (c .before .before .before .before .before .before .before .args .p) (c .before .before .if1 .taken), rec-row (c .before .before .before .before .before .before .before .args .row .now) (c .before .before .before .before .before .before .before .args .m) (c .before .before .before .before .before .before .before .args .e) (c .before .before .before .before .before .before .before .args .p) (c .before .before .before .before .before .before .before .args .b) (c .before .before .before .before .before .before .before .args .first) _ _ (c .before .before .before .before .narrow .ensures) (c .before .before .before .narrow2 .ensures))
+returns c =
+    let c2 = c .before .before in
+    let c3 = c2 .before in
+    let c4 = c3 .before in
+    let c7 = c4 .before .before .before in (
+      rec-new (c7 .args .row .now) (c7 .args .m) (c7 .args .e) (c7 .args .p) (c2 .if1 .taken),
+      rec-row
+          (c7 .args .row .now) (c7 .args .m) (c7 .args .e) (c7 .args .p) (c7 .args .b) (c7 .args .first) _ _
+          (c4 .narrow .ensures) (c3 .narrow2 .ensures),
+    )
 
 add-t17 : tie.Need-add-t17
 add-t17 c = search needs
@@ -85,7 +94,15 @@ same-length-2 : tie.Need-same-length-2
 same-length-2 c = search needs
 
 returns-2 : tie.Need-returns-2
-returns-2 c = (rec-old (c .before .before .before .before .before .before .args .row .now) (c .before .before .before .before .before .before .args .m) (c .before .before .before .before .before .before .args .e) (c .before .before .before .before .before .before .args .p) (c .before .if1 .left), rec-row (c .before .before .before .before .before .before .args .row .now) (c .before .before .before .before .before .before .args .m) (c .before .before .before .before .before .before .args .e) (c .before .before .before .before .before .before .args .p) (c .before .before .before .before .before .before .args .b) (c .before .before .before .before .before .before .args .first) _ _ (c .before .before .before .narrow .ensures) (c .before .before .narrow2 .ensures))
+returns-2 c =
+    let c2 = c .before .before in
+    let c3 = c2 .before in
+    let c6 = c3 .before .before .before in (
+      rec-old (c6 .args .row .now) (c6 .args .m) (c6 .args .e) (c6 .args .p) (c .before .if1 .left),
+      rec-row
+          (c6 .args .row .now) (c6 .args .m) (c6 .args .e) (c6 .args .p) (c6 .args .b) (c6 .args .first) _ _
+          (c3 .narrow .ensures) (c2 .narrow2 .ensures),
+    )
 
 pub record-edge-spec : {M : Type 1} → statement M
 record-edge-spec =

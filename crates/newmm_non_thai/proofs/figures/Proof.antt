@@ -19,10 +19,21 @@ digits-requires : tie.Need-digits-requires Inv-loop μ-loop
 digits-requires c κs = search needs
 
 returns : tie.Need-returns Inv-loop μ-loop
-returns c = no-digit (within (c .before .before .before .args .zero) (c .before .before .before .args .zero + 9)) (c .before .before .before .args .s .now) _ (c .before .digits .ensures) (c .if1 .taken)
+returns c =
+    let c3 = c .before .before .before in
+    no-digit (within (c3 .args .zero) (c3 .args .zero + 9)) (c3 .args .s .now) _ (c .before .digits .ensures)
+    (c .if1 .taken)
 
 loop-holds : tie.Need-loop-holds Inv-loop μ-loop
-loop-holds c = some-digits (within (c .before .before .before .args .zero) (c .before .before .before .args .zero + 9)) (c .before .before .before .args .s .now) _ (c .before .digits .ensures) (omega (arith, leading-inside (within (c .before .before .before .args .zero) (c .before .before .before .args .zero + 9)) (c .before .before .before .args .s .now), c .before .digits .ensures)) (c .if1 .left)
+loop-holds c =
+    let c3 = c .before .before .before in
+    some-digits (within (c3 .args .zero) (c3 .args .zero + 9)) (c3 .args .s .now) _ (c .before .digits .ensures)
+    (omega (
+      arith,
+      leading-inside (within (c3 .args .zero) (c3 .args .zero + 9))
+          (c3 .args .s .now),
+      c .before .digits .ensures,
+    )) (c .if1 .left)
 
 mul-group : tie.Need-mul-group Inv-loop μ-loop
 mul-group c = let i = c .loop .inv .inside in search needs
@@ -40,16 +51,34 @@ group-requires : tie.Need-group-requires Inv-loop μ-loop
 group-requires c κs = search needs
 
 returns-2 : tie.Need-returns-2 Inv-loop μ-loop
-returns-2 c = through-stop (within (c .before .before .before .before .before .before .before .args .zero) (c .before .before .before .before .before .before .before .args .zero + 9)) (c .before .before .before .before .before .before .before .args .s .now) _ (c .before .before .before .loop .inv) (c .before .group .ensures) (c .if2 .taken)
+returns-2 c =
+    let c3 = c .before .before .before in
+    let c7 = c3 .before .before .before .before in
+    through-stop (within (c7 .args .zero) (c7 .args .zero + 9)) (c7 .args .s .now) _ (c3 .loop .inv)
+    (c .before .group .ensures) (c .if2 .taken)
 
 add-i : tie.Need-add-i Inv-loop μ-loop
-add-i c = let t = through-more (within (c .before .before .before .before .before .before .before .args .zero) (c .before .before .before .before .before .before .before .args .zero + 9)) (c .before .before .before .before .before .before .before .args .s .now) _ (c .before .before .before .loop .inv) (c .before .group .ensures) (c .if2 .left) in omega (arith, t .inside)
+add-i c =
+    let c3 = c .before .before .before in
+    let c7 = c3 .before .before .before .before in
+    let t = through-more (within (c7 .args .zero) (c7 .args .zero + 9)) (c7 .args .s .now) _ (c3 .loop .inv)
+    (c .before .group .ensures) (c .if2 .left) in
+    omega (arith, t .inside)
 
 loop-less : tie.Need-loop-less Inv-loop μ-loop
-loop-less c = let t = through-more (within (c .before .before .before .before .before .before .before .args .zero) (c .before .before .before .before .before .before .before .args .zero + 9)) (c .before .before .before .before .before .before .before .args .s .now) _ (c .before .before .before .loop .inv) (c .before .group .ensures) (c .if2 .left) in omega (arith, t .inside, c .if2 .left)
+loop-less c =
+    let c3 = c .before .before .before in
+    let c7 = c3 .before .before .before .before in
+    let t = through-more (within (c7 .args .zero) (c7 .args .zero + 9)) (c7 .args .s .now) _ (c3 .loop .inv)
+    (c .before .group .ensures) (c .if2 .left) in
+    omega (arith, t .inside, c .if2 .left)
 
 loop-again : tie.Need-loop-again Inv-loop μ-loop
-loop-again c = through-more (within (c .before .before .before .before .before .before .before .args .zero) (c .before .before .before .before .before .before .before .args .zero + 9)) (c .before .before .before .before .before .before .before .args .s .now) _ (c .before .before .before .loop .inv) (c .before .group .ensures) (c .if2 .left)
+loop-again c =
+    let c3 = c .before .before .before in
+    let c7 = c3 .before .before .before .before in
+    through-more (within (c7 .args .zero) (c7 .args .zero + 9)) (c7 .args .s .now) _ (c3 .loop .inv)
+    (c .before .group .ensures) (c .if2 .left)
 
 pub figures-spec : {M : Type 1} → statement M
 figures-spec =

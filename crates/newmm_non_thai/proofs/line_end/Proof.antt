@@ -20,16 +20,29 @@ returns-3 : tie.Need-returns-3
 returns-3 c = line-other (c .before .before .before .before .before .args .s .now) (c .before .before .if2 .left) (c .if3 .taken)
 
 returns-4 : tie.Need-returns-4
-returns-4 c = line-lone (c .before .before .before .before .before .before .args .s .now) (c .if4 .taken) (c .before .before .before .if2 .left)
+returns-4 c =
+    let c3 = c .before .before .before in
+    let c6 = c3 .before .before .before in
+    line-lone (c6 .args .s .now) (c .if4 .taken) (c3 .if2 .left)
 
 shared-slice-read-if5 : tie.Need-shared-slice-read-if5
 shared-slice-read-if5 c = search needs
 
 returns-5 : tie.Need-returns-5
-returns-5 c = line-both (c .before .before .before .before .before .before .before .before .args .s .now) (c .before .before .before .before .before .before .before .if1 .left) (c .before .before .if4 .left) (c .before .before .before .before .before .if2 .left) (c .before .before .before .if3 .left) (c .if5 .taken)
+returns-5 c =
+    let c2 = c .before .before in
+    let c3 = c2 .before in
+    let c5 = c3 .before .before in
+    let c7 = c5 .before .before in
+    let c8 = c7 .before in
+    line-both (c8 .args .s .now) (c7 .if1 .left) (c2 .if4 .left) (c5 .if2 .left) (c3 .if3 .left) (c .if5 .taken)
 
 returns-6 : tie.Need-returns-6
-returns-6 c = line-not (c .before .before .before .before .before .before .before .before .args .s .now) (c .before .before .before .before .before .if2 .left) (c .before .before .before .if3 .left) (c .if5 .left)
+returns-6 c =
+    let c3 = c .before .before .before in
+    let c5 = c3 .before .before in
+    let c8 = c5 .before .before .before in
+    line-not (c8 .args .s .now) (c5 .if2 .left) (c3 .if3 .left) (c .if5 .left)
 
 pub line-end-spec : {M : Type 1} → statement M
 line-end-spec =

@@ -3,7 +3,7 @@ use Prim.Native.Nat.{_-_}
 use native.Mathlib.Omega.{arith}
 use mathlib.Core.Path.{refl, sym, _∙_}
 use Rattle.newmm_rules.proofs.Spans.{token-spans}
-use Rattle.newmm_word_step.specs.Walks.{givenBy}
+use Rattle.newmm_word_step.specs.inner.Walks.{givenBy}
 use Rattle.newmm_one_cut.proofs.Rounds.{Round, b-inside, ends-few, committed-low, here, token-asks, token-round, start-one, round-one, round-more, still-sized}
 use Rattle.newmm_one_cut.proofs.Bounds.{ends-fit, done, first-round, size₁, part-long}
 use Rattle.newmm_one_cut.proofs.cut_rows.Statement.{statement}
@@ -46,55 +46,135 @@ mul-row-2 : tie.Need-mul-row-2 Inv-loop μ-loop
 mul-row-2 c = omega (arith, c .before .before .before .before .before .before .before .pre .short)
 
 slice-write-row : tie.Need-slice-write-row Inv-loop μ-loop
-slice-write-row c = omega (arith, size₁ _ _ (c .before .before .before .before .before .before .before .args .row .now) _ (c .before .before .before .before .before .before .before .pre) refl _ (c .before .before .tcc-flags .ensures), c .before .before .before .before .before .before .before .pre .size)
+slice-write-row c =
+    let c2 = c .before .before in
+    let c7 = c2 .before .before .before .before .before in
+    omega (arith, size₁ _ _ (c7 .args .row .now) _ (c7 .pre) refl _ (c2 .tcc-flags .ensures), c7 .pre .size)
 
 loop-holds : tie.Need-loop-holds Inv-loop μ-loop
-loop-holds c = first-round _ _ _ _ (c .before .before .before .before .before .before .before .pre) refl _ (c .before .before .tcc-flags .ensures)
+loop-holds c =
+    let c2 = c .before .before in
+    let c7 = c2 .before .before .before .before .before in
+    first-round _ _ _ _ (c7 .pre) refl _ (c2 .tcc-flags .ensures)
 
 record-words-requires : tie.Need-record-words-requires Inv-loop μ-loop
 record-words-requires c κs = here (c .before .before .loop .inv) (c .before .loop-test .taken)
 
 put-token-requires : tie.Need-put-token-requires Inv-loop μ-loop
-put-token-requires c κs = token-asks (c .before .before .before .before .before .before .before .loop .inv) (c .before .before .before .before .before .before .loop-test .taken) (c .before .before .before .before .record-words .ensures .0) (c .before .before .before .before .record-words .ensures .1) (c .before .before .before .before .record-words .kept .1 .1 .0) (c .before .if1 .taken)
+put-token-requires c κs =
+    let c4 = c .before .before .before .before in
+    let c6 = c4 .before .before in
+    let c7 = c6 .before in
+    token-asks (c7 .loop .inv) (c6 .loop-test .taken) (c4 .record-words .ensures .0) (c4 .record-words .ensures .1)
+    (c4 .record-words .kept .1 .1 .0) (c .before .if1 .taken)
 
 add-ends : tie.Need-add-ends Inv-loop μ-loop
-add-ends c = let r = c .before .before .before .before .before .before .before .before .before .before .loop .inv in omega (arith, ends-few r, committed-low r, b-inside r, r .sized .small, r .size-is)
+add-ends c =
+    let c10 = c .before .before .before .before .before .before .before .before .before .before in
+    let r = c10 .loop .inv in
+    omega (arith, ends-few r, committed-low r, b-inside r, r .sized .small, r .size-is)
 
 loop-less : tie.Need-loop-less Inv-loop μ-loop
-loop-less c = let t = token-spans (givenBy (c .before .before .before .before .before .before .before .before .before .before .before .before .before .before .before .before .before .before .args .text .now) (c .before .before .before .before .before .before .before .before .before .before .before .before .before .before .before .before .before .before .args .pool .now)) (c .before .before .before .before .before .before .before .before .before .before .loop .b) (c .before .before .before .before .before .before .before .before .before .loop-test .taken) in let e = c .before .before .put-token .ensures .0 in let l = c .before .before .before .before .before .before .before .before .before .loop-test .taken in omega (arith, t .0)
+loop-less c =
+    let c2 = c .before .before in
+    let c9 = c2 .before .before .before .before .before .before .before in
+    let c10 = c9 .before in
+    let c18 = c10 .before .before .before .before .before .before .before .before in
+    let t = token-spans (givenBy (c18 .args .text .now) (c18 .args .pool .now)) (c10 .loop .b)
+    (c9 .loop-test .taken) in
+    let e = c2 .put-token .ensures .0 in
+    let l = c9 .loop-test .taken in
+    omega (arith, t .0)
 
 loop-again : tie.Need-loop-again Inv-loop μ-loop
-loop-again c = token-round (c .before .before .before .before .before .before .before .before .before .before .loop .inv) (c .before .before .before .before .before .before .before .before .before .loop-test .taken) (c .before .before .before .before .before .before .before .record-words .ensures .0) (c .before .before .before .before .before .before .before .record-words .ensures .1) (c .before .before .before .before .before .before .before .record-words .kept .1 .1 .0) (c .before .before .before .before .if1 .taken) _ _ (c .before .before .put-token .ensures .0) (c .before .before .put-token .ensures .1)
+loop-again c =
+    let c2 = c .before .before in
+    let c4 = c2 .before .before in
+    let c7 = c4 .before .before .before in
+    let c9 = c7 .before .before in
+    let c10 = c9 .before in
+    token-round (c10 .loop .inv) (c9 .loop-test .taken) (c7 .record-words .ensures .0) (c7 .record-words .ensures .1)
+    (c7 .record-words .kept .1 .1 .0) (c4 .if1 .taken) _ _ (c2 .put-token .ensures .0) (c2 .put-token .ensures .1)
 
 next-candidate-requires : tie.Need-next-candidate-requires Inv-loop μ-loop
-next-candidate-requires c κs = (still-sized (c .before .before .before .before .before .before .before .loop .inv) (c .before .before .before .before .before .before .loop-test .taken) (c .before .before .before .before .record-words .ensures .0) (c .before .before .before .before .record-words .ensures .1) (c .before .before .before .before .record-words .kept .1 .1 .0), (let l = c .before .before .before .before .before .before .loop-test .taken in omega (arith, c .before .before .before .before .before .before .before .loop .inv .size-is)))
+next-candidate-requires c κs =
+    let c4 = c .before .before .before .before in
+    let c6 = c4 .before .before in
+    let c7 = c6 .before in (
+      still-sized (c7 .loop .inv) (c6 .loop-test .taken) (c4 .record-words .ensures .0) (c4 .record-words .ensures .1)
+          (c4 .record-words .kept .1 .1 .0),
+      (let l = c6 .loop-test .taken in omega (arith, c7 .loop .inv .size-is)),
+    )
 
 bfs-paths-graph-requires : tie.Need-bfs-paths-graph-requires Inv-loop μ-loop
-bfs-paths-graph-requires c κs = (start-one (c .before .before .before .before .before .before .before .before .before .before .loop .inv) (c .before .before .before .before .before .before .before .before .before .loop-test .taken) (c .before .before .before .before .before .before .before .record-words .ensures .0) (c .before .before .before .before .before .before .before .record-words .ensures .1) (c .before .before .before .before .before .before .before .record-words .kept .1 .1 .0) (c .before .before .next-candidate .ensures) (c .before .if2 .taken), ends-few (c .before .before .before .before .before .before .before .before .before .before .loop .inv))
+bfs-paths-graph-requires c κs =
+    let c2 = c .before .before in
+    let c7 = c2 .before .before .before .before .before in
+    let c9 = c7 .before .before in
+    let c10 = c9 .before in (
+      start-one (c10 .loop .inv) (c9 .loop-test .taken) (c7 .record-words .ensures .0) (c7 .record-words .ensures .1)
+          (c7 .record-words .kept .1 .1 .0) (c2 .next-candidate .ensures) (c .before .if2 .taken),
+      ends-few
+          (c10 .loop .inv),
+    )
 
 loop-less-2 : tie.Need-loop-less-2 Inv-loop μ-loop
-loop-less-2 c = let l = c .before .before .before .before .before .before .before .before .before .before .before .before .loop-test .taken in let n = c .before .before .before .before .before .next-candidate .ensures .above in omega arith
+loop-less-2 c =
+    let c5 = c .before .before .before .before .before in
+    let c12 = c5 .before .before .before .before .before .before .before in
+    let l = c12 .loop-test .taken in
+    let n = c5 .next-candidate .ensures .above in
+    omega arith
 
 loop-again-2 : tie.Need-loop-again-2 Inv-loop μ-loop
-loop-again-2 c = round-one (c .before .before .before .before .before .before .before .before .before .before .before .before .before .loop .inv) (c .before .before .before .before .before .before .before .before .before .before .before .before .loop-test .taken) (c .before .before .before .before .before .before .before .before .before .before .record-words .ensures .0) (c .before .before .before .before .before .before .before .before .before .before .record-words .ensures .1) (c .before .before .before .before .before .before .before .before .before .before .record-words .kept .1 .1 .0) (c .before .before .before .before .before .next-candidate .ensures) (c .before .before .before .before .if2 .taken) _ _ (c .before .before .bfs-paths-graph .kept .0) (c .before .before .bfs-paths-graph .ensures)
+loop-again-2 c =
+    let c2 = c .before .before in
+    let c4 = c2 .before .before in
+    let c5 = c4 .before in
+    let c10 = c5 .before .before .before .before .before in
+    let c12 = c10 .before .before in
+    let c13 = c12 .before in
+    round-one (c13 .loop .inv) (c12 .loop-test .taken) (c10 .record-words .ensures .0) (c10 .record-words .ensures .1)
+    (c10 .record-words .kept .1 .1 .0) (c5 .next-candidate .ensures) (c4 .if2 .taken) _ _
+    (c2 .bfs-paths-graph .kept .0) (c2 .bfs-paths-graph .ensures)
 
 sub-t32 : tie.Need-sub-t32 Inv-loop μ-loop
 sub-t32 c = let n = c .before .before .before .if1 .left in omega arith
 
 loop-less-3 : tie.Need-loop-less-3 Inv-loop μ-loop
-loop-less-3 c = let l = c .before .before .before .before .before .before .before .before .loop-test .taken in let n = c .before .next-candidate .ensures .above in omega arith
+loop-less-3 c =
+    let c8 = c .before .before .before .before .before .before .before .before in
+    let l = c8 .loop-test .taken in
+    let n = c .before .next-candidate .ensures .above in
+    omega arith
 
 loop-again-3 : tie.Need-loop-again-3 Inv-loop μ-loop
-loop-again-3 c = round-more (c .before .before .before .before .before .before .before .before .before .loop .inv) (c .before .before .before .before .before .before .before .before .loop-test .taken) (c .before .before .before .before .before .before .record-words .ensures .0) (c .before .before .before .before .before .before .record-words .ensures .1) (c .before .before .before .before .before .before .record-words .kept .1 .1 .0) (c .before .next-candidate .ensures) (c .before .before .before .if1 .left) (c .if2 .left)
+loop-again-3 c =
+    let c3 = c .before .before .before in
+    let c6 = c3 .before .before .before in
+    let c8 = c6 .before .before in
+    let c9 = c8 .before in
+    round-more (c9 .loop .inv) (c8 .loop-test .taken) (c6 .record-words .ensures .0) (c6 .record-words .ensures .1)
+    (c6 .record-words .kept .1 .1 .0) (c .before .next-candidate .ensures) (c3 .if1 .left) (c .if2 .left)
 
 clear-requires : tie.Need-clear-requires Inv-loop μ-loop
 clear-requires c κs = ends-fit (c .before .before .loop .inv) (c .before .loop-test .left)
 
 same-length : tie.Need-same-length Inv-loop μ-loop
-same-length c = c .before .before .clear .kept .0 ∙ c .before .before .before .before .before .loop .inv .exact ∙ sym (c .before .before .before .before .before .before .before .before .before .before .before .before .before .pre .size)
+same-length c =
+    let c2 = c .before .before in
+    let c5 = c2 .before .before .before in
+    let c13 = c5 .before .before .before .before .before .before .before .before in
+    c2 .clear .kept .0 ∙ c5 .loop .inv .exact ∙ sym (c13 .pre .size)
 
 returns : tie.Need-returns Inv-loop μ-loop
-returns c = done (c .before .before .before .before .before .loop .inv) (c .before .before .before .before .loop-test .left) _ _ (c .before .before .before .before .before .before .before .before .before .before .before .before .before .pre) (c .before .before .before .before .before .loop .inv .exact ∙ sym (c .before .before .before .before .before .before .before .before .before .before .before .before .before .pre .size)) (c .before .before .clear .ensures)
+returns c =
+    let c2 = c .before .before in
+    let c4 = c2 .before .before in
+    let c5 = c4 .before in
+    let c13 = c5 .before .before .before .before .before .before .before .before in
+    done (c5 .loop .inv) (c4 .loop-test .left) _ _ (c13 .pre) (c5 .loop .inv .exact ∙ sym (c13 .pre .size))
+    (c2 .clear .ensures)
 
 pub cut-rows-spec : {M : Type 1} → statement M
 cut-rows-spec =

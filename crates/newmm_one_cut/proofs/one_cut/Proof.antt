@@ -18,7 +18,9 @@ slice-relend-prefix-cut-rows : tie.Need-slice-relend-prefix-cut-rows
 slice-relend-prefix-cut-rows c = search needs
 
 slice-aggregate-cut-rows : tie.Need-slice-aggregate-cut-rows
-slice-aggregate-cut-rows c = sym (length-take-le (8 * length (c .before .before .before .before .args .text .now) + 58) (c .before .before .before .before .args .row .now) (c .before .before .before .before .pre .room))
+slice-aggregate-cut-rows c =
+    let c4 = c .before .before .before .before in
+    sym (length-take-le (8 * length (c4 .args .text .now) + 58) (c4 .args .row .now) (c4 .pre .room))
 
 cut-rows-requires : tie.Need-cut-rows-requires
 cut-rows-requires c κs = fresh (c .before .before .before .before .pre)

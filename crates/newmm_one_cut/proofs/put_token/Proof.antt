@@ -4,7 +4,7 @@ use native.Mathlib.Omega.{arith}
 use mathlib.Core.Path.{ap}
 use lib.ListN.{set, length-set}
 use Rattle.newmm_rules.proofs.Spans.{token-spans}
-use Rattle.newmm_word_step.specs.Walks.{givenBy}
+use Rattle.newmm_word_step.specs.inner.Walks.{givenBy}
 use borrow.Author.Needs.{needs}
 use Rattle.newmm_one_cut.proofs.put_token.Statement.{statement}
 use Rattle.newmm_one_cut.proofs.put_token.Tie as tie
@@ -28,34 +28,58 @@ part-token-end-end : tie.Need-part-token-end-end
 part-token-end-end c = search needs
 
 token-end-requires : tie.Need-token-end-requires
-token-end-requires c κs = record { inside = c .before .before .before .before .before .pre .inside; root-is = c .before .before .before .before .before .pre .root-is; flags-are = c .before .before .before .before .before .pre .flags-are }
+token-end-requires c κs =
+    let c5 = c .before .before .before .before .before in
+    record { inside = c5 .pre .inside; root-is = c5 .pre .root-is; flags-are = c5 .pre .flags-are }
 
 mul-row : tie.Need-mul-row
 mul-row c = omega (arith, c .before .before .before .before .before .before .pre .sized .small)
 
 add-row : tie.Need-add-row
-add-row c = let t = token-spans (givenBy (c .before .before .before .before .before .before .args .text .now) (c .before .before .before .before .before .before .args .pool .now)) (c .before .before .before .before .before .before .args .b) (c .before .before .before .before .before .before .pre .inside) in omega (arith, t .1, c .token-end .ensures, c .before .before .before .before .before .before .pre .size, c .before .before .before .before .before .before .pre .sized .small)
+add-row c =
+    let c6 = c .before .before .before .before .before .before in
+    let t = token-spans (givenBy (c6 .args .text .now) (c6 .args .pool .now)) (c6 .args .b) (c6 .pre .inside) in
+    omega (arith, t .1, c .token-end .ensures, c6 .pre .size, c6 .pre .sized .small)
 
 mul-row-2 : tie.Need-mul-row-2
-mul-row-2 c = let t = token-spans (givenBy (c .before .before .before .before .before .before .args .text .now) (c .before .before .before .before .before .before .args .pool .now)) (c .before .before .before .before .before .before .args .b) (c .before .before .before .before .before .before .pre .inside) in omega (arith, t .1, c .token-end .ensures, c .before .before .before .before .before .before .pre .size, c .before .before .before .before .before .before .pre .sized .small)
+mul-row-2 c =
+    let c6 = c .before .before .before .before .before .before in
+    let t = token-spans (givenBy (c6 .args .text .now) (c6 .args .pool .now)) (c6 .args .b) (c6 .pre .inside) in
+    omega (arith, t .1, c .token-end .ensures, c6 .pre .size, c6 .pre .sized .small)
 
 slice-write-row : tie.Need-slice-write-row
-slice-write-row c = let t = token-spans (givenBy (c .before .before .before .before .before .before .args .text .now) (c .before .before .before .before .before .before .args .pool .now)) (c .before .before .before .before .before .before .args .b) (c .before .before .before .before .before .before .pre .inside) in omega (arith, t .1, c .token-end .ensures, c .before .before .before .before .before .before .pre .size, c .before .before .before .before .before .before .pre .sized .long)
+slice-write-row c =
+    let c6 = c .before .before .before .before .before .before in
+    let t = token-spans (givenBy (c6 .args .text .now) (c6 .args .pool .now)) (c6 .args .b) (c6 .pre .inside) in
+    omega (arith, t .1, c .token-end .ensures, c6 .pre .size, c6 .pre .sized .long)
 
 narrow-requires : tie.Need-narrow-requires
-narrow-requires c κs = let t = token-spans (givenBy (c .before .before .before .before .before .before .args .text .now) (c .before .before .before .before .before .before .args .pool .now)) (c .before .before .before .before .before .before .args .b) (c .before .before .before .before .before .before .pre .inside) in omega (arith, t .1, c .token-end .ensures, c .before .before .before .before .before .before .pre .size, c .before .before .before .before .before .before .pre .sized .small)
+narrow-requires c κs =
+    let c6 = c .before .before .before .before .before .before in
+    let t = token-spans (givenBy (c6 .args .text .now) (c6 .args .pool .now)) (c6 .args .b) (c6 .pre .inside) in
+    omega (arith, t .1, c .token-end .ensures, c6 .pre .size, c6 .pre .sized .small)
 
 mul-row-3 : tie.Need-mul-row-3
-mul-row-3 c = omega (arith, c .before .before .before .before .before .before .before .pre .room, c .before .before .before .before .before .before .before .pre .sized .small)
+mul-row-3 c =
+    let c7 = c .before .before .before .before .before .before .before in
+    omega (arith, c7 .pre .room, c7 .pre .sized .small)
 
 slice-write-row-2 : tie.Need-slice-write-row-2
-slice-write-row-2 c = simp length-set (omega (arith, c .before .before .before .before .before .before .before .pre .room, c .before .before .before .before .before .before .before .pre .sized .long))
+slice-write-row-2 c =
+    let c7 = c .before .before .before .before .before .before .before in
+    simp length-set (omega (arith, c7 .pre .room, c7 .pre .sized .long))
 
 same-length : tie.Need-same-length
 same-length c = search needs
 
 returns : tie.Need-returns
-returns c = (c .before .token-end .ensures, ap (λ (i : ℕ). set (set (c .before .before .before .before .before .before .before .args .row .now) (5 * c .before .before .before .before .before .before .before .args .m + c .before .token-end .result) 1) (c .before .before .before .before .before .before .before .args .ends) i) (c .narrow .ensures))
+returns c =
+    let c7 = c .before .before .before .before .before .before .before in (
+      c .before .token-end .ensures,
+      ap
+          (λ (i : ℕ). set (set (c7 .args .row .now) (5 * c7 .args .m + c .before .token-end .result) 1) (c7 .args .ends) i)
+          (c .narrow .ensures),
+    )
 
 pub put-token-spec : {M : Type 1} → statement M
 put-token-spec =

@@ -27,40 +27,89 @@ enum-known-space : tie.Need-enum-known-space
 enum-known-space c = search needs
 
 add-t15 : tie.Need-add-t15
-add-t15 c = omega (arith, space-inside (c .before .before .before .before .before .before .before .before .args .rest .now) _ (c .before .before .before .before .before .before .before .before .pre .1) (sym (c .before .before .before .rfind-space-char-index .ensures) ∙ c .before .space .given .1))
+add-t15 c =
+    let c3 = c .before .before .before in
+    let c8 = c3 .before .before .before .before .before in
+    omega (
+      arith,
+      space-inside (c8 .args .rest .now) _ (c8 .pre .1)
+          (sym (c3 .rfind-space-char-index .ensures) ∙ c .before .space .given .1),
+    )
 
 enum-told : tie.Need-enum-told
 enum-told c = search needs
 
 one-cut-requires : tie.Need-one-cut-requires
-one-cut-requires c κs = lent (c .before .before .before .before .before .before .before .before .pre .0) _ (omega (arith, length-take 40 (drop 100 (c .before .before .before .before .before .before .before .before .args .rest .now))))
+one-cut-requires c κs =
+    let c8 = c .before .before .before .before .before .before .before .before in
+    lent (c8 .pre .0) _ (omega (arith, length-take 40 (drop 100 (c8 .args .rest .now))))
 
 slice-reshare-prefix-longest-start : tie.Need-slice-reshare-prefix-longest-start
-slice-reshare-prefix-longest-start c = sample-fits (c .before .before .before .before .before .before .before .before .before .before .before .pre .0) (c .before .before .before .before .before .before .before .before .before .before .before .pre .1) (c .before .before .before .before .before .before .before .before .before .before .before .args .by) _ (written (c .before .before .one-cut .ensures)) (plain-right (holds (c .before .before .before .before .before .before .before .before .before .before .before .args .pool .now)))
+slice-reshare-prefix-longest-start c =
+    let c2 = c .before .before in
+    let c11 = c2 .before .before .before .before .before .before .before .before .before in
+    sample-fits (c11 .pre .0) (c11 .pre .1) (c11 .args .by) _ (written (c2 .one-cut .ensures))
+    (plain-right (holds (c11 .args .pool .now)))
 
 slice-aggregate-longest-start : tie.Need-slice-aggregate-longest-start
-slice-aggregate-longest-start c = sym (length-take-le _ _ (sample-fits (c .before .before .before .before .before .before .before .before .before .before .before .before .pre .0) (c .before .before .before .before .before .before .before .before .before .before .before .before .pre .1) (c .before .before .before .before .before .before .before .before .before .before .before .before .args .by) _ (written (c .before .before .before .one-cut .ensures)) (plain-right (holds (c .before .before .before .before .before .before .before .before .before .before .before .before .args .pool .now)))))
+slice-aggregate-longest-start c =
+    let c3 = c .before .before .before in
+    let c12 = c3 .before .before .before .before .before .before .before .before .before in
+    sym (length-take-le _ _
+    (sample-fits (c12 .pre .0) (c12 .pre .1) (c12 .args .by) _ (written (c3 .one-cut .ensures))
+    (plain-right (holds (c12 .args .pool .now)))))
 
 longest-start-requires : tie.Need-longest-start-requires
-longest-start-requires c κs = sample-rising (c .before .before .before .before .before .before .before .before .before .before .before .before .pre .0) (c .before .before .before .before .before .before .before .before .before .before .before .before .pre .1) (c .before .before .before .before .before .before .before .before .before .before .before .before .args .by) _ (written (c .before .before .before .one-cut .ensures)) (plain-right (holds (c .before .before .before .before .before .before .before .before .before .before .before .before .args .pool .now)))
+longest-start-requires c κs =
+    let c3 = c .before .before .before in
+    let c12 = c3 .before .before .before .before .before .before .before .before .before in
+    sample-rising (c12 .pre .0) (c12 .pre .1) (c12 .args .by) _ (written (c3 .one-cut .ensures))
+    (plain-right (holds (c12 .args .pool .now)))
 
 add-at : tie.Need-add-at
-add-at c = omega (arith, start-small (c .before .before .before .before .before .before .before .before .before .before .before .before .before .pre .0) (c .before .before .before .before .before .before .before .before .before .before .before .before .before .pre .1) (c .before .before .before .before .before .before .before .before .before .before .before .before .before .args .by) _ (written (c .before .before .before .before .one-cut .ensures)) (plain-right (holds (c .before .before .before .before .before .before .before .before .before .before .before .before .before .args .pool .now))) _ (c .longest-start .ensures))
+add-at c =
+    let c4 = c .before .before .before .before in
+    let c13 = c4 .before .before .before .before .before .before .before .before .before in
+    omega (
+      arith,
+      start-small (c13 .pre .0) (c13 .pre .1) (c13 .args .by) _ (written (c4 .one-cut .ensures))
+          (plain-right (holds (c13 .args .pool .now))) _ (c .longest-start .ensures),
+    )
 
 clear-requires : tie.Need-clear-requires
-clear-requires c κs = sample-fits (c .before .before .before .before .before .before .before .before .before .before .before .before .before .before .pre .0) (c .before .before .before .before .before .before .before .before .before .before .before .before .before .before .pre .1) (c .before .before .before .before .before .before .before .before .before .before .before .before .before .before .args .by) _ (written (c .before .before .before .before .before .one-cut .ensures)) (plain-right (holds (c .before .before .before .before .before .before .before .before .before .before .before .before .before .before .args .pool .now)))
+clear-requires c κs =
+    let c5 = c .before .before .before .before .before in
+    let c14 = c5 .before .before .before .before .before .before .before .before .before in
+    sample-fits (c14 .pre .0) (c14 .pre .1) (c14 .args .by) _ (written (c5 .one-cut .ensures))
+    (plain-right (holds (c14 .args .pool .now)))
 
 returns : tie.Need-returns
-returns c = (at-space (c .before .before .before .before .before .before .before .before .pre .0) (c .before .before .before .before .before .before .before .before .pre .1) (c .before .before .before .before .before .before .before .before .args .by) _ (sym (c .before .before .before .rfind-space-char-index .ensures) ∙ c .before .space .given .1), refl)
+returns c =
+    let c3 = c .before .before .before in
+    let c8 = c3 .before .before .before .before .before in (
+      at-space (c8 .pre .0) (c8 .pre .1) (c8 .args .by) _
+          (sym (c3 .rfind-space-char-index .ensures) ∙ c .before .space .given .1),
+      refl,
+    )
 
 same-length : tie.Need-same-length
 same-length c = search needs
 
 returns-2 : tie.Need-returns-2
 returns-2 c =
-    let w = written (c .before .before .before .before .before .before .before .before .one-cut .ensures) in
-    let right = plain-right (holds (c .before .before .before .before .before .before .before .before .before .before .before .before .before .before .before .before .before .args .pool .now)) in
-    (no-space (c .before .before .before .before .before .before .before .before .before .before .before .before .before .before .before .before .before .pre .0) (c .before .before .before .before .before .before .before .before .before .before .before .before .before .before .before .before .before .pre .1) (c .before .before .before .before .before .before .before .before .before .before .before .before .before .before .before .before .before .args .by) _ w right _ (sym (c .before .before .before .before .before .before .before .before .before .before .before .before .rfind-space-char-index .ensures) ∙ c .before .before .before .before .before .before .before .before .before .before .enum-told .given .1) (c .before .before .before .before .longest-start .ensures), row-back (c .before .before .before .before .before .before .before .before .before .before .before .before .before .before .before .before .before .pre .0) (c .before .before .before .before .before .before .before .before .before .before .before .before .before .before .before .before .before .pre .1) (c .before .before .before .before .before .before .before .before .before .before .before .before .before .before .before .before .before .args .by) _ w right _ (c .before .before .clear .ensures))
+    let c2 = c .before .before in
+    let c4 = c2 .before .before in
+    let c8 = c4 .before .before .before .before in
+    let c10 = c8 .before .before in
+    let c12 = c10 .before .before in
+    let c17 = c12 .before .before .before .before .before in
+    let w = written (c8 .one-cut .ensures) in
+    let right = plain-right (holds (c17 .args .pool .now)) in (
+      no-space (c17 .pre .0) (c17 .pre .1) (c17 .args .by) _ w right _
+          (sym (c12 .rfind-space-char-index .ensures) ∙ c10 .enum-told .given .1) (c4 .longest-start .ensures),
+      row-back
+          (c17 .pre .0) (c17 .pre .1) (c17 .args .by) _ w right _ (c2 .clear .ensures),
+    )
 
 pub cut-at-spec : {M : Type 1} → statement M
 cut-at-spec =

@@ -44,34 +44,84 @@ sub-first-part-2 : tie.Need-sub-first-part-2 Inv-loop μ-loop
 sub-first-part-2 c = omega (arith, room-left (c .before .before .loop .inv) (c .before .before .before .before .before .before .pre .0) .0)
 
 part-first-part-start-2 : tie.Need-part-first-part-start-2 Inv-loop μ-loop
-part-first-part-start-2 c = omega (arith, room-left (c .before .before .loop .inv) (c .before .before .before .before .before .before .pre .0) .0)
+part-first-part-start-2 c =
+    let c2 = c .before .before in
+    let c6 = c2 .before .before .before .before in
+    omega (arith, room-left (c2 .loop .inv) (c6 .pre .0) .0)
 
 part-first-part-end-2 : tie.Need-part-first-part-end-2 Inv-loop μ-loop
 part-first-part-end-2 c = search needs
 
 first-part-requires : tie.Need-first-part-requires Inv-loop μ-loop
-first-part-requires c κs = (rest-ready (c .before .before .before .loop .inv) (c .before .before .before .before .before .before .before .pre .0), omega (arith, rest-size (c .before .before .before .loop .inv), c .before .before .loop-test .taken), c .before .before .before .before .before .before .before .pre .2, c .before .before .before .before .before .before .before .pre .3, rest-short (c .before .before .before .loop .inv) (c .before .before .before .before .before .before .before .pre .0 .short))
+first-part-requires c κs =
+    let c2 = c .before .before in
+    let c3 = c2 .before in
+    let c7 = c3 .before .before .before .before in (
+      rest-ready (c3 .loop .inv) (c7 .pre .0),
+      omega
+          (arith, rest-size (c3 .loop .inv), c2 .loop-test .taken),
+      c7 .pre .2,
+      c7 .pre .3,
+      rest-short (c3 .loop .inv)
+          (c7 .pre .0 .short),
+    )
 
 add-start : tie.Need-add-start Inv-loop μ-loop
-add-start c = omega (arith, part-most _ _ (by-fits (c .before .before .before .before .before .before .before .before .before .before .before .args .by) (c .before .before .before .before .before .before .before .before .before .before .before .pre .2) (c .before .before .before .before .before .before .before .before .before .before .before .pre .3)) (plain-right (holds (c .before .before .before .before .before .before .before .before .before .before .before .args .pool .now))) (plain-edges (holds (c .before .before .before .before .before .before .before .before .before .before .before .args .pool .now))) _ _ (c .before .before .before .before .before .before .before .loop .inv) (c .before .before .before .before .before .before .loop-test .taken) _ _ (c .before .before .before .first-part .ensures) .1, c .before .before .before .before .before .before .before .before .before .before .before .pre .0 .short)
+add-start c =
+    let c3 = c .before .before .before in
+    let c6 = c3 .before .before .before in
+    let c7 = c6 .before in
+    let c11 = c7 .before .before .before .before in
+    omega (
+      arith,
+      part-most _ _ (by-fits (c11 .args .by) (c11 .pre .2) (c11 .pre .3))
+          (plain-right (holds (c11 .args .pool .now))) (plain-edges (holds (c11 .args .pool .now))) _ _ (c7 .loop .inv)
+          (c6 .loop-test .taken) _ _ (c3 .first-part .ensures) .1,
+      c11 .pre .0 .short,
+    )
 
 add-count : tie.Need-add-count Inv-loop μ-loop
 add-count c =
-    let m = part-most _ _ (by-fits (c .before .before .before .before .before .before .before .before .before .before .before .before .args .by) (c .before .before .before .before .before .before .before .before .before .before .before .before .pre .2) (c .before .before .before .before .before .before .before .before .before .before .before .before .pre .3)) (plain-right (holds (c .before .before .before .before .before .before .before .before .before .before .before .before .args .pool .now))) (plain-edges (holds (c .before .before .before .before .before .before .before .before .before .before .before .before .args .pool .now))) _ _ (c .before .before .before .before .before .before .before .before .loop .inv) (c .before .before .before .before .before .before .before .loop-test .taken) _ _ (c .before .before .before .before .first-part .ensures) in
-    omega (arith, m .1, m .2, few-ends (c .before .before .before .before .before .before .before .before .loop .inv), c .before .before .before .before .before .before .before .before .before .before .before .before .pre .0 .short)
+    let c4 = c .before .before .before .before in
+    let c7 = c4 .before .before .before in
+    let c8 = c7 .before in
+    let c12 = c8 .before .before .before .before in
+    let m = part-most _ _ (by-fits (c12 .args .by) (c12 .pre .2) (c12 .pre .3))
+    (plain-right (holds (c12 .args .pool .now))) (plain-edges (holds (c12 .args .pool .now))) _ _ (c8 .loop .inv)
+    (c7 .loop-test .taken) _ _ (c4 .first-part .ensures) in
+    omega (arith, m .1, m .2, few-ends (c8 .loop .inv), c12 .pre .0 .short)
 
 add-edges : tie.Need-add-edges Inv-loop μ-loop
 add-edges c =
-    let m = part-most _ _ (by-fits (c .before .before .before .before .before .before .before .before .before .before .before .before .before .args .by) (c .before .before .before .before .before .before .before .before .before .before .before .before .before .pre .2) (c .before .before .before .before .before .before .before .before .before .before .before .before .before .pre .3)) (plain-right (holds (c .before .before .before .before .before .before .before .before .before .before .before .before .before .args .pool .now))) (plain-edges (holds (c .before .before .before .before .before .before .before .before .before .before .before .before .before .args .pool .now))) _ _ (c .before .before .before .before .before .before .before .before .before .loop .inv) (c .before .before .before .before .before .before .before .before .loop-test .taken) _ _ (c .before .before .before .before .before .first-part .ensures) in
-    omega (arith, m .1, m .3, c .before .before .before .before .before .before .before .before .before .loop .inv .few-edges, c .before .before .before .before .before .before .before .before .before .before .before .before .before .pre .0 .short)
+    let c5 = c .before .before .before .before .before in
+    let c8 = c5 .before .before .before in
+    let c9 = c8 .before in
+    let c13 = c9 .before .before .before .before in
+    let m = part-most _ _ (by-fits (c13 .args .by) (c13 .pre .2) (c13 .pre .3))
+    (plain-right (holds (c13 .args .pool .now))) (plain-edges (holds (c13 .args .pool .now))) _ _ (c9 .loop .inv)
+    (c8 .loop-test .taken) _ _ (c5 .first-part .ensures) in
+    omega (arith, m .1, m .3, c9 .loop .inv .few-edges, c13 .pre .0 .short)
 
 loop-less : tie.Need-loop-less Inv-loop μ-loop
 loop-less c =
-    let m = part-most _ _ (by-fits (c .before .before .before .before .before .before .before .before .before .before .before .before .before .args .by) (c .before .before .before .before .before .before .before .before .before .before .before .before .before .pre .2) (c .before .before .before .before .before .before .before .before .before .before .before .before .before .pre .3)) (plain-right (holds (c .before .before .before .before .before .before .before .before .before .before .before .before .before .args .pool .now))) (plain-edges (holds (c .before .before .before .before .before .before .before .before .before .before .before .before .before .args .pool .now))) _ _ (c .before .before .before .before .before .before .before .before .before .loop .inv) (c .before .before .before .before .before .before .before .before .loop-test .taken) _ _ (c .before .before .before .before .before .first-part .ensures) in
+    let c5 = c .before .before .before .before .before in
+    let c8 = c5 .before .before .before in
+    let c9 = c8 .before in
+    let c13 = c9 .before .before .before .before in
+    let m = part-most _ _ (by-fits (c13 .args .by) (c13 .pre .2) (c13 .pre .3))
+    (plain-right (holds (c13 .args .pool .now))) (plain-edges (holds (c13 .args .pool .now))) _ _ (c9 .loop .inv)
+    (c8 .loop-test .taken) _ _ (c5 .first-part .ensures) in
     omega (arith, m .0, m .1)
 
 loop-again : tie.Need-loop-again Inv-loop μ-loop
-loop-again c = until-more _ _ (by-fits (c .before .before .before .before .before .before .before .before .before .before .before .before .before .args .by) (c .before .before .before .before .before .before .before .before .before .before .before .before .before .pre .2) (c .before .before .before .before .before .before .before .before .before .before .before .before .before .pre .3)) (plain-right (holds (c .before .before .before .before .before .before .before .before .before .before .before .before .before .args .pool .now))) (plain-edges (holds (c .before .before .before .before .before .before .before .before .before .before .before .before .before .args .pool .now))) _ _ (c .before .before .before .before .before .before .before .before .before .loop .inv) (c .before .before .before .before .before .before .before .before .loop-test .taken) _ _ (c .before .before .before .before .before .first-part .ensures)
+loop-again c =
+    let c5 = c .before .before .before .before .before in
+    let c8 = c5 .before .before .before in
+    let c9 = c8 .before in
+    let c13 = c9 .before .before .before .before in
+    until-more _ _ (by-fits (c13 .args .by) (c13 .pre .2) (c13 .pre .3)) (plain-right (holds (c13 .args .pool .now)))
+    (plain-edges (holds (c13 .args .pool .now))) _ _ (c9 .loop .inv) (c8 .loop-test .taken) _ _
+    (c5 .first-part .ensures)
 
 mul-cut-part : tie.Need-mul-cut-part Inv-loop μ-loop
 mul-cut-part c = search needs
@@ -92,29 +142,60 @@ sub-cut-part-2 : tie.Need-sub-cut-part-2 Inv-loop μ-loop
 sub-cut-part-2 c = omega (arith, room-left (c .before .before .loop .inv) (c .before .before .before .before .before .before .pre .0) .0)
 
 part-cut-part-start-2 : tie.Need-part-cut-part-start-2 Inv-loop μ-loop
-part-cut-part-start-2 c = omega (arith, room-left (c .before .before .loop .inv) (c .before .before .before .before .before .before .pre .0) .0)
+part-cut-part-start-2 c =
+    let c2 = c .before .before in
+    let c6 = c2 .before .before .before .before in
+    omega (arith, room-left (c2 .loop .inv) (c6 .pre .0) .0)
 
 part-cut-part-end-2 : tie.Need-part-cut-part-end-2 Inv-loop μ-loop
 part-cut-part-end-2 c = search needs
 
 cut-part-requires : tie.Need-cut-part-requires Inv-loop μ-loop
-cut-part-requires c κs = (rest-ready (c .before .before .before .loop .inv) (c .before .before .before .before .before .before .before .pre .0), rest-short (c .before .before .before .loop .inv) (c .before .before .before .before .before .before .before .pre .0 .short))
+cut-part-requires c κs =
+    let c3 = c .before .before .before in
+    let c7 = c3 .before .before .before .before in
+    (rest-ready (c3 .loop .inv) (c7 .pre .0), rest-short (c3 .loop .inv) (c7 .pre .0 .short))
 
 add-t21 : tie.Need-add-t21 Inv-loop μ-loop
 add-t21 c =
-    let m = rest-most _ _ (by-fits (c .before .before .before .before .before .before .before .before .before .before .before .args .by) (c .before .before .before .before .before .before .before .before .before .before .before .pre .2) (c .before .before .before .before .before .before .before .before .before .before .before .pre .3)) (plain-right (holds (c .before .before .before .before .before .before .before .before .before .before .before .args .pool .now))) (plain-edges (holds (c .before .before .before .before .before .before .before .before .before .before .before .args .pool .now))) _ _ (c .before .before .before .before .before .before .before .loop .inv) (c .before .before .before .before .before .before .before .before .before .before .before .pre .1) (c .before .before .before .before .before .before .loop-test .left) _ _ (c .before .before .before .cut-part .ensures) in
-    omega (arith, m .0, few-ends (c .before .before .before .before .before .before .before .loop .inv), c .before .before .before .before .before .before .before .loop .inv .inside, c .before .before .before .before .before .before .before .before .before .before .before .pre .0 .short)
+    let c3 = c .before .before .before in
+    let c6 = c3 .before .before .before in
+    let c7 = c6 .before in
+    let c11 = c7 .before .before .before .before in
+    let m = rest-most _ _ (by-fits (c11 .args .by) (c11 .pre .2) (c11 .pre .3))
+    (plain-right (holds (c11 .args .pool .now))) (plain-edges (holds (c11 .args .pool .now))) _ _ (c7 .loop .inv)
+    (c11 .pre .1) (c6 .loop-test .left) _ _ (c3 .cut-part .ensures) in
+    omega (arith, m .0, few-ends (c7 .loop .inv), c7 .loop .inv .inside, c11 .pre .0 .short)
 
 add-t28 : tie.Need-add-t28 Inv-loop μ-loop
 add-t28 c =
-    let m = rest-most _ _ (by-fits (c .before .before .before .before .before .before .before .before .before .before .before .before .args .by) (c .before .before .before .before .before .before .before .before .before .before .before .before .pre .2) (c .before .before .before .before .before .before .before .before .before .before .before .before .pre .3)) (plain-right (holds (c .before .before .before .before .before .before .before .before .before .before .before .before .args .pool .now))) (plain-edges (holds (c .before .before .before .before .before .before .before .before .before .before .before .before .args .pool .now))) _ _ (c .before .before .before .before .before .before .before .before .loop .inv) (c .before .before .before .before .before .before .before .before .before .before .before .before .pre .1) (c .before .before .before .before .before .before .before .loop-test .left) _ _ (c .before .before .before .before .cut-part .ensures) in
-    omega (arith, m .1, c .before .before .before .before .before .before .before .before .loop .inv .few-edges, c .before .before .before .before .before .before .before .before .loop .inv .inside, c .before .before .before .before .before .before .before .before .before .before .before .before .pre .0 .short)
+    let c4 = c .before .before .before .before in
+    let c7 = c4 .before .before .before in
+    let c8 = c7 .before in
+    let c12 = c8 .before .before .before .before in
+    let m = rest-most _ _ (by-fits (c12 .args .by) (c12 .pre .2) (c12 .pre .3))
+    (plain-right (holds (c12 .args .pool .now))) (plain-edges (holds (c12 .args .pool .now))) _ _ (c8 .loop .inv)
+    (c12 .pre .1) (c7 .loop-test .left) _ _ (c4 .cut-part .ensures) in
+    omega (arith, m .1, c8 .loop .inv .few-edges, c8 .loop .inv .inside, c12 .pre .0 .short)
 
 same-length : tie.Need-same-length Inv-loop μ-loop
-same-length c = same-len-mid {X = ℕ} (c .before .before .before .before .before .before .before .before .loop .count) (length (c .before .before .before .before .before .before .before .before .loop .row) - c .before .before .before .before .before .before .before .before .loop .count) (c .before .before .before .before .before .before .before .before .loop .row) (c .before .before .before .before .cut-part .last .1 .1 .0) (c .before .before .before .before .cut-part .kept .1 .1 .0) ∙ row-long (c .before .before .before .before .before .before .before .before .loop .inv) (omega (arith, c .before .before .before .before .before .before .before .before .before .before .before .before .pre .0 .room))
+same-length c =
+    let c4 = c .before .before .before .before in
+    let c8 = c4 .before .before .before .before in
+    let c12 = c8 .before .before .before .before in
+    same-len-mid {X = ℕ} (c8 .loop .count) (length (c8 .loop .row) - c8 .loop .count) (c8 .loop .row)
+    (c4 .cut-part .last .1 .1 .0) (c4 .cut-part .kept .1 .1 .0) ∙ row-long (c8 .loop .inv)
+    (omega (arith, c12 .pre .0 .room))
 
 returns : tie.Need-returns Inv-loop μ-loop
-returns c = until-all _ _ (by-fits (c .before .before .before .before .before .before .before .before .before .before .before .before .args .by) (c .before .before .before .before .before .before .before .before .before .before .before .before .pre .2) (c .before .before .before .before .before .before .before .before .before .before .before .before .pre .3)) (plain-right (holds (c .before .before .before .before .before .before .before .before .before .before .before .before .args .pool .now))) (plain-edges (holds (c .before .before .before .before .before .before .before .before .before .before .before .before .args .pool .now))) _ _ (c .before .before .before .before .before .before .before .before .loop .inv) (c .before .before .before .before .before .before .before .before .before .before .before .before .pre .1) (c .before .before .before .before .before .before .before .loop-test .left) _ _ (c .before .before .before .before .cut-part .ensures)
+returns c =
+    let c4 = c .before .before .before .before in
+    let c7 = c4 .before .before .before in
+    let c8 = c7 .before in
+    let c12 = c8 .before .before .before .before in
+    until-all _ _ (by-fits (c12 .args .by) (c12 .pre .2) (c12 .pre .3)) (plain-right (holds (c12 .args .pool .now)))
+    (plain-edges (holds (c12 .args .pool .now))) _ _ (c8 .loop .inv) (c12 .pre .1) (c7 .loop-test .left) _ _
+    (c4 .cut-part .ensures)
 
 pub in-parts-spec : {M : Type 1} → statement M
 in-parts-spec =

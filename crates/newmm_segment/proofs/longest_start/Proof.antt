@@ -33,19 +33,34 @@ sub-if1 : tie.Need-sub-if1 Inv-loop μ-loop
 sub-if1 c = omega (arith, c .wide .ensures, above (c .before .before .before .loop .inv) (c .before .before .loop-test .taken))
 
 sub-most : tie.Need-sub-most Inv-loop μ-loop
-sub-most c = omega (arith, c .before .wide .ensures, above (c .before .before .before .before .loop .inv) (c .before .before .before .loop-test .taken))
+sub-most c =
+    let c3 = c .before .before .before in
+    let c4 = c3 .before in
+    omega (arith, c .before .wide .ensures, above (c4 .loop .inv) (c3 .loop-test .taken))
 
 loop-less : tie.Need-loop-less Inv-loop μ-loop
 loop-less c = omega arith
 
 loop-again : tie.Need-loop-again Inv-loop μ-loop
-loop-again c = subst (λ (z : ℕ). Met (c .before .before .before .before .before .before .args .ends .now) (c .before .before .before .before .loop .from) (z - c .before .before .before .before .loop .from) z (c .before .before .before .before .loop .i + 1)) (sym (c .before .wide .ensures)) (met-yes (c .before .before .before .before .loop .inv) (c .before .before .before .loop-test .taken) (omega (arith, c .before .wide .ensures, c .if1 .taken)))
+loop-again c =
+    let c3 = c .before .before .before in
+    let c4 = c3 .before in
+    let c6 = c4 .before .before in
+    subst (λ (z : ℕ). Met (c6 .args .ends .now) (c4 .loop .from) (z - c4 .loop .from) z (c4 .loop .i + 1))
+    (sym (c .before .wide .ensures))
+    (met-yes (c4 .loop .inv) (c3 .loop-test .taken) (omega (arith, c .before .wide .ensures, c .if1 .taken)))
 
 loop-less-2 : tie.Need-loop-less-2 Inv-loop μ-loop
 loop-less-2 c = omega arith
 
 loop-again-2 : tie.Need-loop-again-2 Inv-loop μ-loop
-loop-again-2 c = subst (λ (z : ℕ). Met (c .before .before .before .before .before .before .args .ends .now) (c .before .before .before .before .loop .start) (c .before .before .before .before .loop .most) z (c .before .before .before .before .loop .i + 1)) (sym (c .before .wide .ensures)) (met-no (c .before .before .before .before .loop .inv) (c .before .before .before .loop-test .taken) (omega (arith, c .before .wide .ensures, c .if1 .left)))
+loop-again-2 c =
+    let c3 = c .before .before .before in
+    let c4 = c3 .before in
+    let c6 = c4 .before .before in
+    subst (λ (z : ℕ). Met (c6 .args .ends .now) (c4 .loop .start) (c4 .loop .most) z (c4 .loop .i + 1))
+    (sym (c .before .wide .ensures))
+    (met-no (c4 .loop .inv) (c3 .loop-test .taken) (omega (arith, c .before .wide .ensures, c .if1 .left)))
 
 returns : tie.Need-returns Inv-loop μ-loop
 returns c = met-all (c .before .loop .inv) (c .loop-test .left)

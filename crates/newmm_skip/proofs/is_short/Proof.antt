@@ -33,7 +33,14 @@ is-consonant-requires : tie.Need-is-consonant-requires Inv-loop μ-loop
 is-consonant-requires c κs = search needs
 
 returns-2 : tie.Need-returns-2 Inv-loop μ-loop
-returns-2 c = other-word (c .before .before .before .before .before .before .before .args .word .now) _ (c .before .before .before .before .before .if1 .left) (passed-stop (c .before .before .before .before .loop .inv) (c .before .before .before .loop-test .taken) (sym (c .before .is-consonant .ensures) ∙ not-true _ (c .if2 .taken))) (c .before .before .before .loop-test .taken)
+returns-2 c =
+    let c3 = c .before .before .before in
+    let c4 = c3 .before in
+    let c5 = c4 .before in
+    let c7 = c5 .before .before in
+    other-word (c7 .args .word .now) _ (c5 .if1 .left)
+    (passed-stop (c4 .loop .inv) (c3 .loop-test .taken)
+    (sym (c .before .is-consonant .ensures) ∙ not-true _ (c .if2 .taken))) (c3 .loop-test .taken)
 
 add-i : tie.Need-add-i Inv-loop μ-loop
 add-i c = search needs
@@ -42,10 +49,19 @@ loop-less : tie.Need-loop-less Inv-loop μ-loop
 loop-less c = let t = c .before .before .before .loop-test .taken in omega arith
 
 loop-again : tie.Need-loop-again Inv-loop μ-loop
-loop-again c = passed-more (c .before .before .before .before .loop .inv) (c .before .before .before .loop-test .taken) (sym (c .before .is-consonant .ensures) ∙ not-false _ (c .if2 .left))
+loop-again c =
+    let c3 = c .before .before .before in
+    let c4 = c3 .before in
+    passed-more (c4 .loop .inv) (c3 .loop-test .taken)
+    (sym (c .before .is-consonant .ensures) ∙ not-false _ (c .if2 .left))
 
 returns-3 : tie.Need-returns-3 Inv-loop μ-loop
-returns-3 c = let e = passed-all (c .before .loop .inv) (c .loop-test .left) in short-word (c .before .before .before .before .args .word .now) _ (c .before .before .if1 .left) e (omega (arith, e, c .loop-test .left)) (leading-inside isConsonant (c .before .before .before .before .args .word .now))
+returns-3 c =
+    let c2 = c .before .before in
+    let c4 = c2 .before .before in
+    let e = passed-all (c .before .loop .inv) (c .loop-test .left) in
+    short-word (c4 .args .word .now) _ (c2 .if1 .left) e (omega (arith, e, c .loop-test .left))
+    (leading-inside isConsonant (c4 .args .word .now))
 
 pub is-short-spec : {M : Type 1} → statement M
 is-short-spec =

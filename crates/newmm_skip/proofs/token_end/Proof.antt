@@ -24,13 +24,26 @@ skip-end-requires : tie.Need-skip-end-requires
 skip-end-requires c κs = search needs
 
 returns : tie.Need-returns
-returns c = token-skips (c .before .before .before .before .before .before .before .args .text .now) (c .before .before .before .before .before .before .before .args .pool .now) _ _ (c .before .before .non-thai-length .ensures) _ (c .before .if1 .taken) (c .skip-end .ensures)
+returns c =
+    let c2 = c .before .before in
+    let c7 = c2 .before .before .before .before .before in
+    token-skips (c7 .args .text .now) (c7 .args .pool .now) _ _ (c2 .non-thai-length .ensures) _
+    (c .before .if1 .taken) (c .skip-end .ensures)
 
 add-result : tie.Need-add-result
-add-result c = let h = c .before .before .before .before .before .before .pre .inside in omega (arith, match-inside (c .before .before .before .before .before .before .args .text .now) (c .before .before .before .before .before .before .args .pool .now) (c .before .before .before .before .before .before .args .b) _ (c .before .non-thai-length .ensures) (omega arith))
+add-result c =
+    let c6 = c .before .before .before .before .before .before in
+    let h = c6 .pre .inside in
+    omega (
+      arith,
+      match-inside (c6 .args .text .now) (c6 .args .pool .now) (c6 .args .b) _
+          (c .before .non-thai-length .ensures) (omega arith),
+    )
 
 returns-2 : tie.Need-returns-2
-returns-2 c = token-matches (c .before .before .before .before .before .before .args .text .now) (c .before .before .before .before .before .before .args .pool .now) _ _ (c .before .non-thai-length .ensures) (c .if1 .left)
+returns-2 c =
+    let c6 = c .before .before .before .before .before .before in
+    token-matches (c6 .args .text .now) (c6 .args .pool .now) _ _ (c .before .non-thai-length .ensures) (c .if1 .left)
 
 pub token-end-spec : {M : Type 1} → statement M
 token-end-spec =

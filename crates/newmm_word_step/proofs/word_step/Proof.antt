@@ -21,19 +21,40 @@ enum-known-kid : tie.Need-enum-known-kid
 enum-known-kid c = search needs
 
 mul-if1 : tie.Need-mul-if1
-mul-if1 c = let n = found-node (c .before .before .before .before .before .before .before .before .pre) (c .before .before .before .find-child .ensures) (c .before .kid .given .1) in omega (arith, n .inside, n .fits)
+mul-if1 c =
+    let c3 = c .before .before .before in
+    let c8 = c3 .before .before .before .before .before in
+    let n = found-node (c8 .pre) (c3 .find-child .ensures) (c .before .kid .given .1) in
+    omega (arith, n .inside, n .fits)
 
 add-if1 : tie.Need-add-if1
-add-if1 c = let n = found-node (c .before .before .before .before .before .before .before .before .pre) (c .before .before .before .find-child .ensures) (c .before .kid .given .1) in omega (arith, n .inside, n .fits)
+add-if1 c =
+    let c3 = c .before .before .before in
+    let c8 = c3 .before .before .before .before .before in
+    let n = found-node (c8 .pre) (c3 .find-child .ensures) (c .before .kid .given .1) in
+    omega (arith, n .inside, n .fits)
 
 mul-if1-2 : tie.Need-mul-if1-2
-mul-if1-2 c = let n = found-node (c .before .before .before .before .before .before .before .before .pre) (c .before .before .before .find-child .ensures) (c .before .kid .given .1) in omega (arith, n .inside, n .fits)
+mul-if1-2 c =
+    let c3 = c .before .before .before in
+    let c8 = c3 .before .before .before .before .before in
+    let n = found-node (c8 .pre) (c3 .find-child .ensures) (c .before .kid .given .1) in
+    omega (arith, n .inside, n .fits)
 
 shared-slice-read-if1 : tie.Need-shared-slice-read-if1
-shared-slice-read-if1 c = let n = found-node (c .before .before .before .before .before .before .before .before .before .pre) (c .before .before .before .before .find-child .ensures) (c .before .before .kid .given .1) in omega (arith, n .inside, n .fits)
+shared-slice-read-if1 c =
+    let c2 = c .before .before in
+    let c4 = c2 .before .before in
+    let c9 = c4 .before .before .before .before .before in
+    let n = found-node (c9 .pre) (c4 .find-child .ensures) (c2 .kid .given .1) in
+    omega (arith, n .inside, n .fits)
 
 returns : tie.Need-returns
-returns c = unmarked-part (c .before .before .before .before .before .before .before .before .before .before .pre) (c .before .before .before .before .before .find-child .ensures) (c .before .before .before .kid .given .1) (c .if1 .taken)
+returns c =
+    let c3 = c .before .before .before in
+    let c5 = c3 .before .before in
+    let c10 = c5 .before .before .before .before .before in
+    unmarked-part (c10 .pre) (c5 .find-child .ensures) (c3 .kid .given .1) (c .if1 .taken)
 
 add-if2 : tie.Need-add-if2
 add-if2 c = search needs
@@ -42,16 +63,32 @@ mul-if2 : tie.Need-mul-if2
 mul-if2 c = search needs
 
 shared-slice-read-if2 : tie.Need-shared-slice-read-if2
-shared-slice-read-if2 c = flag-index (c .before .before .before .before .before .before .before .before .before .before .before .pre) (c .before .before .before .before .before .before .find-child .ensures) (c .before .before .before .before .kid .given .1)
+shared-slice-read-if2 c =
+    let c4 = c .before .before .before .before in
+    let c6 = c4 .before .before in
+    let c11 = c6 .before .before .before .before .before in
+    flag-index (c11 .pre) (c6 .find-child .ensures) (c4 .kid .given .1)
 
 returns-2 : tie.Need-returns-2
-returns-2 c = unended-part (c .before .before .before .before .before .before .before .before .before .before .before .before .pre) (c .before .before .before .before .before .before .before .find-child .ensures) (c .before .before .before .before .before .kid .given .1) (c .if2 .taken)
+returns-2 c =
+    let c5 = c .before .before .before .before .before in
+    let c7 = c5 .before .before in
+    let c12 = c7 .before .before .before .before .before in
+    unended-part (c12 .pre) (c7 .find-child .ensures) (c5 .kid .given .1) (c .if2 .taken)
 
 returns-3 : tie.Need-returns-3
-returns-3 c = λ b w. no-more (c .before .before .before .before .before .before .before .pre) w _ (c .before .before .find-child .ensures) (c .enum-told .given .1)
+returns-3 c =
+    let c2 = c .before .before in
+    let c7 = c2 .before .before .before .before .before in
+    λ b w. no-more (c7 .pre) w _ (c2 .find-child .ensures) (c .enum-told .given .1)
 
 returns-4 : tie.Need-returns-4
-returns-4 c = whole-word (c .before .before .before .before .before .before .before .before .before .before .before .before .pre) (c .before .before .before .before .before .before .before .find-child .ensures) (c .before .before .before .before .before .kid .given .1) (c .before .before .if1 .left) (c .if2 .left)
+returns-4 c =
+    let c2 = c .before .before in
+    let c5 = c2 .before .before .before in
+    let c7 = c5 .before .before in
+    let c12 = c7 .before .before .before .before .before in
+    whole-word (c12 .pre) (c7 .find-child .ensures) (c5 .kid .given .1) (c2 .if1 .left) (c .if2 .left)
 
 pub word-step-spec : {M : Type 1} → statement M
 word-step-spec =

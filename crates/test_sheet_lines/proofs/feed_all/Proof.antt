@@ -21,7 +21,8 @@ moves bytes part at most n k m w e h =
     (omega arith, omega arith)
 
 abbrev Inv-loop : tie.InvT-loop
-Inv-loop bytes most written₀ line₀ pool₀ scalars₀ ends₀ scratch₀ out₀ used₀ kept₀ at₀ written line pool scalars ends scratch out used kept at = (length line ≡ length line₀) × (length pool ≡ length pool₀) × (length scalars ≡ length scalars₀) × (length ends ≡ length ends₀) × (length scratch ≡ length scratch₀) × (length out ≡ length out₀) × (length written ≡ length written₀)
+Inv-loop bytes most written₀ line₀ pool₀ scalars₀ ends₀ scratch₀ out₀ used₀ kept₀ at₀ written line pool scalars ends scratch out used kept at =
+    (length line ≡ length line₀) × (length pool ≡ length pool₀) × (length scalars ≡ length scalars₀) × (length ends ≡ length ends₀) × (length scratch ≡ length scratch₀) × (length out ≡ length out₀) × (length written ≡ length written₀)
 
 abbrev μ-loop : tie.MeasureT-loop
 μ-loop bytes most written₀ line₀ pool₀ scalars₀ ends₀ scratch₀ out₀ used₀ kept₀ at₀ written line pool scalars ends scratch out used kept at = length bytes - at
@@ -51,13 +52,33 @@ keep-requires : tie.Need-keep-requires Inv-loop μ-loop
 keep-requires c κs = search needs
 
 add-at : tie.Need-add-at Inv-loop μ-loop
-add-at c = let m = moves (c .before .before .before .before .before .before .before .before .before .before .before .before .before .before .before .before .before .before .before .before .before .before .before .before .before .before .before .before .before .before .before .before .before .before .before .before .before .before .args .bytes .now) _ (c .before .before .before .before .before .before .before .before .before .before .before .before .before .before .before .before .before .before .before .before .before .before .before .before .before .before .before .before .before .loop .at) (c .before .before .before .before .before .before .before .before .before .before .before .before .before .before .before .before .before .before .before .before .before .before .before .before .before .before .before .before .before .before .before .before .before .before .before .before .before .before .args .most) _ _ (c .before .before .before .before .before .before .before .before .before .before .before .before .before .before .before .before .before .before .before .before .before .before .before .before .before .before .before .before .before .before .before .before .before .before .before .before .before .before .pre) (c .before .before .before .before .before .before .before .before .before .before .before .before .before .before .before .before .before .before .before .before .before .before .before .before .before .before .front .ensures) (c .before .before .before .before .before .before .before .before .before .before .before .before .before .before .before .before .before .before .before .feed .ensures .0) (c .before .before .before .before .before .before .before .before .before .before .before .before .before .before .before .before .before .before .before .before .before .before .before .before .before .before .before .before .loop-test .taken) in let b = c .before .before .before .before .before .before .before .before .before .before .before .before .before .before .before .before .before .before .before .before .before .before .before .before .before .before .before .before .before .before .before .before .before .before .before .before .before .before .good in omega arith
+add-at c =
+    let c19 = c .before .before .before .before .before .before .before .before .before .before .before .before .before .before .before .before .before .before .before in
+    let c26 = c19 .before .before .before .before .before .before .before in
+    let c28 = c26 .before .before in
+    let c29 = c28 .before in
+    let c38 = c29 .before .before .before .before .before .before .before .before .before in
+    let m = moves (c38 .args .bytes .now) _ (c29 .loop .at) (c38 .args .most) _ _ (c38 .pre) (c26 .front .ensures)
+    (c19 .feed .ensures .0) (c28 .loop-test .taken) in
+    let b = c38 .good in
+    omega arith
 
 loop-less : tie.Need-loop-less Inv-loop μ-loop
-loop-less c = let m = moves (c .before .before .before .before .before .before .before .before .before .before .before .before .before .before .before .before .before .before .before .before .before .before .before .before .before .before .before .before .before .before .before .before .before .before .before .before .before .before .args .bytes .now) _ (c .before .before .before .before .before .before .before .before .before .before .before .before .before .before .before .before .before .before .before .before .before .before .before .before .before .before .before .before .before .loop .at) (c .before .before .before .before .before .before .before .before .before .before .before .before .before .before .before .before .before .before .before .before .before .before .before .before .before .before .before .before .before .before .before .before .before .before .before .before .before .before .args .most) _ _ (c .before .before .before .before .before .before .before .before .before .before .before .before .before .before .before .before .before .before .before .before .before .before .before .before .before .before .before .before .before .before .before .before .before .before .before .before .before .before .pre) (c .before .before .before .before .before .before .before .before .before .before .before .before .before .before .before .before .before .before .before .before .before .before .before .before .before .before .front .ensures) (c .before .before .before .before .before .before .before .before .before .before .before .before .before .before .before .before .before .before .before .feed .ensures .0) (c .before .before .before .before .before .before .before .before .before .before .before .before .before .before .before .before .before .before .before .before .before .before .before .before .before .before .before .before .loop-test .taken) in omega arith
+loop-less c =
+    let c19 = c .before .before .before .before .before .before .before .before .before .before .before .before .before .before .before .before .before .before .before in
+    let c26 = c19 .before .before .before .before .before .before .before in
+    let c28 = c26 .before .before in
+    let c29 = c28 .before in
+    let c38 = c29 .before .before .before .before .before .before .before .before .before in
+    let m = moves (c38 .args .bytes .now) _ (c29 .loop .at) (c38 .args .most) _ _ (c38 .pre) (c26 .front .ensures)
+    (c19 .feed .ensures .0) (c28 .loop-test .taken) in
+    omega arith
 
 loop-again : tie.Need-loop-again Inv-loop μ-loop
-loop-again c = let v = c .before .before .before .before .before .before .before .before .before .before .before .before .before .before .before .before .before .before .before .before .before .before .before .before .before .before .before .before .before .loop .inv in (search needs, search needs, search needs, search needs, search needs, search needs, search needs)
+loop-again c =
+    let c29 = c .before .before .before .before .before .before .before .before .before .before .before .before .before .before .before .before .before .before .before .before .before .before .before .before .before .before .before .before .before in
+    let v = c29 .loop .inv in
+    (search needs, search needs, search needs, search needs, search needs, search needs, search needs)
 
 finish-requires : tie.Need-finish-requires Inv-loop μ-loop
 finish-requires c κs = search needs

@@ -2,7 +2,7 @@
 use mathlib.Core.Path.{sym, _∙_}
 use borrow.Author.Tests.{not-true, not-false}
 use Rattle.trie_pool.specs.Meaning.{meaning}
-use Rattle.trie_check.proofs.Rows.{check-text, check-pool, check-all}
+use Rattle.trie_check.proofs.Refusals.{check-text, check-pool, check-all}
 use Rattle.trie_check.proofs.Parts.{is-none}
 use borrow.Author.Needs.{needs}
 use Rattle.trie_check.proofs.check.Statement.{statement}
@@ -21,13 +21,27 @@ is-dictionary-requires : tie.Need-is-dictionary-requires
 is-dictionary-requires c κs = search needs
 
 returns : tie.Need-returns
-returns c = check-pool (c .before .before .before .before .before .before .before .before .args .text .now) (meaning (c .before .before .before .before .before .before .before .before .args .pool .now)) (c .before .before .before .before .before .check-text .ensures) (c .before .before .before .first2 .given .1) (is-none (c .before .before .before .before .before .before .before .before .args .pool .now) _ (sym (not-true _ (c .if1 .taken)) ∙ c .before .is-dictionary .ensures))
+returns c =
+    let c3 = c .before .before .before in
+    let c5 = c3 .before .before in
+    let c8 = c5 .before .before .before in
+    check-pool (c8 .args .text .now) (meaning (c8 .args .pool .now)) (c5 .check-text .ensures) (c3 .first2 .given .1)
+    (is-none (c8 .args .pool .now) _ (sym (not-true _ (c .if1 .taken)) ∙ c .before .is-dictionary .ensures))
 
 returns-2 : tie.Need-returns-2
-returns-2 c = check-text (c .before .before .before .before .before .before .args .text .now) (meaning (c .before .before .before .before .before .before .args .pool .now)) (c .before .before .before .check-text .ensures) (c .before .first .given .1)
+returns-2 c =
+    let c3 = c .before .before .before in
+    let c6 = c3 .before .before .before in
+    check-text (c6 .args .text .now) (meaning (c6 .args .pool .now)) (c3 .check-text .ensures)
+    (c .before .first .given .1)
 
 returns-3 : tie.Need-returns-3
-returns-3 c = check-all (c .before .before .before .before .before .before .before .before .args .text .now) (meaning (c .before .before .before .before .before .before .before .before .args .pool .now)) (c .before .before .before .before .before .check-text .ensures) (c .before .before .before .first2 .given .1) (is-none (c .before .before .before .before .before .before .before .before .args .pool .now) _ (sym (not-false _ (c .if1 .left)) ∙ c .before .is-dictionary .ensures))
+returns-3 c =
+    let c3 = c .before .before .before in
+    let c5 = c3 .before .before in
+    let c8 = c5 .before .before .before in
+    check-all (c8 .args .text .now) (meaning (c8 .args .pool .now)) (c5 .check-text .ensures) (c3 .first2 .given .1)
+    (is-none (c8 .args .pool .now) _ (sym (not-false _ (c .if1 .left)) ∙ c .before .is-dictionary .ensures))
 
 pub check-spec : {M : Type 1} → statement M
 check-spec =

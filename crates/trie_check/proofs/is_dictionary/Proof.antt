@@ -19,7 +19,10 @@ well-formed-requires : tie.Need-well-formed-requires
 well-formed-requires c κs = search needs
 
 returns : tie.Need-returns
-returns c = c .well-formed .ensures ∙ ap wellFormed (cells-are (c .before .before .before .before .args .pool .now) _ (c .before .before .capacity .ensures))
+returns c =
+    let c2 = c .before .before in
+    let c4 = c2 .before .before in
+    c .well-formed .ensures ∙ ap wellFormed (cells-are (c4 .args .pool .now) _ (c2 .capacity .ensures))
 
 pub is-dictionary-spec : {M : Type 1} → statement M
 is-dictionary-spec =

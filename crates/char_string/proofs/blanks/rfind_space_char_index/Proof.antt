@@ -30,7 +30,11 @@ sub-t8 : tie.Need-sub-t8 Inv-loop μ-loop
 sub-t8 c = search needs
 
 returns : tie.Need-returns Inv-loop μ-loop
-returns c = before-some _ _ (left-stop (c .before .before .before .loop .inv) (c .before .before .loop-test .taken) (eq-eqb _ _ (c .if1 .taken))) (c .before .before .loop-test .taken)
+returns c =
+    let c2 = c .before .before in
+    let c3 = c2 .before in
+    before-some _ _ (left-stop (c3 .loop .inv) (c2 .loop-test .taken) (eq-eqb _ _ (c .if1 .taken)))
+    (c2 .loop-test .taken)
 
 sub-i : tie.Need-sub-i Inv-loop μ-loop
 sub-i c = search needs

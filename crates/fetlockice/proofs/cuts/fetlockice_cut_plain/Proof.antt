@@ -21,7 +21,9 @@ same-length-2 : tie.Need-same-length-2
 same-length-2 c = search needs
 
 returns : tie.Need-returns
-returns c = cut-told (c .before .before .before .before .before .before .before .before .cut .ensures .0) (c .tell-cut .ensures) (c .before .before .before .before .before .before .before .before .cut .ensures .1 .0) (c .before .before .before .before .before .before .before .before .cut .ensures .1 .1)
+returns c =
+    let c8 = c .before .before .before .before .before .before .before .before in
+    cut-told (c8 .cut .ensures .0) (c .tell-cut .ensures) (c8 .cut .ensures .1 .0) (c8 .cut .ensures .1 .1)
 
 pub fetlockice-cut-plain-spec : {M : Type 1} → statement M
 fetlockice-cut-plain-spec =

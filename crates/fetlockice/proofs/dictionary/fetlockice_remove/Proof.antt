@@ -18,7 +18,9 @@ same-length : tie.Need-same-length
 same-length c = search needs
 
 returns : tie.Need-returns
-returns c = with-pool (c .before .before .before .before .before .remove .ensures .0) (c .tell .ensures) _ _ _ (c .before .before .before .before .before .remove .ensures .1)
+returns c =
+    let c5 = c .before .before .before .before .before in
+    with-pool (c5 .remove .ensures .0) (c .tell .ensures) _ _ _ (c5 .remove .ensures .1)
 
 pub fetlockice-remove-spec : {M : Type 1} → statement M
 fetlockice-remove-spec = tie.close (tie.spec remove-requires tell-requires same-length returns)

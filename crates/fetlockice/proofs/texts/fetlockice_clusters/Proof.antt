@@ -18,7 +18,9 @@ same-length : tie.Need-same-length
 same-length c = search needs
 
 returns : tie.Need-returns
-returns c = with-output (c .before .before .before .before .before .tcc-pos .ensures .0) (c .tell .ensures) _ _ (c .before .before .before .before .before .tcc-pos .ensures .1)
+returns c =
+    let c5 = c .before .before .before .before .before in
+    with-output (c5 .tcc-pos .ensures .0) (c .tell .ensures) _ _ (c5 .tcc-pos .ensures .1)
 
 pub fetlockice-clusters-spec : {M : Type 1} → statement M
 fetlockice-clusters-spec = tie.close (tie.spec tcc-pos-requires tell-requires same-length returns)

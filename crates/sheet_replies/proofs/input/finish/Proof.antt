@@ -8,13 +8,21 @@ use Rattle.sheet_replies.proofs.input.finish.Statement.{statement}
 use Rattle.sheet_replies.proofs.input.finish.Tie as tie
 
 returns : tie.Need-returns
-returns c = (
-  no-line (c .before .before .before .before .before .before .before .args .line .now) (c .before .before .before .before .before .before .before .args .kept) (c .before .before .before .before .before .before .before .args .pool .now) (c .before .before .before .before .before .before .before .args .scalars .now) (c .before .before .before .before .before .before .before .args .ends .now) (c .before .before .before .before .before .before .before .args .scratch .now) (c .if1 .taken) (amount (told (take (c .before .before .before .before .before .before .before .args .kept) (c .before .before .before .before .before .before .before .args .line .now)) (c .before .before .before .before .before .before .before .args .pool .now) (length (c .before .before .before .before .before .before .before .args .scalars .now)) (length (c .before .before .before .before .before .before .before .args .scratch .now)) (c .before .before .before .before .before .before .before .args .ends .now)) (c .before .before .before .before .before .before .before .args .out .now)),
-  (
-    no-text (c .before .before .before .before .before .before .before .args .line .now) (c .before .before .before .before .before .before .before .args .kept) (c .before .before .before .before .before .before .before .args .pool .now) (c .before .before .before .before .before .before .before .args .scalars .now) (c .before .before .before .before .before .before .before .args .ends .now) (c .before .before .before .before .before .before .before .args .scratch .now) (c .if1 .taken) (c .before .before .before .before .before .before .before .args .out .now) (written (told (take (c .before .before .before .before .before .before .before .args .kept) (c .before .before .before .before .before .before .before .args .line .now)) (c .before .before .before .before .before .before .before .args .pool .now) (length (c .before .before .before .before .before .before .before .args .scalars .now)) (length (c .before .before .before .before .before .before .before .args .scratch .now)) (c .before .before .before .before .before .before .before .args .ends .now)) (c .before .before .before .before .before .before .before .args .out .now)),
-    no-rows (c .before .before .before .before .before .before .before .args .line .now) (c .before .before .before .before .before .before .before .args .kept) (c .before .before .before .before .before .before .before .args .pool .now) (c .before .before .before .before .before .before .before .args .scalars .now) (c .before .before .before .before .before .before .before .args .ends .now) (c .before .before .before .before .before .before .before .args .scratch .now) (c .if1 .taken),
-  ),
-)
+returns c =
+    let c7 = c .before .before .before .before .before .before .before in (
+      no-line (c7 .args .line .now) (c7 .args .kept) (c7 .args .pool .now) (c7 .args .scalars .now)
+          (c7 .args .ends .now) (c7 .args .scratch .now) (c .if1 .taken)
+          (amount (told (take (c7 .args .kept) (c7 .args .line .now)) (c7 .args .pool .now)
+          (length (c7 .args .scalars .now)) (length (c7 .args .scratch .now)) (c7 .args .ends .now)) (c7 .args .out .now)),
+      (
+        no-text (c7 .args .line .now) (c7 .args .kept) (c7 .args .pool .now) (c7 .args .scalars .now)
+            (c7 .args .ends .now) (c7 .args .scratch .now) (c .if1 .taken) (c7 .args .out .now)
+            (written (told (take (c7 .args .kept) (c7 .args .line .now)) (c7 .args .pool .now)
+            (length (c7 .args .scalars .now)) (length (c7 .args .scratch .now)) (c7 .args .ends .now)) (c7 .args .out .now)),
+        no-rows (c7 .args .line .now) (c7 .args .kept) (c7 .args .pool .now) (c7 .args .scalars .now)
+            (c7 .args .ends .now) (c7 .args .scratch .now) (c .if1 .taken),
+      ),
+    )
 
 front-requires : tie.Need-front-requires
 front-requires c κs = search needs
@@ -38,13 +46,23 @@ same-length-5 : tie.Need-same-length-5
 same-length-5 c = search needs
 
 returns-2 : tie.Need-returns-2
-returns-2 c = (
-  last-size (c .before .before .before .before .before .before .before .before .before .before .before .before .before .before .before .before .before .before .before .before .before .before .before .before .args .line .now) (c .before .before .before .before .before .before .before .before .before .before .before .before .before .before .before .before .before .before .before .before .before .before .before .before .args .kept) (c .before .before .before .before .before .before .before .before .before .before .before .before .before .before .before .before .before .before .before .before .before .before .before .before .args .pool .now) (c .before .before .before .before .before .before .before .before .before .before .before .before .before .before .before .before .before .before .before .before .before .before .before .before .args .scalars .now) (c .before .before .before .before .before .before .before .before .before .before .before .before .before .before .before .before .before .before .before .before .before .before .before .before .args .ends .now) (c .before .before .before .before .before .before .before .before .before .before .before .before .before .before .before .before .before .before .before .before .before .before .before .before .args .scratch .now) (c .before .before .before .before .before .before .before .before .before .before .before .before .before .before .before .before .before .if1 .left) (c .before .before .before .before .before .before .before .before .before .before .before .before .before .before .before .before .front .ensures) (c .before .before .before .before .before .before .before .before .before .before .before .before .before .before .before .before .before .before .before .before .before .before .before .before .args .out .now) (c .before .before .before .before .before .before .before .before .before .before .told .ensures .0),
-  (
-    last-out (c .before .before .before .before .before .before .before .before .before .before .before .before .before .before .before .before .before .before .before .before .before .before .before .before .args .line .now) (c .before .before .before .before .before .before .before .before .before .before .before .before .before .before .before .before .before .before .before .before .before .before .before .before .args .kept) (c .before .before .before .before .before .before .before .before .before .before .before .before .before .before .before .before .before .before .before .before .before .before .before .before .args .pool .now) (c .before .before .before .before .before .before .before .before .before .before .before .before .before .before .before .before .before .before .before .before .before .before .before .before .args .scalars .now) (c .before .before .before .before .before .before .before .before .before .before .before .before .before .before .before .before .before .before .before .before .before .before .before .before .args .ends .now) (c .before .before .before .before .before .before .before .before .before .before .before .before .before .before .before .before .before .before .before .before .before .before .before .before .args .scratch .now) (c .before .before .before .before .before .before .before .before .before .before .before .before .before .before .before .before .before .if1 .left) (c .before .before .before .before .before .before .before .before .before .before .before .before .before .before .before .before .front .ensures) (c .before .before .before .before .before .before .before .before .before .before .before .before .before .before .before .before .before .before .before .before .before .before .before .before .args .out .now) (c .before .before .before .before .before .before .before .before .before .before .told .ensures .1 .0),
-    last-rows (c .before .before .before .before .before .before .before .before .before .before .before .before .before .before .before .before .before .before .before .before .before .before .before .before .args .line .now) (c .before .before .before .before .before .before .before .before .before .before .before .before .before .before .before .before .before .before .before .before .before .before .before .before .args .kept) (c .before .before .before .before .before .before .before .before .before .before .before .before .before .before .before .before .before .before .before .before .before .before .before .before .args .pool .now) (c .before .before .before .before .before .before .before .before .before .before .before .before .before .before .before .before .before .before .before .before .before .before .before .before .args .scalars .now) (c .before .before .before .before .before .before .before .before .before .before .before .before .before .before .before .before .before .before .before .before .before .before .before .before .args .ends .now) (c .before .before .before .before .before .before .before .before .before .before .before .before .before .before .before .before .before .before .before .before .before .before .before .before .args .scratch .now) (c .before .before .before .before .before .before .before .before .before .before .before .before .before .before .before .before .before .if1 .left) (c .before .before .before .before .before .before .before .before .before .before .before .before .before .before .before .before .front .ensures) (c .before .before .before .before .before .before .before .before .before .before .told .ensures .1 .1),
-  ),
-)
+returns-2 c =
+    let c10 = c .before .before .before .before .before .before .before .before .before .before in
+    let c16 = c10 .before .before .before .before .before .before in
+    let c17 = c16 .before in
+    let c24 = c17 .before .before .before .before .before .before .before in (
+      last-size (c24 .args .line .now) (c24 .args .kept) (c24 .args .pool .now) (c24 .args .scalars .now)
+          (c24 .args .ends .now) (c24 .args .scratch .now) (c17 .if1 .left) (c16 .front .ensures) (c24 .args .out .now)
+          (c10 .told .ensures .0),
+      (
+        last-out (c24 .args .line .now) (c24 .args .kept) (c24 .args .pool .now) (c24 .args .scalars .now)
+            (c24 .args .ends .now) (c24 .args .scratch .now) (c17 .if1 .left) (c16 .front .ensures) (c24 .args .out .now)
+            (c10 .told .ensures .1 .0),
+        last-rows (c24 .args .line .now) (c24 .args .kept) (c24 .args .pool .now)
+            (c24 .args .scalars .now) (c24 .args .ends .now) (c24 .args .scratch .now) (c17 .if1 .left) (c16 .front .ensures)
+            (c10 .told .ensures .1 .1),
+      ),
+    )
 
 pub finish-spec : {M : Type 1} → statement M
 finish-spec =

@@ -26,13 +26,18 @@ same-length-5 : tie.Need-same-length-5
 same-length-5 c = search needs
 
 returns : tie.Need-returns
-returns c = (
-  told-size (c .before .before .before .before .before .before .before .before .before .before .before .before .before .answer-line .ensures .0) (c .before .before .before .before .before .before .before .before .before .before .before .before .before .answer-line .ensures .1 .ends-are) (c .before .before .before .before .before .before .before .before .before .before .before .before .before .before .before .before .before .before .before .before .before .before .before .before .args .out .now) (c .before .before .write-reply .ensures .0),
-  (
-    told-is (c .before .before .before .before .before .before .before .before .before .before .before .before .before .answer-line .ensures .0) (c .before .before .before .before .before .before .before .before .before .before .before .before .before .answer-line .ensures .1 .ends-are) (c .before .before .before .before .before .before .before .before .before .before .before .before .before .before .before .before .before .before .before .before .before .before .before .before .args .out .now) (c .before .before .write-reply .ensures .1),
-    c .before .before .before .before .before .before .before .before .before .before .before .before .before .answer-line .ensures .1,
-  ),
-)
+returns c =
+    let c2 = c .before .before in
+    let c13 = c2 .before .before .before .before .before .before .before .before .before .before .before in
+    let c24 = c13 .before .before .before .before .before .before .before .before .before .before .before in (
+      told-size (c13 .answer-line .ensures .0) (c13 .answer-line .ensures .1 .ends-are) (c24 .args .out .now)
+          (c2 .write-reply .ensures .0),
+      (
+        told-is (c13 .answer-line .ensures .0) (c13 .answer-line .ensures .1 .ends-are) (c24 .args .out .now)
+            (c2 .write-reply .ensures .1),
+        c13 .answer-line .ensures .1,
+      ),
+    )
 
 pub told-spec : {M : Type 1} → statement M
 told-spec =

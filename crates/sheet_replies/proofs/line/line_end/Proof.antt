@@ -32,7 +32,10 @@ loop-less : tie.Need-loop-less Inv-loop μ-loop
 loop-less c = search needs
 
 loop-again : tie.Need-loop-again Inv-loop μ-loop
-loop-again c = passed-more (c .before .before .before .loop .inv) (c .before .before .loop-test .taken) (ap not (ne-eqb _ 10 (c .if1 .left)))
+loop-again c =
+    let c2 = c .before .before in
+    let c3 = c2 .before in
+    passed-more (c3 .loop .inv) (c2 .loop-test .taken) (ap not (ne-eqb _ 10 (c .if1 .left)))
 
 returns-2 : tie.Need-returns-2 Inv-loop μ-loop
 returns-2 c = passed-all (c .before .loop .inv) (c .loop-test .left)

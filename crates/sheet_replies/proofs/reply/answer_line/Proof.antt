@@ -19,10 +19,18 @@ enum-told-2 : tie.Need-enum-told-2
 enum-told-2 c = search needs
 
 sub-add : tie.Need-sub-add
-sub-add c = let h = asked-some (c .before .before .before .before .before .before .before .before .args .line .now) (c .before .before .asks .ensures) (c .enum-told2 .given .1) not-add in omega arith
+sub-add c =
+    let c2 = c .before .before in
+    let c8 = c2 .before .before .before .before .before .before in
+    let h = asked-some (c8 .args .line .now) (c2 .asks .ensures) (c .enum-told2 .given .1) not-add in
+    omega arith
 
 part-add-start : tie.Need-part-add-start
-part-add-start c = let h = asked-some (c .before .before .before .before .before .before .before .before .args .line .now) (c .before .before .asks .ensures) (c .enum-told2 .given .1) not-add in omega arith
+part-add-start c =
+    let c2 = c .before .before in
+    let c8 = c2 .before .before .before .before .before .before in
+    let h = asked-some (c8 .args .line .now) (c2 .asks .ensures) (c .enum-told2 .given .1) not-add in
+    omega arith
 
 part-add-end : tie.Need-part-add-end
 part-add-end c = search needs
@@ -34,10 +42,18 @@ enum-told-3 : tie.Need-enum-told-3
 enum-told-3 c = search needs
 
 sub-remove : tie.Need-sub-remove
-sub-remove c = let h = asked-some (c .before .before .before .before .before .before .before .before .args .line .now) (c .before .before .asks .ensures) (c .enum-told3 .given .1) not-remove in omega arith
+sub-remove c =
+    let c2 = c .before .before in
+    let c8 = c2 .before .before .before .before .before .before in
+    let h = asked-some (c8 .args .line .now) (c2 .asks .ensures) (c .enum-told3 .given .1) not-remove in
+    omega arith
 
 part-remove-start : tie.Need-part-remove-start
-part-remove-start c = let h = asked-some (c .before .before .before .before .before .before .before .before .args .line .now) (c .before .before .asks .ensures) (c .enum-told3 .given .1) not-remove in omega arith
+part-remove-start c =
+    let c2 = c .before .before in
+    let c8 = c2 .before .before .before .before .before .before in
+    let h = asked-some (c8 .args .line .now) (c2 .asks .ensures) (c .enum-told3 .given .1) not-remove in
+    omega arith
 
 part-remove-end : tie.Need-part-remove-end
 part-remove-end c = search needs
@@ -49,10 +65,18 @@ enum-known-asked : tie.Need-enum-known-asked
 enum-known-asked c = search needs
 
 sub-cut : tie.Need-sub-cut
-sub-cut c = let h = asked-some (c .before .before .before .before .before .before .before .before .before .args .line .now) (c .before .before .before .asks .ensures) (c .before .asked .given .1) (not-cut _) in omega arith
+sub-cut c =
+    let c3 = c .before .before .before in
+    let c9 = c3 .before .before .before .before .before .before in
+    let h = asked-some (c9 .args .line .now) (c3 .asks .ensures) (c .before .asked .given .1) (not-cut _) in
+    omega arith
 
 part-cut-start : tie.Need-part-cut-start
-part-cut-start c = let h = asked-some (c .before .before .before .before .before .before .before .before .before .args .line .now) (c .before .before .before .asks .ensures) (c .before .asked .given .1) (not-cut _) in omega arith
+part-cut-start c =
+    let c3 = c .before .before .before in
+    let c9 = c3 .before .before .before .before .before .before in
+    let h = asked-some (c9 .args .line .now) (c3 .asks .ensures) (c .before .asked .given .1) (not-cut _) in
+    omega arith
 
 part-cut-end : tie.Need-part-cut-end
 part-cut-end c = search needs
@@ -62,10 +86,15 @@ cut-requires c κs = search needs
 
 returns : tie.Need-returns
 unfolding replyTo PoolAfter scalarsAfter endsAfter scratchAfter
-returns c = (
-  reply-by (c .before .before .before .before .before .before .before .before .args .line .now) (c .before .before .asks .ensures) (c .enum-told .given .1) (c .before .before .before .before .before .before .before .before .args .pool .now) (length (c .before .before .before .before .before .before .before .before .args .scalars .now)) (length (c .before .before .before .before .before .before .before .before .args .scratch .now)) (length (c .before .before .before .before .before .before .before .before .args .ends .now)) refl,
-  rows-by (c .before .before .before .before .before .before .before .before .args .line .now) (c .before .before .asks .ensures) (c .enum-told .given .1) (record { pool-is = refl; scalars-are = refl; ends-are = refl; scratch-is = refl }),
-)
+returns c =
+    let c2 = c .before .before in
+    let c8 = c2 .before .before .before .before .before .before in (
+      reply-by (c8 .args .line .now) (c2 .asks .ensures) (c .enum-told .given .1) (c8 .args .pool .now)
+          (length (c8 .args .scalars .now)) (length (c8 .args .scratch .now)) (length (c8 .args .ends .now)) refl,
+      rows-by
+          (c8 .args .line .now) (c2 .asks .ensures) (c .enum-told .given .1)
+          (record { pool-is = refl; scalars-are = refl; ends-are = refl; scratch-is = refl }),
+    )
 
 same-length : tie.Need-same-length
 same-length c = search needs
@@ -75,10 +104,23 @@ same-length-2 c = search needs
 
 returns-2 : tie.Need-returns-2
 unfolding replyTo PoolAfter scalarsAfter endsAfter scratchAfter
-returns-2 c = (
-  reply-by (c .before .before .before .before .before .before .before .before .before .before .before .before .before .before .before .before .args .line .now) (c .before .before .before .before .before .before .before .before .before .before .asks .ensures) (c .before .before .before .before .before .before .before .before .enum-told2 .given .1) (c .before .before .before .before .before .before .before .before .before .before .before .before .before .before .before .before .args .pool .now) (length (c .before .before .before .before .before .before .before .before .before .before .before .before .before .before .before .before .args .scalars .now)) (length (c .before .before .before .before .before .before .before .before .before .before .before .before .before .before .before .before .args .scratch .now)) (length (c .before .before .before .before .before .before .before .before .before .before .before .before .before .before .before .before .args .ends .now)) (c .before .before .before .before .add .ensures .0),
-  rows-by (c .before .before .before .before .before .before .before .before .before .before .before .before .before .before .before .before .args .line .now) (c .before .before .before .before .before .before .before .before .before .before .asks .ensures) (c .before .before .before .before .before .before .before .before .enum-told2 .given .1) (record { pool-is = (c .before .before .before .before .add .ensures .1 .0); scalars-are = (c .before .before .before .before .add .ensures .1 .1); ends-are = refl; scratch-is = refl }),
-)
+returns-2 c =
+    let c4 = c .before .before .before .before in
+    let c8 = c4 .before .before .before .before in
+    let c10 = c8 .before .before in
+    let c16 = c10 .before .before .before .before .before .before in (
+      reply-by (c16 .args .line .now) (c10 .asks .ensures) (c8 .enum-told2 .given .1) (c16 .args .pool .now)
+          (length (c16 .args .scalars .now)) (length (c16 .args .scratch .now)) (length (c16 .args .ends .now))
+          (c4 .add .ensures .0),
+      rows-by (c16 .args .line .now) (c10 .asks .ensures) (c8 .enum-told2 .given .1)
+          (record {
+            pool-is = (c4 .add .ensures .1 .0);
+            scalars-are =
+                (c4 .add .ensures .1 .1);
+            ends-are = refl;
+            scratch-is = refl;
+          }),
+    )
 
 same-length-3 : tie.Need-same-length-3
 same-length-3 c = search needs
@@ -88,10 +130,23 @@ same-length-4 c = search needs
 
 returns-3 : tie.Need-returns-3
 unfolding replyTo PoolAfter scalarsAfter endsAfter scratchAfter
-returns-3 c = (
-  reply-by (c .before .before .before .before .before .before .before .before .before .before .before .before .before .before .before .before .args .line .now) (c .before .before .before .before .before .before .before .before .before .before .asks .ensures) (c .before .before .before .before .before .before .before .before .enum-told3 .given .1) (c .before .before .before .before .before .before .before .before .before .before .before .before .before .before .before .before .args .pool .now) (length (c .before .before .before .before .before .before .before .before .before .before .before .before .before .before .before .before .args .scalars .now)) (length (c .before .before .before .before .before .before .before .before .before .before .before .before .before .before .before .before .args .scratch .now)) (length (c .before .before .before .before .before .before .before .before .before .before .before .before .before .before .before .before .args .ends .now)) (c .before .before .before .before .remove .ensures .0),
-  rows-by (c .before .before .before .before .before .before .before .before .before .before .before .before .before .before .before .before .args .line .now) (c .before .before .before .before .before .before .before .before .before .before .asks .ensures) (c .before .before .before .before .before .before .before .before .enum-told3 .given .1) (record { pool-is = (c .before .before .before .before .remove .ensures .1 .0); scalars-are = (c .before .before .before .before .remove .ensures .1 .1); ends-are = refl; scratch-is = refl }),
-)
+returns-3 c =
+    let c4 = c .before .before .before .before in
+    let c8 = c4 .before .before .before .before in
+    let c10 = c8 .before .before in
+    let c16 = c10 .before .before .before .before .before .before in (
+      reply-by (c16 .args .line .now) (c10 .asks .ensures) (c8 .enum-told3 .given .1) (c16 .args .pool .now)
+          (length (c16 .args .scalars .now)) (length (c16 .args .scratch .now)) (length (c16 .args .ends .now))
+          (c4 .remove .ensures .0),
+      rows-by (c16 .args .line .now) (c10 .asks .ensures) (c8 .enum-told3 .given .1)
+          (record {
+            pool-is = (c4 .remove .ensures .1 .0);
+            scalars-are =
+                (c4 .remove .ensures .1 .1);
+            ends-are = refl;
+            scratch-is = refl;
+          }),
+    )
 
 same-length-5 : tie.Need-same-length-5
 same-length-5 c = search needs
@@ -107,10 +162,23 @@ same-length-8 c = search needs
 
 returns-4 : tie.Need-returns-4
 unfolding replyTo PoolAfter scalarsAfter endsAfter scratchAfter
-returns-4 c = (
-  reply-by (c .before .before .before .before .before .before .before .before .before .before .before .before .before .before .before .before .before .before .before .before .before .args .line .now) (c .before .before .before .before .before .before .before .before .before .before .before .before .before .before .before .asks .ensures) (c .before .before .before .before .before .before .before .before .before .before .before .before .before .asked .given .1) (c .before .before .before .before .before .before .before .before .before .before .before .before .before .before .before .before .before .before .before .before .before .args .pool .now) (length (c .before .before .before .before .before .before .before .before .before .before .before .before .before .before .before .before .before .before .before .before .before .args .scalars .now)) (length (c .before .before .before .before .before .before .before .before .before .before .before .before .before .before .before .before .before .before .before .before .before .args .scratch .now)) (length (c .before .before .before .before .before .before .before .before .before .before .before .before .before .before .before .before .before .before .before .before .before .args .ends .now)) (c .before .before .before .before .before .before .cut .ensures .0),
-  rows-by (c .before .before .before .before .before .before .before .before .before .before .before .before .before .before .before .before .before .before .before .before .before .args .line .now) (c .before .before .before .before .before .before .before .before .before .before .before .before .before .before .before .asks .ensures) (c .before .before .before .before .before .before .before .before .before .before .before .before .before .asked .given .1) (record { pool-is = refl; scalars-are = (c .before .before .before .before .before .before .cut .ensures .1 .0); ends-are = (c .before .before .before .before .before .before .cut .ensures .1 .1 .0); scratch-is = (c .before .before .before .before .before .before .cut .ensures .1 .1 .1) }),
-)
+returns-4 c =
+    let c6 = c .before .before .before .before .before .before in
+    let c13 = c6 .before .before .before .before .before .before .before in
+    let c15 = c13 .before .before in
+    let c21 = c15 .before .before .before .before .before .before in (
+      reply-by (c21 .args .line .now) (c15 .asks .ensures) (c13 .asked .given .1) (c21 .args .pool .now)
+          (length (c21 .args .scalars .now)) (length (c21 .args .scratch .now)) (length (c21 .args .ends .now))
+          (c6 .cut .ensures .0),
+      rows-by (c21 .args .line .now) (c15 .asks .ensures) (c13 .asked .given .1)
+          (record {
+            pool-is = refl;
+            scalars-are = (c6 .cut .ensures .1 .0);
+            ends-are =
+                (c6 .cut .ensures .1 .1 .0);
+            scratch-is = (c6 .cut .ensures .1 .1 .1);
+          }),
+    )
 
 pub answer-line-spec : {M : Type 1} → statement M
 answer-line-spec =

@@ -27,9 +27,18 @@ same-length c = search needs
 
 returns : tie.Need-returns
 returns c =
-    let small : c .before .before .before .before .before .before .before .before .args .n < 2 ^ 64 = search needs in
-    let e : take (c .before .before .before .before .before .decimal .result) (c .before .before .before .before .before .decimal .last .1 .0) ≡ decimal (c .before .before .before .before .before .before .before .before .args .n) = c .before .before .before .before .before .decimal .ensures .1 .1 ∙ decimal-is 20 (c .before .before .before .before .before .decimal .result) (c .before .before .before .before .before .before .before .before .args .n) (c .before .before .before .before .before .decimal .ensures .1 .0) (few (c .before .before .before .before .before .decimal .result) (c .before .before .before .before .before .before .before .before .args .n) (c .before .before .before .before .before .decimal .ensures .1 .0) small) in
-    (c .before .before .keep .ensures .0 ∙ ap (λ (l : List ℕ). length (kept (c .before .before .before .before .before .before .before .before .args .out .now) (c .before .before .before .before .before .before .before .before .args .used) l)) e, c .before .before .keep .ensures .1 ∙ ap (λ (l : List ℕ). laid (kept (c .before .before .before .before .before .before .before .before .args .out .now) (c .before .before .before .before .before .before .before .before .args .used) l) (c .before .before .before .before .before .before .before .before .args .out .now)) e)
+    let c2 = c .before .before in
+    let c5 = c2 .before .before .before in
+    let c8 = c5 .before .before .before in
+    let small : c8 .args .n < 2 ^ 64 = search needs in
+    let e : take (c5 .decimal .result) (c5 .decimal .last .1 .0) ≡ decimal (c8 .args .n) = c5 .decimal .ensures .1 .1
+    ∙ decimal-is 20 (c5 .decimal .result) (c8 .args .n) (c5 .decimal .ensures .1 .0)
+    (few (c5 .decimal .result) (c8 .args .n) (c5 .decimal .ensures .1 .0) small) in (
+      c2 .keep .ensures .0 ∙ ap
+          (λ (l : List ℕ). length (kept (c8 .args .out .now) (c8 .args .used) l)) e,
+      c2 .keep .ensures .1 ∙ ap
+          (λ (l : List ℕ). laid (kept (c8 .args .out .now) (c8 .args .used) l) (c8 .args .out .now)) e,
+    )
 
 pub keep-number-spec : {M : Type 1} → statement M
 keep-number-spec =

@@ -55,13 +55,34 @@ loop-less : tie.Need-loop-less Inv-loop μ-loop
 loop-less c = omega (arith, c .before .before .before .before .before .before .before .before .before .before .before .loop-test .taken)
 
 loop-again : tie.Need-loop-again Inv-loop μ-loop
-loop-again c = λ base v. spaced-next (c .before .before .before .before .before .before .before .before .before .before .before .before .loop .inv base v) (c .before .before .before .before .before .before .before .before .before .before .before .loop-test .taken) (c .before .before .before .before .before .before .before .before .keep .ensures .0) (c .before .before .before .before .before .before .before .before .keep .ensures .1) (c .before .before .before .wide2 .ensures) (c .before .before .keep-number2 .ensures .0) (c .before .before .keep-number2 .ensures .1)
+loop-again c =
+    let c2 = c .before .before in
+    let c3 = c2 .before in
+    let c8 = c3 .before .before .before .before .before in
+    let c11 = c8 .before .before .before in
+    let c12 = c11 .before in
+    λ base v. spaced-next (c12 .loop .inv base v) (c11 .loop-test .taken) (c8 .keep .ensures .0)
+    (c8 .keep .ensures .1) (c3 .wide2 .ensures) (c2 .keep-number2 .ensures .0) (c2 .keep-number2 .ensures .1)
 
 same-length : tie.Need-same-length Inv-loop μ-loop
-same-length c = same (c .before .loop .inv (c .before .before .before .before .before .before .before .before .before .before .before .args .out .now) (spaced-one (c .before .before .before .before .before .before .before .before .before .before .before .args .out .now) (c .before .before .before .before .before .before .before .before .before .before .before .args .row .now) (c .before .before .before .before .before .before .before .before .if1 .left) (c .before .before .before .before .before .wide .ensures) (c .before .before .before .before .keep-number .ensures .0) (c .before .before .before .before .keep-number .ensures .1)) .text)
+same-length c =
+    let c4 = c .before .before .before .before in
+    let c5 = c4 .before in
+    let c8 = c5 .before .before .before in
+    let c11 = c8 .before .before .before in
+    same (c .before .loop .inv (c11 .args .out .now)
+    (spaced-one (c11 .args .out .now) (c11 .args .row .now) (c8 .if1 .left) (c5 .wide .ensures)
+    (c4 .keep-number .ensures .0) (c4 .keep-number .ensures .1)) .text)
 
 returns-2 : tie.Need-returns-2 Inv-loop μ-loop
-returns-2 c = both (spaced-all (c .before .loop .inv (c .before .before .before .before .before .before .before .before .before .before .before .args .out .now) (spaced-one (c .before .before .before .before .before .before .before .before .before .before .before .args .out .now) (c .before .before .before .before .before .before .before .before .before .before .before .args .row .now) (c .before .before .before .before .before .before .before .before .if1 .left) (c .before .before .before .before .before .wide .ensures) (c .before .before .before .before .keep-number .ensures .0) (c .before .before .before .before .keep-number .ensures .1))) (c .loop-test .left))
+returns-2 c =
+    let c4 = c .before .before .before .before in
+    let c5 = c4 .before in
+    let c8 = c5 .before .before .before in
+    let c11 = c8 .before .before .before in
+    both (spaced-all (c .before .loop .inv (c11 .args .out .now)
+    (spaced-one (c11 .args .out .now) (c11 .args .row .now) (c8 .if1 .left) (c5 .wide .ensures)
+    (c4 .keep-number .ensures .0) (c4 .keep-number .ensures .1))) (c .loop-test .left))
 
 pub write-ends-spec : {M : Type 1} → statement M
 write-ends-spec =

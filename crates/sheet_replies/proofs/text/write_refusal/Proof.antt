@@ -38,7 +38,20 @@ same-length : tie.Need-same-length
 same-length c = search needs
 
 returns : tie.Need-returns
-returns c = both (refusal-text (c .before .before .before .before .before .before .before .before .before .before .before .before .before .before .before .before .before .before .before .before .before .args .r) (c .before .before .before .before .before .before .before .before .before .before .before .before .before .number .ensures) (c .before .before .before .detail .ensures) (holds-more (holds-more (holds-more (holds-first (c .before .before .before .before .before .before .before .before .before .before .before .before .before .before .before .before .before .before .before .before .before .args .out .now) (33 ∷ 32 ∷ []) (c .before .before .before .before .before .before .before .before .before .before .before .before .before .before .before .before .before .keep .ensures .0) (c .before .before .before .before .before .before .before .before .before .before .before .before .before .before .before .before .before .keep .ensures .1)) (decimal (c .before .before .before .before .before .before .before .before .before .before .before .before .before .number .result)) (c .before .before .before .before .before .before .before .before .before .before .before .before .keep-number .ensures .0) (c .before .before .before .before .before .before .before .before .before .before .before .before .keep-number .ensures .1)) (32 ∷ []) (c .before .before .before .before .before .before .before .keep2 .ensures .0) (c .before .before .before .before .before .before .before .keep2 .ensures .1)) (decimal (c .before .before .before .detail .result)) (c .before .before .keep-number2 .ensures .0) (c .before .before .keep-number2 .ensures .1)))
+returns c =
+    let c2 = c .before .before in
+    let c3 = c2 .before in
+    let c7 = c3 .before .before .before .before in
+    let c12 = c7 .before .before .before .before .before in
+    let c13 = c12 .before in
+    let c17 = c13 .before .before .before .before in
+    let c21 = c17 .before .before .before .before in
+    both (refusal-text (c21 .args .r) (c13 .number .ensures) (c3 .detail .ensures)
+    (holds-more (holds-more
+    (holds-more (holds-first (c21 .args .out .now) (33 ∷ 32 ∷ []) (c17 .keep .ensures .0) (c17 .keep .ensures .1))
+    (decimal (c13 .number .result)) (c12 .keep-number .ensures .0) (c12 .keep-number .ensures .1)) (32 ∷ [])
+    (c7 .keep2 .ensures .0) (c7 .keep2 .ensures .1)) (decimal (c3 .detail .result)) (c2 .keep-number2 .ensures .0)
+    (c2 .keep-number2 .ensures .1)))
 
 pub write-refusal-spec : {M : Type 1} → statement M
 write-refusal-spec =

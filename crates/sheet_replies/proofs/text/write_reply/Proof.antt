@@ -19,7 +19,14 @@ same-length : tie.Need-same-length
 same-length c = search needs
 
 returns : tie.Need-returns
-returns c = both {row₀ = c .before .before .before .before .before .before .before .before .before .before .before .args .out .now} (holds-more {text = textOfReply (c .before .before .before .before .before .before .before .before .before .before .before .args .reply) (c .before .before .before .before .before .before .before .before .before .before .before .args .ends .now)} (record { size = c .before .before .before .before .before .before .before .write-text .ensures .0; is = c .before .before .before .before .before .before .before .write-text .ensures .1 }) (10 ∷ []) (c .before .before .keep .ensures .0) (c .before .before .keep .ensures .1))
+returns c =
+    let c2 = c .before .before in
+    let c7 = c2 .before .before .before .before .before in
+    let c11 = c7 .before .before .before .before in
+    both {row₀ = c11 .args .out .now}
+    (holds-more {text = textOfReply (c11 .args .reply) (c11 .args .ends .now)}
+    (record { size = c7 .write-text .ensures .0; is = c7 .write-text .ensures .1 }) (10 ∷ []) (c2 .keep .ensures .0)
+    (c2 .keep .ensures .1))
 
 pub write-reply-spec : {M : Type 1} → statement M
 write-reply-spec =

@@ -41,25 +41,49 @@ same-length : tie.Need-same-length
 same-length c = search needs
 
 returns : tie.Need-returns
-returns c = both (text-by (c .before .before .before .before .before .before .before .before .before .args .ends .now) (c .before .before .before .before .before .enum-told .given .1) (holds-first (c .before .before .before .before .before .before .before .before .before .args .out .now) (63 ∷ []) (c .before .before .keep .ensures .0) (c .before .before .keep .ensures .1)))
+returns c =
+    let c2 = c .before .before in
+    let c5 = c2 .before .before .before in
+    let c9 = c5 .before .before .before .before in
+    both (text-by (c9 .args .ends .now) (c5 .enum-told .given .1)
+    (holds-first (c9 .args .out .now) (63 ∷ []) (c2 .keep .ensures .0) (c2 .keep .ensures .1)))
 
 same-length-2 : tie.Need-same-length-2
 same-length-2 c = search needs
 
 returns-2 : tie.Need-returns-2
-returns-2 c = both (text-by (c .before .before .before .before .before .before .before .before .before .args .ends .now) (c .before .before .before .before .before .reply .given .1) (holds-first (c .before .before .before .before .before .before .before .before .before .args .out .now) (decimal (c .before .before .before .before .before .reply .given .0 .0)) (c .before .before .keep-number .ensures .0) (c .before .before .keep-number .ensures .1)))
+returns-2 c =
+    let c2 = c .before .before in
+    let c5 = c2 .before .before .before in
+    let c9 = c5 .before .before .before .before in
+    both (text-by (c9 .args .ends .now) (c5 .reply .given .1)
+    (holds-first (c9 .args .out .now) (decimal (c5 .reply .given .0 .0)) (c2 .keep-number .ensures .0)
+    (c2 .keep-number .ensures .1)))
 
 same-length-3 : tie.Need-same-length-3
 same-length-3 c = search needs
 
 returns-3 : tie.Need-returns-3
-returns-3 c = both {row₀ = c .before .before .before .before .before .before .before .before .before .before .args .out .now} (text-by (c .before .before .before .before .before .before .before .before .before .before .args .ends .now) (c .before .before .before .before .before .before .reply2 .given .1) (ends-text (c .before .before .before .first .ensures) (c .before .before .write-ends .ensures .0) (c .before .before .write-ends .ensures .1)))
+returns-3 c =
+    let c2 = c .before .before in
+    let c3 = c2 .before in
+    let c6 = c3 .before .before .before in
+    let c10 = c6 .before .before .before .before in
+    both {row₀ = c10 .args .out .now}
+    (text-by (c10 .args .ends .now) (c6 .reply2 .given .1)
+    (ends-text (c3 .first .ensures) (c2 .write-ends .ensures .0) (c2 .write-ends .ensures .1)))
 
 same-length-4 : tie.Need-same-length-4
 same-length-4 c = search needs
 
 returns-4 : tie.Need-returns-4
-returns-4 c = both {row₀ = c .before .before .before .before .before .before .before .before .before .args .out .now} (text-by (c .before .before .before .before .before .before .before .before .before .args .ends .now) (c .before .before .before .before .before .reply3 .given .1) (record { size = c .before .before .write-refusal .ensures .0; is = c .before .before .write-refusal .ensures .1 }))
+returns-4 c =
+    let c2 = c .before .before in
+    let c5 = c2 .before .before .before in
+    let c9 = c5 .before .before .before .before in
+    both {row₀ = c9 .args .out .now}
+    (text-by (c9 .args .ends .now) (c5 .reply3 .given .1)
+    (record { size = c2 .write-refusal .ensures .0; is = c2 .write-refusal .ensures .1 }))
 
 pub write-text-spec : {M : Type 1} → statement M
 write-text-spec =

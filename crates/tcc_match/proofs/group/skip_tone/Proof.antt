@@ -14,7 +14,14 @@ is-tone-requires : tie.Need-is-tone-requires
 is-tone-requires c κs = search needs
 
 add-result : tie.Need-add-result
-add-result c = omega (arith, class-there tone (c .before .before .before .before .args .text .now) (c .before .before .before .before .args .p) tt (seen tone (c .before .before .at .ensures) (c .before .is-tone .ensures) (c .if1 .taken)))
+add-result c =
+    let c2 = c .before .before in
+    let c4 = c2 .before .before in
+    omega (
+      arith,
+      class-there tone (c4 .args .text .now) (c4 .args .p) tt
+          (seen tone (c2 .at .ensures) (c .before .is-tone .ensures) (c .if1 .taken)),
+    )
 
 returns : tie.Need-returns
 returns c = skip-yes tone _ _ tt (seen tone (c .before .before .at .ensures) (c .before .is-tone .ensures) (c .if1 .taken))

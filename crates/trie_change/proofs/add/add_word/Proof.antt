@@ -23,7 +23,11 @@ shared-slice-read-enter : tie.Need-shared-slice-read-enter Inv-loop μ-loop
 shared-slice-read-enter c = search needs
 
 enter-requires : tie.Need-enter-requires Inv-loop μ-loop
-enter-requires c κs = enters _ _ _ _ _ (c .before .before .before .before .before .before .pre) (c .before .before .before .loop .inv) (c .before .before .loop-test .taken)
+enter-requires c κs =
+    let c2 = c .before .before in
+    let c3 = c2 .before in
+    let c6 = c3 .before .before .before in
+    enters _ _ _ _ _ (c6 .pre) (c3 .loop .inv) (c2 .loop-test .taken)
 
 add-t : tie.Need-add-t Inv-loop μ-loop
 add-t c = search needs
@@ -32,7 +36,12 @@ loop-less : tie.Need-loop-less Inv-loop μ-loop
 loop-less c = omega (arith, c .before .before .before .before .before .loop-test .taken)
 
 loop-again : tie.Need-loop-again Inv-loop μ-loop
-loop-again c = turn _ _ _ _ _ (c .before .before .before .before .before .before .before .before .before .pre) (c .before .before .before .before .before .before .loop .inv) (c .before .before .before .before .before .loop-test .taken) _ _ (c .before .before .enter .kept .0) (c .before .before .enter .ensures)
+loop-again c =
+    let c2 = c .before .before in
+    let c5 = c2 .before .before .before in
+    let c6 = c5 .before in
+    let c9 = c6 .before .before .before in
+    turn _ _ _ _ _ (c9 .pre) (c6 .loop .inv) (c5 .loop-test .taken) _ _ (c2 .enter .kept .0) (c2 .enter .ensures)
 
 mul-p : tie.Need-mul-p Inv-loop μ-loop
 mul-p c = let v = inside-end _ _ _ _ _ (c .before .loop .inv) in omega arith

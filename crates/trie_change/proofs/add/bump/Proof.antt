@@ -6,7 +6,7 @@ use native.Mathlib.Omega.{arith}
 use native.Mathlib.Decide.{decLt}
 use lib.ListN.{length, getD, set, length-set}
 use lib.Seq.{getD-set-same, getD-set-other}
-use Rattle.trie_change.specs.Planting.{Bumps, Bumped}
+use Rattle.trie_change.specs.inner.Planting.{Bumps, Bumped}
 use borrow.Author.Needs.{needs}
 use Rattle.trie_change.proofs.add.bump.Statement.{statement}
 use Rattle.trie_change.proofs.add.bump.Tie as tie
@@ -65,7 +65,15 @@ slice-read-p : tie.Need-slice-read-p Inv-loop μ-loop
 slice-read-p c = search needs
 
 add-p : tie.Need-add-p Inv-loop μ-loop
-add-p c = omega (arith, c .before .before .before .pre .small (c .before .before .loop .i) (c .before .before .loop .inv .from) (c .before .loop-test .taken), here _ _ _ _ _ (c .before .before .loop .inv))
+add-p c =
+    let c2 = c .before .before in
+    let c3 = c2 .before in
+    omega (
+      arith,
+      c3 .pre .small (c2 .loop .i) (c2 .loop .inv .from) (c .before .loop-test .taken),
+      here _ _ _ _ _
+          (c2 .loop .inv),
+    )
 
 mul-p-2 : tie.Need-mul-p-2 Inv-loop μ-loop
 mul-p-2 c = search needs

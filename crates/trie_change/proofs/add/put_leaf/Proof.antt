@@ -5,7 +5,7 @@ use Prim.Native.Nat.{ℕ, _+_, _-_, _≤_}
 use native.Mathlib.Omega.{arith}
 use lib.ListN.{length, getD, set, length-set}
 use lib.Seq.{getD-set-same, getD-set-other}
-use Rattle.trie_change.specs.Planting.{Put}
+use Rattle.trie_change.specs.inner.Planting.{Put}
 use borrow.Author.Needs.{needs}
 use Rattle.trie_change.proofs.add.put_leaf.Statement.{statement}
 use Rattle.trie_change.proofs.add.put_leaf.Tie as tie

@@ -7,7 +7,7 @@ use native.Mathlib.Omega.{arith}
 use native.Mathlib.Nat.{eq-or-lt-of-le}
 use lib.ListN.{length, getD, set, length-set}
 use lib.Seq.{getD-set-same, getD-set-other}
-use Rattle.trie_change.specs.Planting.{Shifted}
+use Rattle.trie_change.specs.inner.Planting.{Shifted}
 use borrow.Author.Needs.{needs}
 use Rattle.trie_change.proofs.add.shift.Statement.{statement}
 use Rattle.trie_change.proofs.add.shift.Tie as tie

@@ -39,7 +39,9 @@ remove-word-same-length : (t : ℕ) → remove-word-lts.Need-same-length (find-c
 remove-word-same-length t c = search needs
 
 remove-word-returns : (t : ℕ) → remove-word-lts.Need-returns (find-child-reads.Asked, find-child-reads.Learnt, remove-word-below t, remove-word.Post, prune-reads.Asked, prune-reads.Learnt) (remove-word-at t) remove-word.Post
-remove-word-returns t c = cleared (c .before .before .before .args .p .now) (c .before .before .before .args .w .now) (c .before .before .before .args .b) (c .before .before .before .pre .1) (c .if1 .taken)
+remove-word-returns t c =
+    let c3 = c .before .before .before in
+    cleared (c3 .args .p .now) (c3 .args .w .now) (c3 .args .b) (c3 .pre .1) (c .if1 .taken)
 
 remove-word-shared-slice-read-find-child : (t : ℕ) → remove-word-lts.Need-shared-slice-read-find-child (find-child-reads.Asked, find-child-reads.Learnt, remove-word-below t, remove-word.Post, prune-reads.Asked, prune-reads.Learnt) (remove-word-at t) remove-word.Post
 remove-word-shared-slice-read-find-child t c = omega (arith, c .before .before .if1 .left)
@@ -54,7 +56,12 @@ remove-word-same-length-2 : (t : ℕ) → remove-word-lts.Need-same-length-2 (fi
 remove-word-same-length-2 t c = search needs
 
 remove-word-returns-2 : (t : ℕ) → remove-word-lts.Need-returns-2 (find-child-reads.Asked, find-child-reads.Learnt, remove-word-below t, remove-word.Post, prune-reads.Asked, prune-reads.Learnt) (remove-word-at t) remove-word.Post
-remove-word-returns-2 t c = lost (c .before .before .before .before .before .before .before .before .args .p .now) (c .before .before .before .before .before .before .before .before .args .w .now) (c .before .before .before .before .before .before .before .before .args .b) _ (c .before .before .before .before .before .before .before .before .pre .1) (c .before .before .before .before .before .if1 .left) (c .before .before .find-child .ensures) (c .enum-told .given .1)
+remove-word-returns-2 t c =
+    let c2 = c .before .before in
+    let c5 = c2 .before .before .before in
+    let c8 = c5 .before .before .before in
+    lost (c8 .args .p .now) (c8 .args .w .now) (c8 .args .b) _ (c8 .pre .1) (c5 .if1 .left) (c2 .find-child .ensures)
+    (c .enum-told .given .1)
 
 remove-word-enum-known-kid : (t : ℕ) → remove-word-lts.Need-enum-known-kid (find-child-reads.Asked, find-child-reads.Learnt, remove-word-below t, remove-word.Post, prune-reads.Asked, prune-reads.Learnt) (remove-word-at t) remove-word.Post
 remove-word-enum-known-kid t c = search needs
@@ -69,16 +76,39 @@ remove-word-part-remove-word-end : (t : ℕ) → remove-word-lts.Need-part-remov
 remove-word-part-remove-word-end t c = search needs
 
 remove-word-remove-word-requires : (t : ℕ) → remove-word-lts.Need-remove-word-requires (find-child-reads.Asked, find-child-reads.Learnt, remove-word-below t, remove-word.Post, prune-reads.Asked, prune-reads.Learnt) (remove-word-at t) remove-word.Post
-remove-word-remove-word-requires t c κs = (omega (arith, length-tail (c .before .before .before .before .before .before .before .before .before .before .before .args .w .now) 1, c .before .before .before .before .before .before .before .before .before .before .before .pre .0, c .before .before .before .before .before .before .before .before .if1 .left), deeper (c .before .before .before .before .before .before .before .before .before .before .before .args .p .now) (c .before .before .before .before .before .before .before .before .before .before .before .args .w .now) (c .before .before .before .before .before .before .before .before .before .before .before .args .b) _ _ (c .before .before .before .before .before .before .before .before .before .before .before .pre .1) (c .before .before .before .before .before .find-child .ensures) (c .before .before .before .kid .given .1))
+remove-word-remove-word-requires t c κs =
+    let c3 = c .before .before .before in
+    let c5 = c3 .before .before in
+    let c8 = c5 .before .before .before in
+    let c11 = c8 .before .before .before in (
+      omega (arith, length-tail (c11 .args .w .now) 1, c11 .pre .0, c8 .if1 .left),
+      deeper (c11 .args .p .now)
+          (c11 .args .w .now) (c11 .args .b) _ _ (c11 .pre .1) (c5 .find-child .ensures) (c3 .kid .given .1),
+    )
 
 remove-word-prune-requires : (t : ℕ) → remove-word-lts.Need-prune-requires (find-child-reads.Asked, find-child-reads.Learnt, remove-word-below t, remove-word.Post, prune-reads.Asked, prune-reads.Learnt) (remove-word-at t) remove-word.Post
-remove-word-prune-requires t c κs = prunes (c .before .before .before .before .before .before .before .before .before .before .before .before .before .before .before .args .p .now) (c .before .before .before .before .before .before .before .before .before .before .before .before .before .before .before .args .w .now) _ (c .before .before .before .before .before .before .before .before .before .before .before .before .before .before .before .args .b) _ _ (c .before .before .before .before .before .before .before .before .before .before .before .before .before .before .before .pre .1) (c .before .before .before .before .before .before .before .before .before .before .before .before .if1 .left) (c .before .before .before .before .before .before .before .before .before .find-child .ensures) (c .before .before .before .before .before .before .before .kid .given .1) (c .before .before .before .remove-word .ensures)
+remove-word-prune-requires t c κs =
+    let c3 = c .before .before .before in
+    let c7 = c3 .before .before .before .before in
+    let c9 = c7 .before .before in
+    let c12 = c9 .before .before .before in
+    let c15 = c12 .before .before .before in
+    prunes (c15 .args .p .now) (c15 .args .w .now) _ (c15 .args .b) _ _ (c15 .pre .1) (c12 .if1 .left)
+    (c9 .find-child .ensures) (c7 .kid .given .1) (c3 .remove-word .ensures)
 
 remove-word-same-length-3 : (t : ℕ) → remove-word-lts.Need-same-length-3 (find-child-reads.Asked, find-child-reads.Learnt, remove-word-below t, remove-word.Post, prune-reads.Asked, prune-reads.Learnt) (remove-word-at t) remove-word.Post
 remove-word-same-length-3 t c = search needs
 
 remove-word-returns-3 : (t : ℕ) → remove-word-lts.Need-returns-3 (find-child-reads.Asked, find-child-reads.Learnt, remove-word-below t, remove-word.Post, prune-reads.Asked, prune-reads.Learnt) (remove-word-at t) remove-word.Post
-remove-word-returns-3 t c = removed (c .before .before .before .before .before .before .before .before .before .before .before .before .before .before .before .before .before .before .args .p .now) (c .before .before .before .before .before .before .before .before .before .before .before .before .before .before .before .before .before .before .args .w .now) _ (c .before .before .before .before .before .before .before .before .before .before .before .before .before .before .before .before .before .before .args .b) _ _ (c .before .before .before .before .before .before .before .before .before .before .before .before .before .before .before .before .before .before .pre .1) (c .before .before .before .before .before .before .before .before .before .before .before .before .before .before .before .if1 .left) (c .before .before .before .before .before .before .before .before .before .before .before .before .find-child .ensures) (c .before .before .before .before .before .before .before .before .before .before .kid .given .1) (c .before .before .before .before .before .before .remove-word .ensures) _ (c .before .before .prune .ensures)
+remove-word-returns-3 t c =
+    let c2 = c .before .before in
+    let c6 = c2 .before .before .before .before in
+    let c10 = c6 .before .before .before .before in
+    let c12 = c10 .before .before in
+    let c15 = c12 .before .before .before in
+    let c18 = c15 .before .before .before in
+    removed (c18 .args .p .now) (c18 .args .w .now) _ (c18 .args .b) _ _ (c18 .pre .1) (c15 .if1 .left)
+    (c12 .find-child .ensures) (c10 .kid .given .1) (c6 .remove-word .ensures) _ (c2 .prune .ensures)
 
 pub +remove-word-spec : {M : Type 1} → statement M
 +remove-word-spec = close μ-remove-word λ t. remove-word-lts.spec (find-child-reads.Asked, find-child-reads.Learnt, remove-word-below t, remove-word.Post, prune-reads.Asked, prune-reads.Learnt)

@@ -43,16 +43,27 @@ wide-requires : tie.Need-wide-requires
 wide-requires c κs = search needs
 
 sub-pluck : tie.Need-sub-pluck
-sub-pluck c = let i = inside-prune _ _ _ (c .before .before .before .before .before .before .before .before .pre) in omega (arith, c .before .wide .ensures)
+sub-pluck c =
+    let c8 = c .before .before .before .before .before .before .before .before in
+    let i = inside-prune _ _ _ (c8 .pre) in
+    omega (arith, c .before .wide .ensures)
 
 pluck-requires : tie.Need-pluck-requires
-pluck-requires c κs = plucks _ _ _ _ (c .before .before .before .before .before .before .before .before .pre) (c .before .wide .ensures) (c .before .before .before .before .before .if1 .left) (c .before .before .before .if2 .left)
+pluck-requires c κs =
+    let c3 = c .before .before .before in
+    let c5 = c3 .before .before in
+    let c8 = c5 .before .before .before in
+    plucks _ _ _ _ (c8 .pre) (c .before .wide .ensures) (c5 .if1 .left) (c3 .if2 .left)
 
 same-length : tie.Need-same-length
 same-length c = search needs
 
 returns-3 : tie.Need-returns-3
-returns-3 c = pruned _ _ _ _ _ (c .before .before .before .before .before .before .before .before .before .before .before .pre) (c .before .before .before .before .wide .ensures) (c .before .before .pluck .kept .0) (c .before .before .pluck .ensures)
+returns-3 c =
+    let c2 = c .before .before in
+    let c4 = c2 .before .before in
+    let c11 = c4 .before .before .before .before .before .before .before in
+    pruned _ _ _ _ _ (c11 .pre) (c4 .wide .ensures) (c2 .pluck .kept .0) (c2 .pluck .ensures)
 
 pub prune-spec : {M : Type 1} → statement M
 prune-spec =

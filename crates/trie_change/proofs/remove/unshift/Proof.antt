@@ -6,7 +6,7 @@ use native.Mathlib.Omega.{arith}
 use native.Mathlib.Decide.{decLt}
 use lib.ListN.{length, getD, set, length-set}
 use lib.Seq.{getD-set-same, getD-set-other}
-use Rattle.trie_change.specs.Plucking.{Unshifted}
+use Rattle.trie_change.specs.inner.Plucking.{Unshifted}
 use borrow.Author.Needs.{needs}
 use Rattle.trie_change.proofs.remove.unshift.Statement.{statement}
 use Rattle.trie_change.proofs.remove.unshift.Tie as tie
@@ -82,7 +82,11 @@ loop-less : tie.Need-loop-less Inv-loop μ-loop
 loop-less c = search needs
 
 loop-again : tie.Need-loop-again Inv-loop μ-loop
-loop-again c = turn _ _ _ _ _ (c .before .before .before .before .pre) (c .before .before .before .loop .inv) (c .before .before .loop-test .taken) (c .before .if1 .left)
+loop-again c =
+    let c2 = c .before .before in
+    let c3 = c2 .before in
+    let c4 = c3 .before in
+    turn _ _ _ _ _ (c4 .pre) (c3 .loop .inv) (c2 .loop-test .taken) (c .before .if1 .left)
 
 same-length-2 : tie.Need-same-length-2 Inv-loop μ-loop
 same-length-2 c = c .before .loop .inv .long

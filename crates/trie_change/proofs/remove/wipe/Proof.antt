@@ -6,7 +6,7 @@ use native.Mathlib.Omega.{arith}
 use native.Mathlib.Decide.{decLt}
 use lib.ListN.{length, getD, set, length-set}
 use lib.Seq.{getD-set-same, getD-set-other}
-use Rattle.trie_change.specs.Plucking.{Wiped}
+use Rattle.trie_change.specs.inner.Plucking.{Wiped}
 use borrow.Author.Needs.{needs}
 use Rattle.trie_change.proofs.remove.wipe.Statement.{statement}
 use Rattle.trie_change.proofs.remove.wipe.Tie as tie
@@ -56,7 +56,12 @@ loop-less : tie.Need-loop-less Inv-loop μ-loop
 loop-less c = omega (arith, c .loop-test .taken)
 
 loop-again : tie.Need-loop-again Inv-loop μ-loop
-loop-again c = (turn _ _ _ _ (omega (arith, c .before .before .pre .1, c .loop-test .taken)) (c .before .loop .inv .0), omega (arith, c .loop-test .taken))
+loop-again c =
+    let c2 = c .before .before in (
+      turn _ _ _ _ (omega (arith, c2 .pre .1, c .loop-test .taken)) (c .before .loop .inv .0),
+      omega
+          (arith, c .loop-test .taken),
+    )
 
 same-length : tie.Need-same-length Inv-loop μ-loop
 same-length c = c .before .loop .inv .0 .long

@@ -22,19 +22,41 @@ mul-cells : tie.Need-mul-cells
 mul-cells c = search needs
 
 slice-aggregate-is-held : tie.Need-slice-aggregate-is-held
-slice-aggregate-is-held c = sym (long (c .before .before .before .before .before .before .before .args .pool .now) _ (c .before .capacity .ensures))
+slice-aggregate-is-held c =
+    let c7 = c .before .before .before .before .before .before .before in
+    sym (long (c7 .args .pool .now) _ (c .before .capacity .ensures))
 
 is-held-requires : tie.Need-is-held-requires
-is-held-requires c κs = readable (c .before .before .before .before .before .before .before .args .pool .now) _ (c .before .capacity .ensures) (known (c .before .before .before .before .before .before .before .args .pool .now) (c .before .before .before .before .before .before .before .args .word .now) (c .before .before .before .before .check .ensures) (c .before .before .enum-told .given .1))
+is-held-requires c κs =
+    let c2 = c .before .before in
+    let c4 = c2 .before .before in
+    let c7 = c4 .before .before .before in
+    readable (c7 .args .pool .now) _ (c .before .capacity .ensures)
+    (known (c7 .args .pool .now) (c7 .args .word .now) (c4 .check .ensures) (c2 .enum-told .given .1))
 
 returns : tie.Need-returns
-returns c = contain-yes (c .before .before .before .before .before .before .before .before .before .args .pool .now) (c .before .before .before .before .before .before .before .before .before .args .word .now) (c .before .before .before .before .before .before .check .ensures) (c .before .before .before .before .enum-told .given .1) _ (c .before .before .before .capacity .ensures) _ (c .before .is-held .ensures) (c .if1 .taken)
+returns c =
+    let c3 = c .before .before .before in
+    let c4 = c3 .before in
+    let c6 = c4 .before .before in
+    let c9 = c6 .before .before .before in
+    contain-yes (c9 .args .pool .now) (c9 .args .word .now) (c6 .check .ensures) (c4 .enum-told .given .1) _
+    (c3 .capacity .ensures) _ (c .before .is-held .ensures) (c .if1 .taken)
 
 returns-2 : tie.Need-returns-2
-returns-2 c = contain-refused (c .before .before .before .before .before .before .args .pool .now) (c .before .before .before .before .before .before .args .word .now) (c .before .before .before .check .ensures) (c .before .first .given .1) _
+returns-2 c =
+    let c3 = c .before .before .before in
+    let c6 = c3 .before .before .before in
+    contain-refused (c6 .args .pool .now) (c6 .args .word .now) (c3 .check .ensures) (c .before .first .given .1) _
 
 returns-3 : tie.Need-returns-3
-returns-3 c = contain-no (c .before .before .before .before .before .before .before .before .before .args .pool .now) (c .before .before .before .before .before .before .before .before .before .args .word .now) (c .before .before .before .before .before .before .check .ensures) (c .before .before .before .before .enum-told .given .1) _ (c .before .before .before .capacity .ensures) _ (c .before .is-held .ensures) (c .if1 .left)
+returns-3 c =
+    let c3 = c .before .before .before in
+    let c4 = c3 .before in
+    let c6 = c4 .before .before in
+    let c9 = c6 .before .before .before in
+    contain-no (c9 .args .pool .now) (c9 .args .word .now) (c6 .check .ensures) (c4 .enum-told .given .1) _
+    (c3 .capacity .ensures) _ (c .before .is-held .ensures) (c .if1 .left)
 
 pub contain-spec : {M : Type 1} → statement M
 contain-spec =

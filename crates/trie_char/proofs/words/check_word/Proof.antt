@@ -2,7 +2,7 @@
 use native.Mathlib.Omega.{arith}
 use Rattle.trie_pool.specs.Meaning.{meaning}
 use Rattle.char_string.proofs.Trimming.{fits, length-is}
-use Rattle.trie_char.proofs.Rows.{word-read, word-long, word-short}
+use Rattle.trie_char.proofs.LongWords.{word-read, word-long, word-short}
 use borrow.Author.Needs.{needs}
 use Rattle.trie_char.proofs.words.check_word.Statement.{statement}
 use Rattle.trie_char.proofs.words.check_word.Tie as tie
@@ -20,16 +20,34 @@ trim-requires : tie.Need-trim-requires
 trim-requires c κs = search needs
 
 sub-kept : tie.Need-sub-kept
-sub-kept c = let f = fits (c .before .before .before .before .before .before .before .before .args .word .now) _ (c .before .trim .ensures) in omega (arith, f .order)
+sub-kept c =
+    let c8 = c .before .before .before .before .before .before .before .before in
+    let f = fits (c8 .args .word .now) _ (c .before .trim .ensures) in
+    omega (arith, f .order)
 
 returns : tie.Need-returns
-returns c = word-long (c .before .before .before .before .before .before .before .before .before .args .word .now) (meaning (c .before .before .before .before .before .before .before .before .before .args .pool .now)) (c .before .before .before .before .before .before .check .ensures) _ (c .before .before .before .before .first2 .given .1) (length-is (c .before .before .before .before .before .before .before .before .before .args .word .now) _ (c .before .before .trim .ensures)) (c .if1 .taken)
+returns c =
+    let c2 = c .before .before in
+    let c4 = c2 .before .before in
+    let c6 = c4 .before .before in
+    let c9 = c6 .before .before .before in
+    word-long (c9 .args .word .now) (meaning (c9 .args .pool .now)) (c6 .check .ensures) _ (c4 .first2 .given .1)
+    (length-is (c9 .args .word .now) _ (c2 .trim .ensures)) (c .if1 .taken)
 
 returns-2 : tie.Need-returns-2
-returns-2 c = word-read (c .before .before .before .before .before .before .args .word .now) (meaning (c .before .before .before .before .before .before .args .pool .now)) (c .before .before .before .check .ensures) (c .before .first .given .1)
+returns-2 c =
+    let c3 = c .before .before .before in
+    let c6 = c3 .before .before .before in
+    word-read (c6 .args .word .now) (meaning (c6 .args .pool .now)) (c3 .check .ensures) (c .before .first .given .1)
 
 returns-3 : tie.Need-returns-3
-returns-3 c = word-short (c .before .before .before .before .before .before .before .before .before .args .word .now) (meaning (c .before .before .before .before .before .before .before .before .before .args .pool .now)) (c .before .before .before .before .before .before .check .ensures) _ (c .before .before .before .before .first2 .given .1) (length-is (c .before .before .before .before .before .before .before .before .before .args .word .now) _ (c .before .before .trim .ensures)) (c .if1 .left)
+returns-3 c =
+    let c2 = c .before .before in
+    let c4 = c2 .before .before in
+    let c6 = c4 .before .before in
+    let c9 = c6 .before .before .before in
+    word-short (c9 .args .word .now) (meaning (c9 .args .pool .now)) (c6 .check .ensures) _ (c4 .first2 .given .1)
+    (length-is (c9 .args .word .now) _ (c2 .trim .ensures)) (c .if1 .left)
 
 pub check-word-spec : {M : Type 1} → statement M
 check-word-spec =

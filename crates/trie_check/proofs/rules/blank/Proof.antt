@@ -49,10 +49,18 @@ loop-less : tie.Need-loop-less Inv-loop μ-loop
 loop-less c = search needs
 
 loop-again : tie.Need-loop-again Inv-loop μ-loop
-loop-again c = (omega (arith, c .before .before .before .loop .inv .0), more (c .before .before .before .before .args .p .now) (c .before .before .before .before .args .k) (c .before .before .before .loop .i) (c .before .before .before .loop .inv .1) (c .if1 .left))
+loop-again c =
+    let c3 = c .before .before .before in
+    let c4 = c3 .before in (
+      omega (arith, c3 .loop .inv .0),
+      more (c4 .args .p .now) (c4 .args .k) (c3 .loop .i) (c3 .loop .inv .1)
+          (c .if1 .left),
+    )
 
 returns-2 : tie.Need-returns-2 Inv-loop μ-loop
-returns-2 c = granted (all (c .before .before .args .p .now) (c .before .before .args .k) (c .before .loop .i) (c .before .loop .inv .1) (c .loop-test .left))
+returns-2 c =
+    let c2 = c .before .before in
+    granted (all (c2 .args .p .now) (c2 .args .k) (c .before .loop .i) (c .before .loop .inv .1) (c .loop-test .left))
 
 pub blank-spec : {M : Type 1} → statement M
 blank-spec =

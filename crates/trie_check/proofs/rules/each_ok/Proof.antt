@@ -27,7 +27,10 @@ wide-requires : tie.Need-wide-requires
 wide-requires c κs = search needs
 
 returns : tie.Need-returns
-returns c = denied (λ h. c .if1 .taken (c .before .wide .ensures ∙ sym (first-is (c .before .before .before .before .args .p .now) (c .before .before .before .before .args .i)) ∙ h .first))
+returns c =
+    let c4 = c .before .before .before .before in
+    denied (λ h. c .if1 .taken
+    (c .before .wide .ensures ∙ sym (first-is (c4 .args .p .now) (c4 .args .i)) ∙ h .first))
 
 returns-2 : tie.Need-returns-2
 returns-2 c = denied (λ h. omega (arith, h .ahead, c .if2 .taken))
@@ -48,7 +51,16 @@ sub-if3 : tie.Need-sub-if3
 sub-if3 c = search needs
 
 returns-3 : tie.Need-returns-3
-returns-3 c = denied (λ h. omega (arith, h .fits, count-is (c .before .before .before .before .before .before .before .before .args .p .now) (c .before .before .before .before .before .before .before .before .args .i), c .before .wide2 .ensures, c .if3 .taken))
+returns-3 c =
+    let c8 = c .before .before .before .before .before .before .before .before in
+    denied (λ h. omega (
+      arith,
+      h .fits,
+      count-is (c8 .args .p .now)
+          (c8 .args .i),
+      c .before .wide2 .ensures,
+      c .if3 .taken,
+    ))
 
 add-if4 : tie.Need-add-if4
 add-if4 c = search needs
@@ -93,10 +105,28 @@ rising-requires : tie.Need-rising-requires
 rising-requires c κs = search needs
 
 returns-7 : tie.Need-returns-7
-returns-7 c = denied (λ h. c .before .rising .ensures .no′ (not-true _ (c .if7 .taken)) (λ k a b. h .rising k a (omega (arith, count-is (c .before .before .before .before .before .before .before .before .before .before .before .before .before .before .before .before .args .p .now) (c .before .before .before .before .before .before .before .before .before .before .before .before .before .before .before .before .args .i), c .before .before .before .before .before .before .before .before .before .wide2 .ensures))))
+returns-7 c =
+    let c9 = c .before .before .before .before .before .before .before .before .before in
+    let c16 = c9 .before .before .before .before .before .before .before in
+    denied (λ h. c .before .rising .ensures .no′ (not-true _ (c .if7 .taken))
+    (λ k a b. h .rising k a (omega (arith, count-is (c16 .args .p .now) (c16 .args .i), c9 .wide2 .ensures))))
 
 returns-8 : tie.Need-returns-8
-returns-8 c = granted (each-join (c .before .before .before .before .before .before .before .before .before .before .before .before .before .before .before .before .before .args .p .now) (c .before .before .before .before .before .before .before .before .before .before .before .before .before .before .before .before .before .args .n) (c .before .before .before .before .before .before .before .before .before .before .before .before .before .before .before .before .before .args .i) (c .before .before .before .before .before .before .before .before .before .before .before .before .before .before .before .before .before .args .s) _ _ (c .before .before .before .before .before .before .before .before .before .before .before .before .before .before .wide .ensures) (c .before .before .before .before .before .before .before .before .before .before .before .before .before .if1 .left) (c .before .before .before .before .before .before .before .before .before .before .before .before .if2 .left) (c .before .before .before .before .before .before .before .before .before .before .before .before .before .before .before .before .before .pre .1) (c .before .before .before .before .before .before .before .before .before .before .wide2 .ensures) (c .before .before .before .before .before .before .before .before .before .if3 .left) (c .before .before .before .before .before .before .before .if4 .left) (c .before .before .before .before .before .if5 .left) (c .before .before .before .if6 .left) (c .before .before .rising .ensures .yes′ (not-false _ (c .before .if7 .left))) (λ q. absurd (omega (arith, c .if8 .taken))))
+returns-8 c =
+    let c2 = c .before .before in
+    let c3 = c2 .before in
+    let c5 = c3 .before .before in
+    let c7 = c5 .before .before in
+    let c9 = c7 .before .before in
+    let c10 = c9 .before in
+    let c12 = c10 .before .before in
+    let c13 = c12 .before in
+    let c14 = c13 .before in
+    let c17 = c14 .before .before .before in
+    granted (each-join (c17 .args .p .now) (c17 .args .n) (c17 .args .i) (c17 .args .s) _ _ (c14 .wide .ensures)
+    (c13 .if1 .left) (c12 .if2 .left) (c17 .pre .1) (c10 .wide2 .ensures) (c9 .if3 .left) (c7 .if4 .left)
+    (c5 .if5 .left) (c3 .if6 .left) (c2 .rising .ensures .yes′ (not-false _ (c .before .if7 .left)))
+    (λ q. absurd (omega (arith, c .if8 .taken))))
 
 mul-inner-ok : tie.Need-mul-inner-ok
 mul-inner-ok c = search needs
@@ -136,10 +166,28 @@ inner-ok-requires c κs = search needs
 
 returns-9 : tie.Need-returns-9
 unfolding scalarAt countAt markAt
-returns-9 c = denied (λ h. c .before .inner-ok .ensures .no′ (not-true _ (c .if9 .taken)) (h .inner (omega (arith, c .before .before .before .before .before .before .if8 .left))))
+returns-9 c =
+    let c6 = c .before .before .before .before .before .before in
+    denied (λ h. c .before .inner-ok .ensures .no′ (not-true _ (c .if9 .taken))
+    (h .inner (omega (arith, c6 .if8 .left))))
 
 returns-10 : tie.Need-returns-10
-returns-10 c = granted (each-join (c .before .before .before .before .before .before .before .before .before .before .before .before .before .before .before .before .before .before .before .before .before .before .before .args .p .now) (c .before .before .before .before .before .before .before .before .before .before .before .before .before .before .before .before .before .before .before .before .before .before .before .args .n) (c .before .before .before .before .before .before .before .before .before .before .before .before .before .before .before .before .before .before .before .before .before .before .before .args .i) (c .before .before .before .before .before .before .before .before .before .before .before .before .before .before .before .before .before .before .before .before .before .before .before .args .s) _ _ (c .before .before .before .before .before .before .before .before .before .before .before .before .before .before .before .before .before .before .before .before .wide .ensures) (c .before .before .before .before .before .before .before .before .before .before .before .before .before .before .before .before .before .before .before .if1 .left) (c .before .before .before .before .before .before .before .before .before .before .before .before .before .before .before .before .before .before .if2 .left) (c .before .before .before .before .before .before .before .before .before .before .before .before .before .before .before .before .before .before .before .before .before .before .before .pre .1) (c .before .before .before .before .before .before .before .before .before .before .before .before .before .before .before .before .wide2 .ensures) (c .before .before .before .before .before .before .before .before .before .before .before .before .before .before .before .if3 .left) (c .before .before .before .before .before .before .before .before .before .before .before .before .before .if4 .left) (c .before .before .before .before .before .before .before .before .before .before .before .if5 .left) (c .before .before .before .before .before .before .before .before .before .if6 .left) (c .before .before .before .before .before .before .before .before .rising .ensures .yes′ (not-false _ (c .before .before .before .before .before .before .before .if7 .left))) (λ q. c .before .inner-ok .ensures .yes′ (not-false _ (c .if9 .left))))
+returns-10 c =
+    let c7 = c .before .before .before .before .before .before .before in
+    let c8 = c7 .before in
+    let c9 = c8 .before in
+    let c11 = c9 .before .before in
+    let c13 = c11 .before .before in
+    let c15 = c13 .before .before in
+    let c16 = c15 .before in
+    let c18 = c16 .before .before in
+    let c19 = c18 .before in
+    let c20 = c19 .before in
+    let c23 = c20 .before .before .before in
+    granted (each-join (c23 .args .p .now) (c23 .args .n) (c23 .args .i) (c23 .args .s) _ _ (c20 .wide .ensures)
+    (c19 .if1 .left) (c18 .if2 .left) (c23 .pre .1) (c16 .wide2 .ensures) (c15 .if3 .left) (c13 .if4 .left)
+    (c11 .if5 .left) (c9 .if6 .left) (c8 .rising .ensures .yes′ (not-false _ (c7 .if7 .left)))
+    (λ q. c .before .inner-ok .ensures .yes′ (not-false _ (c .if9 .left))))
 
 pub each-ok-spec : {M : Type 1} → statement M
 each-ok-spec =

@@ -30,7 +30,15 @@ is-thai-requires : tie.Need-is-thai-requires
 is-thai-requires c κs = search needs
 
 returns-4 : tie.Need-returns-4
-returns-4 c = granted (inner-thai _ _ _ _ (c .before .before .before .before .before .before .if1 .left) (c .before .before .before .before .before .if2 .left) (omega (arith, c .before .before .if3 .left, c .before .before .before .before .wide .ensures, c .before .before .before .wide2 .ensures)) (c .before .is-thai .ensures .yes′ (c .if4 .taken)))
+returns-4 c =
+    let c2 = c .before .before in
+    let c3 = c2 .before in
+    let c4 = c3 .before in
+    let c5 = c4 .before in
+    let c6 = c5 .before in
+    granted (inner-thai _ _ _ _ (c6 .if1 .left) (c5 .if2 .left)
+    (omega (arith, c2 .if3 .left, c4 .wide .ensures, c3 .wide2 .ensures))
+    (c .before .is-thai .ensures .yes′ (c .if4 .taken)))
 
 is-scalar-requires : tie.Need-is-scalar-requires
 is-scalar-requires c κs = search needs
@@ -39,13 +47,32 @@ returns-5 : tie.Need-returns-5
 returns-5 c = denied (λ h. clash (sym (sym (c .before .is-scalar .ensures) ∙ not-true _ (c .if5 .taken)) ∙ h .fit .legal))
 
 returns-6 : tie.Need-returns-6
-returns-6 c = granted (inner-inside _ _ _ _ (c .before .before .before .before .before .before .before .before .before .if1 .left) (c .before .before .before .before .before .before .before .before .if2 .left) (omega (arith, c .before .before .before .before .before .if3 .left, c .before .before .before .before .before .before .before .wide .ensures, c .before .before .before .before .before .before .wide2 .ensures)) (sym (c .before .before .is-scalar .ensures) ∙ not-false _ (c .before .if5 .left)) (c .if6 .taken))
+returns-6 c =
+    let c2 = c .before .before in
+    let c5 = c2 .before .before .before in
+    let c6 = c5 .before in
+    let c7 = c6 .before in
+    let c8 = c7 .before in
+    let c9 = c8 .before in
+    granted (inner-inside _ _ _ _ (c9 .if1 .left) (c8 .if2 .left)
+    (omega (arith, c5 .if3 .left, c7 .wide .ensures, c6 .wide2 .ensures))
+    (sym (c2 .is-scalar .ensures) ∙ not-false _ (c .before .if5 .left)) (c .if6 .taken))
 
 is-trimmed-requires : tie.Need-is-trimmed-requires
 is-trimmed-requires c κs = search needs
 
 returns-7 : tie.Need-returns-7
-returns-7 c = inner-end _ _ _ _ (c .before .before .before .before .before .before .before .before .before .before .if1 .left) (c .before .before .before .before .before .before .before .before .before .if2 .left) (omega (arith, c .before .before .before .before .before .before .if3 .left, c .before .before .before .before .before .before .before .before .wide .ensures, c .before .before .before .before .before .before .before .wide2 .ensures)) (sym (c .before .before .before .is-scalar .ensures) ∙ not-false _ (c .before .before .if5 .left)) _ (c .before .if6 .left) (c .is-trimmed .ensures)
+returns-7 c =
+    let c2 = c .before .before in
+    let c3 = c2 .before in
+    let c6 = c3 .before .before .before in
+    let c7 = c6 .before in
+    let c8 = c7 .before in
+    let c9 = c8 .before in
+    let c10 = c9 .before in
+    inner-end _ _ _ _ (c10 .if1 .left) (c9 .if2 .left)
+    (omega (arith, c6 .if3 .left, c8 .wide .ensures, c7 .wide2 .ensures))
+    (sym (c3 .is-scalar .ensures) ∙ not-false _ (c2 .if5 .left)) _ (c .before .if6 .left) (c .is-trimmed .ensures)
 
 pub inner-ok-spec : {M : Type 1} → statement M
 inner-ok-spec =

@@ -1,7 +1,7 @@
 -- Assumes nothing.
 use Prim.Native.Nat.{_-_, _≤_, _<_}
 use native.Mathlib.Omega.{arith}
-use Rattle.trie_pool.specs.Sound.{Rising}
+use Rattle.trie_pool.specs.inner.Sound.{Rising}
 use Rattle.trie_check.proofs.Decide.{denied, granted}
 use Rattle.trie_check.proofs.Whole.{rising-none, rising-more, rising-not}
 use borrow.Author.Needs.{needs}
@@ -48,7 +48,12 @@ shared-slice-read-if2-2 : tie.Need-shared-slice-read-if2-2 Inv-loop μ-loop
 shared-slice-read-if2-2 c = search needs
 
 returns-2 : tie.Need-returns-2 Inv-loop μ-loop
-returns-2 c = denied (rising-not (c .before .before .before .before .before .before .args .p .now) (c .before .before .before .before .before .before .args .s) (c .before .before .before .before .before .before .args .e) (c .before .before .before .before .loop .k) (c .before .before .before .before .loop .inv .0) (c .before .before .before .loop-test .taken) (c .if2 .taken))
+returns-2 c =
+    let c3 = c .before .before .before in
+    let c4 = c3 .before in
+    let c6 = c4 .before .before in
+    denied (rising-not (c6 .args .p .now) (c6 .args .s) (c6 .args .e) (c4 .loop .k) (c4 .loop .inv .0)
+    (c3 .loop-test .taken) (c .if2 .taken))
 
 add-k-2 : tie.Need-add-k-2 Inv-loop μ-loop
 add-k-2 c = search needs
@@ -57,7 +62,15 @@ loop-less : tie.Need-loop-less Inv-loop μ-loop
 loop-less c = search needs
 
 loop-again : tie.Need-loop-again Inv-loop μ-loop
-loop-again c = (omega (arith, c .before .before .before .before .loop .inv .0), omega (arith, c .before .before .before .loop-test .taken), rising-more (c .before .before .before .before .before .before .args .p .now) (c .before .before .before .before .before .before .args .s) (c .before .before .before .before .loop .k) (c .before .before .before .before .loop .inv .0) (c .before .before .before .before .loop .inv .2) (c .if2 .left))
+loop-again c =
+    let c3 = c .before .before .before in
+    let c4 = c3 .before in
+    let c6 = c4 .before .before in (
+      omega (arith, c4 .loop .inv .0),
+      omega (arith, c3 .loop-test .taken),
+      rising-more (c6 .args .p .now)
+          (c6 .args .s) (c4 .loop .k) (c4 .loop .inv .0) (c4 .loop .inv .2) (c .if2 .left),
+    )
 
 returns-3 : tie.Need-returns-3 Inv-loop μ-loop
 returns-3 c = granted (λ k a b. c .before .loop .inv .2 k a (omega (arith, c .loop-test .left)))

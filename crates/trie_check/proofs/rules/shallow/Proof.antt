@@ -18,7 +18,11 @@ loop-holds : tie.Need-loop-holds Inv-loop μ-loop
 loop-holds c = record { upto = omega arith; fits = c .before .pre .0 .some; is = ends-start _ _ }
 
 returns : tie.Need-returns Inv-loop μ-loop
-returns c = granted (stay (c .before .before .before .before .args .p .now) (c .before .before .before .before .args .n) 255 (c .before .before .loop .d) (c .before .before .loop .inv .upto) (c .before .before .loop .inv .is ∙ omega (arith, c .before .before .loop .inv .fits, c .if1 .taken)))
+returns c =
+    let c2 = c .before .before in
+    let c4 = c2 .before .before in
+    granted (stay (c4 .args .p .now) (c4 .args .n) 255 (c2 .loop .d) (c2 .loop .inv .upto)
+    (c2 .loop .inv .is ∙ omega (arith, c2 .loop .inv .fits, c .if1 .taken)))
 
 mul-wide : tie.Need-mul-wide Inv-loop μ-loop
 mul-wide c = search needs
@@ -42,10 +46,19 @@ loop-less : tie.Need-loop-less Inv-loop μ-loop
 loop-less c = search needs
 
 loop-again : tie.Need-loop-again Inv-loop μ-loop
-loop-again c = level-on (c .before .before .before .before .before .before .args .p .now) (c .before .before .before .before .before .before .args .n) (c .before .before .before .before .loop .e) (c .before .before .before .before .loop .d) _ (c .before .before .before .before .before .before .pre .0) (c .before .before .before .before .loop .inv) (c .before .before .before .loop-test .taken) (c .before .before .if1 .left) (c .wide .ensures)
+loop-again c =
+    let c2 = c .before .before in
+    let c3 = c2 .before in
+    let c4 = c3 .before in
+    let c6 = c4 .before .before in
+    level-on (c6 .args .p .now) (c6 .args .n) (c4 .loop .e) (c4 .loop .d) _ (c6 .pre .0) (c4 .loop .inv)
+    (c3 .loop-test .taken) (c2 .if1 .left) (c .wide .ensures)
 
 returns-2 : tie.Need-returns-2 Inv-loop μ-loop
-returns-2 c = level-done (c .before .before .before .args .p .now) (c .before .before .before .args .n) (c .before .loop .e) (c .before .loop .d) (c .before .loop .inv) (c .loop-test .left)
+returns-2 c =
+    let c3 = c .before .before .before in
+    level-done (c3 .args .p .now) (c3 .args .n) (c .before .loop .e) (c .before .loop .d) (c .before .loop .inv)
+    (c .loop-test .left)
 
 pub shallow-spec : {M : Type 1} → statement M
 shallow-spec =

@@ -33,7 +33,12 @@ is-trimmed-requires : tie.Need-is-trimmed-requires Inv-loop μ-loop
 is-trimmed-requires c κs = search needs
 
 returns : tie.Need-returns Inv-loop μ-loop
-returns c = denied (starts-not (c .before .before .before .before .before .before .args .p .now) (c .before .before .before .before .before .before .args .k) (c .before .before .before .before .loop .i) (sym (c .before .is-trimmed .ensures) ∙ c .if1 .taken) (c .before .before .before .before .loop .inv .0) (c .before .before .before .loop-test .taken))
+returns c =
+    let c3 = c .before .before .before in
+    let c4 = c3 .before in
+    let c6 = c4 .before .before in
+    denied (starts-not (c6 .args .p .now) (c6 .args .k) (c4 .loop .i)
+    (sym (c .before .is-trimmed .ensures) ∙ c .if1 .taken) (c4 .loop .inv .0) (c3 .loop-test .taken))
 
 add-i : tie.Need-add-i Inv-loop μ-loop
 add-i c = search needs
@@ -42,7 +47,13 @@ loop-less : tie.Need-loop-less Inv-loop μ-loop
 loop-less c = omega (arith, c .before .before .before .loop-test .taken)
 
 loop-again : tie.Need-loop-again Inv-loop μ-loop
-loop-again c = (omega arith, starts-more (c .before .before .before .before .before .before .args .p .now) (c .before .before .before .before .loop .i) (c .before .before .before .before .loop .inv .1) (sym (c .before .is-trimmed .ensures) ∙ c .if1 .left))
+loop-again c =
+    let c4 = c .before .before .before .before in
+    let c6 = c4 .before .before in (
+      omega arith,
+      starts-more (c6 .args .p .now) (c4 .loop .i) (c4 .loop .inv .1)
+          (sym (c .before .is-trimmed .ensures) ∙ c .if1 .left),
+    )
 
 returns-2 : tie.Need-returns-2 Inv-loop μ-loop
 returns-2 c = granted (λ j a b. c .before .loop .inv .1 j a (omega (arith, c .loop-test .left)))

@@ -39,48 +39,117 @@ wide-requires-2 : tie.Need-wide-requires-2
 wide-requires-2 c κs = search needs
 
 returns : tie.Need-returns
-returns c = sym (no-children _ _ _ _ _ (c .before .before .before .before .before .before .pre) (c .before .before .before .wide .ensures) (c .before .wide2 .ensures) (c .if1 .taken))
+returns c =
+    let c3 = c .before .before .before in
+    let c6 = c3 .before .before .before in
+    sym (no-children _ _ _ _ _ (c6 .pre) (c3 .wide .ensures) (c .before .wide2 .ensures) (c .if1 .taken))
 
 mul-if3 : tie.Need-mul-if3
-mul-if3 c = let h = children-fit _ _ 0 _ _ (c .before .before .before .before .before .before .before .pre) (c .before .before .before .before .wide .ensures) (c .before .before .wide2 .ensures) in omega (arith, h)
+mul-if3 c =
+    let c2 = c .before .before in
+    let c4 = c2 .before .before in
+    let c7 = c4 .before .before .before in
+    let h = children-fit _ _ 0 _ _ (c7 .pre) (c4 .wide .ensures) (c2 .wide2 .ensures) in
+    omega (arith, h)
 
 mul-if3-2 : tie.Need-mul-if3-2
-mul-if3-2 c = let h = children-fit _ _ 0 _ _ (c .before .before .before .before .before .before .before .pre) (c .before .before .before .before .wide .ensures) (c .before .before .wide2 .ensures) in omega (arith, h)
+mul-if3-2 c =
+    let c2 = c .before .before in
+    let c4 = c2 .before .before in
+    let c7 = c4 .before .before .before in
+    let h = children-fit _ _ 0 _ _ (c7 .pre) (c4 .wide .ensures) (c2 .wide2 .ensures) in
+    omega (arith, h)
 
 shared-slice-read-if3 : tie.Need-shared-slice-read-if3
-shared-slice-read-if3 c = let h = children-fit _ _ 0 _ _ (c .before .before .before .before .before .before .before .before .pre) (c .before .before .before .before .before .wide .ensures) (c .before .before .before .wide2 .ensures) in omega (arith, h, c .before .if2 .taken)
+shared-slice-read-if3 c =
+    let c3 = c .before .before .before in
+    let c5 = c3 .before .before in
+    let c8 = c5 .before .before .before in
+    let h = children-fit _ _ 0 _ _ (c8 .pre) (c5 .wide .ensures) (c3 .wide2 .ensures) in
+    omega (arith, h, c .before .if2 .taken)
 
 returns-2 : tie.Need-returns-2
-returns-2 c = sym (only-other _ _ _ _ _ (c .before .before .before .before .before .before .before .before .before .pre) (c .before .before .before .before .before .before .wide .ensures) (c .before .before .before .before .wide2 .ensures) (c .before .before .if2 .taken) (c .if3 .taken))
+returns-2 c =
+    let c2 = c .before .before in
+    let c4 = c2 .before .before in
+    let c6 = c4 .before .before in
+    let c9 = c6 .before .before .before in
+    sym (only-other _ _ _ _ _ (c9 .pre) (c6 .wide .ensures) (c4 .wide2 .ensures) (c2 .if2 .taken) (c .if3 .taken))
 
 returns-3 : tie.Need-returns-3
-returns-3 c = sym (only-child _ _ _ _ _ (c .before .before .before .before .before .before .before .before .before .pre) (c .before .before .before .before .before .before .wide .ensures) (c .before .before .before .before .wide2 .ensures) (c .before .before .if2 .taken) (c .if3 .left))
+returns-3 c =
+    let c2 = c .before .before in
+    let c4 = c2 .before .before in
+    let c6 = c4 .before .before in
+    let c9 = c6 .before .before .before in
+    sym (only-child _ _ _ _ _ (c9 .pre) (c6 .wide .ensures) (c4 .wide2 .ensures) (c2 .if2 .taken) (c .if3 .left))
 
 seek-requires : tie.Need-seek-requires
 seek-requires c κs = search needs
 
 add-if4 : tie.Need-add-if4
-add-if4 c = let h = children-fit _ _ 0 _ _ (c .before .before .before .before .before .before .before .before .pre) (c .before .before .before .before .before .wide .ensures) (c .before .before .before .wide2 .ensures) in omega (arith, h)
+add-if4 c =
+    let c3 = c .before .before .before in
+    let c5 = c3 .before .before in
+    let c8 = c5 .before .before .before in
+    let h = children-fit _ _ 0 _ _ (c8 .pre) (c5 .wide .ensures) (c3 .wide2 .ensures) in
+    omega (arith, h)
 
 returns-4 : tie.Need-returns-4
-returns-4 c = sym (past _ _ _ _ (c .before .seek .ensures) (omega (arith, ends-at _ _ 0 _ _ (c .before .before .before .before .before .before .before .before .before .pre) (c .before .before .before .before .before .before .wide .ensures) (c .before .before .before .before .wide2 .ensures), c .if4 .taken)))
+returns-4 c =
+    let c4 = c .before .before .before .before in
+    let c6 = c4 .before .before in
+    let c9 = c6 .before .before .before in
+    sym (past _ _ _ _ (c .before .seek .ensures)
+    (omega (arith, ends-at _ _ 0 _ _ (c9 .pre) (c6 .wide .ensures) (c4 .wide2 .ensures), c .if4 .taken)))
 
 mul-if5 : tie.Need-mul-if5
-mul-if5 c = let h = children-fit _ _ 0 _ _ (c .before .before .before .before .before .before .before .before .before .pre) (c .before .before .before .before .before .before .wide .ensures) (c .before .before .before .before .wide2 .ensures) in omega (arith, h, c .if4 .left)
+mul-if5 c =
+    let c4 = c .before .before .before .before in
+    let c6 = c4 .before .before in
+    let c9 = c6 .before .before .before in
+    let h = children-fit _ _ 0 _ _ (c9 .pre) (c6 .wide .ensures) (c4 .wide2 .ensures) in
+    omega (arith, h, c .if4 .left)
 
 mul-if5-2 : tie.Need-mul-if5-2
-mul-if5-2 c = let h = children-fit _ _ 0 _ _ (c .before .before .before .before .before .before .before .before .before .pre) (c .before .before .before .before .before .before .wide .ensures) (c .before .before .before .before .wide2 .ensures) in omega (arith, h, c .if4 .left)
+mul-if5-2 c =
+    let c4 = c .before .before .before .before in
+    let c6 = c4 .before .before in
+    let c9 = c6 .before .before .before in
+    let h = children-fit _ _ 0 _ _ (c9 .pre) (c6 .wide .ensures) (c4 .wide2 .ensures) in
+    omega (arith, h, c .if4 .left)
 
 shared-slice-read-if5 : tie.Need-shared-slice-read-if5
-shared-slice-read-if5 c = let h = children-fit _ _ 0 _ _ (c .before .before .before .before .before .before .before .before .before .before .pre) (c .before .before .before .before .before .before .before .wide .ensures) (c .before .before .before .before .before .wide2 .ensures) in omega (arith, h, c .before .if4 .left)
+shared-slice-read-if5 c =
+    let c5 = c .before .before .before .before .before in
+    let c7 = c5 .before .before in
+    let c10 = c7 .before .before .before in
+    let h = children-fit _ _ 0 _ _ (c10 .pre) (c7 .wide .ensures) (c5 .wide2 .ensures) in
+    omega (arith, h, c .before .if4 .left)
 
 returns-5 : tie.Need-returns-5
 unfolding scalarAt
-returns-5 c = sym (other _ _ _ _ (c .before .before .before .seek .ensures) (omega (arith, ends-at _ _ 0 _ _ (c .before .before .before .before .before .before .before .before .before .before .before .pre) (c .before .before .before .before .before .before .before .before .wide .ensures) (c .before .before .before .before .before .before .wide2 .ensures), c .before .before .if4 .left)) (c .if5 .taken))
+returns-5 c =
+    let c2 = c .before .before in
+    let c3 = c2 .before in
+    let c6 = c3 .before .before .before in
+    let c8 = c6 .before .before in
+    let c11 = c8 .before .before .before in
+    sym (other _ _ _ _ (c3 .seek .ensures)
+    (omega (arith, ends-at _ _ 0 _ _ (c11 .pre) (c8 .wide .ensures) (c6 .wide2 .ensures), c2 .if4 .left))
+    (c .if5 .taken))
 
 returns-6 : tie.Need-returns-6
 unfolding scalarAt
-returns-6 c = sym (found _ _ _ _ (c .before .before .before .seek .ensures) (omega (arith, ends-at _ _ 0 _ _ (c .before .before .before .before .before .before .before .before .before .before .before .pre) (c .before .before .before .before .before .before .before .before .wide .ensures) (c .before .before .before .before .before .before .wide2 .ensures), c .before .before .if4 .left)) (c .if5 .left))
+returns-6 c =
+    let c2 = c .before .before in
+    let c3 = c2 .before in
+    let c6 = c3 .before .before .before in
+    let c8 = c6 .before .before in
+    let c11 = c8 .before .before .before in
+    sym (found _ _ _ _ (c3 .seek .ensures)
+    (omega (arith, ends-at _ _ 0 _ _ (c11 .pre) (c8 .wide .ensures) (c6 .wide2 .ensures), c2 .if4 .left))
+    (c .if5 .left))
 
 pub find-child-spec : {M : Type 1} → statement M
 find-child-spec =

@@ -30,7 +30,13 @@ enum-told : tie.Need-enum-told Inv-loop μ-loop
 enum-told c = search needs
 
 returns : tie.Need-returns Inv-loop μ-loop
-returns c = lost (c .before .before .before .before .before .before .before .before .args .p .now) (c .before .before .before .before .before .before .before .before .args .w .now) (c .before .before .before .before .before .loop .i) (c .before .before .before .before .before .loop .t) (c .before .before .before .before .before .loop .inv) (c .before .before .before .before .loop-test .taken) _ (c .before .before .find-child .ensures) (c .enum-told .given .1)
+returns c =
+    let c2 = c .before .before in
+    let c4 = c2 .before .before in
+    let c5 = c4 .before in
+    let c8 = c5 .before .before .before in
+    lost (c8 .args .p .now) (c8 .args .w .now) (c5 .loop .i) (c5 .loop .t) (c5 .loop .inv) (c4 .loop-test .taken) _
+    (c2 .find-child .ensures) (c .enum-told .given .1)
 
 enum-known-kid : tie.Need-enum-known-kid Inv-loop μ-loop
 enum-known-kid c = search needs
@@ -42,7 +48,13 @@ loop-less : tie.Need-loop-less Inv-loop μ-loop
 loop-less c = omega arith
 
 loop-again : tie.Need-loop-again Inv-loop μ-loop
-loop-again c = step (c .before .before .before .before .before .before .before .before .before .args .p .now) (c .before .before .before .before .before .before .before .before .before .args .w .now) (c .before .before .before .before .before .before .loop .i) (c .before .before .before .before .before .before .loop .t) (c .before .before .before .before .before .before .loop .inv) (c .before .before .before .before .before .loop-test .taken) _ _ (c .before .before .before .find-child .ensures) (c .before .kid .given .1)
+loop-again c =
+    let c3 = c .before .before .before in
+    let c5 = c3 .before .before in
+    let c6 = c5 .before in
+    let c9 = c6 .before .before .before in
+    step (c9 .args .p .now) (c9 .args .w .now) (c6 .loop .i) (c6 .loop .t) (c6 .loop .inv) (c5 .loop-test .taken) _ _
+    (c3 .find-child .ensures) (c .before .kid .given .1)
 
 mul-result : tie.Need-mul-result Inv-loop μ-loop
 mul-result c = omega arith
@@ -57,7 +69,11 @@ shared-slice-read-result : tie.Need-shared-slice-read-result Inv-loop μ-loop
 shared-slice-read-result c = omega arith
 
 returns-2 : tie.Need-returns-2 Inv-loop μ-loop
-returns-2 c = ended (c .before .before .before .before .before .args .p .now) (c .before .before .before .before .before .args .w .now) (c .before .before .loop .i) (c .before .before .loop .t) (c .before .before .loop .inv) (c .before .loop-test .left)
+returns-2 c =
+    let c2 = c .before .before in
+    let c5 = c2 .before .before .before in
+    ended (c5 .args .p .now) (c5 .args .w .now) (c2 .loop .i) (c2 .loop .t) (c2 .loop .inv)
+    (c .before .loop-test .left)
 
 pub is-held-spec : {M : Type 1} → statement M
 is-held-spec =

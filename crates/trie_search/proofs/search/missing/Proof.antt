@@ -33,7 +33,13 @@ sub-result : tie.Need-sub-result Inv-loop μ-loop
 sub-result c = search needs
 
 returns : tie.Need-returns Inv-loop μ-loop
-returns c = count-lost (c .before .before .before .before .before .before .before .before .args .p .now) (c .before .before .before .before .before .before .before .before .args .w .now) (c .before .before .before .before .before .loop .i) (c .before .before .before .before .before .loop .t) (c .before .before .before .before .before .loop .inv) (c .before .before .before .before .loop-test .taken) _ (c .before .before .find-child .ensures) (c .enum-told .given .1)
+returns c =
+    let c2 = c .before .before in
+    let c4 = c2 .before .before in
+    let c5 = c4 .before in
+    let c8 = c5 .before .before .before in
+    count-lost (c8 .args .p .now) (c8 .args .w .now) (c5 .loop .i) (c5 .loop .t) (c5 .loop .inv)
+    (c4 .loop-test .taken) _ (c2 .find-child .ensures) (c .enum-told .given .1)
 
 enum-known-kid : tie.Need-enum-known-kid Inv-loop μ-loop
 enum-known-kid c = search needs
@@ -45,10 +51,19 @@ loop-less : tie.Need-loop-less Inv-loop μ-loop
 loop-less c = omega arith
 
 loop-again : tie.Need-loop-again Inv-loop μ-loop
-loop-again c = count-step (c .before .before .before .before .before .before .before .before .before .args .p .now) (c .before .before .before .before .before .before .before .before .before .args .w .now) (c .before .before .before .before .before .before .loop .i) (c .before .before .before .before .before .before .loop .t) (c .before .before .before .before .before .before .loop .inv) (c .before .before .before .before .before .loop-test .taken) _ _ (c .before .before .before .find-child .ensures) (c .before .kid .given .1)
+loop-again c =
+    let c3 = c .before .before .before in
+    let c5 = c3 .before .before in
+    let c6 = c5 .before in
+    let c9 = c6 .before .before .before in
+    count-step (c9 .args .p .now) (c9 .args .w .now) (c6 .loop .i) (c6 .loop .t) (c6 .loop .inv)
+    (c5 .loop-test .taken) _ _ (c3 .find-child .ensures) (c .before .kid .given .1)
 
 returns-2 : tie.Need-returns-2 Inv-loop μ-loop
-returns-2 c = count-ended (c .before .before .before .before .args .p .now) (c .before .before .before .before .args .w .now) (c .before .loop .i) (c .before .loop .t) (c .before .loop .inv) (c .loop-test .left)
+returns-2 c =
+    let c4 = c .before .before .before .before in
+    count-ended (c4 .args .p .now) (c4 .args .w .now) (c .before .loop .i) (c .before .loop .t) (c .before .loop .inv)
+    (c .loop-test .left)
 
 pub missing-spec : {M : Type 1} → statement M
 missing-spec =

@@ -29,7 +29,11 @@ enum-told : tie.Need-enum-told Inv-loop μ-loop
 enum-told c = search needs
 
 returns : tie.Need-returns Inv-loop μ-loop
-returns c = counted-end (c .before .before .before .before .before .loop .inv) (c .before .before .before .before .loop-test .taken) _ (c .before .before .find-child .ensures) (c .enum-told .given .1)
+returns c =
+    let c2 = c .before .before in
+    let c4 = c2 .before .before in
+    let c5 = c4 .before in
+    counted-end (c5 .loop .inv) (c4 .loop-test .taken) _ (c2 .find-child .ensures) (c .enum-told .given .1)
 
 enum-known-kid : tie.Need-enum-known-kid Inv-loop μ-loop
 enum-known-kid c = search needs
@@ -38,16 +42,33 @@ add-i : tie.Need-add-i Inv-loop μ-loop
 add-i c = search needs
 
 mul-if1 : tie.Need-mul-if1 Inv-loop μ-loop
-mul-if1 c = let w = there _ _ (c .before .before .before .find-child .ensures) (c .before .kid .given .1) (c .before .before .before .before .before .before .loop .inv .here) in omega (arith, w .inside, w .fits)
+mul-if1 c =
+    let c3 = c .before .before .before in
+    let c6 = c3 .before .before .before in
+    let w = there _ _ (c3 .find-child .ensures) (c .before .kid .given .1) (c6 .loop .inv .here) in
+    omega (arith, w .inside, w .fits)
 
 add-if1 : tie.Need-add-if1 Inv-loop μ-loop
-add-if1 c = let w = there _ _ (c .before .before .before .find-child .ensures) (c .before .kid .given .1) (c .before .before .before .before .before .before .loop .inv .here) in omega (arith, w .inside, w .fits)
+add-if1 c =
+    let c3 = c .before .before .before in
+    let c6 = c3 .before .before .before in
+    let w = there _ _ (c3 .find-child .ensures) (c .before .kid .given .1) (c6 .loop .inv .here) in
+    omega (arith, w .inside, w .fits)
 
 mul-if1-2 : tie.Need-mul-if1-2 Inv-loop μ-loop
-mul-if1-2 c = let w = there _ _ (c .before .before .before .find-child .ensures) (c .before .kid .given .1) (c .before .before .before .before .before .before .loop .inv .here) in omega (arith, w .inside, w .fits)
+mul-if1-2 c =
+    let c3 = c .before .before .before in
+    let c6 = c3 .before .before .before in
+    let w = there _ _ (c3 .find-child .ensures) (c .before .kid .given .1) (c6 .loop .inv .here) in
+    omega (arith, w .inside, w .fits)
 
 shared-slice-read-if1 : tie.Need-shared-slice-read-if1 Inv-loop μ-loop
-shared-slice-read-if1 c = let w = there _ _ (c .before .before .before .before .find-child .ensures) (c .before .before .kid .given .1) (c .before .before .before .before .before .before .before .loop .inv .here) in omega (arith, w .inside, w .fits)
+shared-slice-read-if1 c =
+    let c2 = c .before .before in
+    let c4 = c2 .before .before in
+    let c7 = c4 .before .before .before in
+    let w = there _ _ (c4 .find-child .ensures) (c2 .kid .given .1) (c7 .loop .inv .here) in
+    omega (arith, w .inside, w .fits)
 
 add-n : tie.Need-add-n Inv-loop μ-loop
 add-n c = let v = c .before .before .before .before .before .before .before .before .loop .inv in omega (arith, v .few, v .at-most)
@@ -56,13 +77,24 @@ loop-less : tie.Need-loop-less Inv-loop μ-loop
 loop-less c = omega (arith, c .before .before .before .before .before .before .before .loop-test .taken)
 
 loop-again : tie.Need-loop-again Inv-loop μ-loop
-loop-again c = counted-more (c .before .before .before .before .before .before .before .before .loop .inv) (c .before .before .before .before .before .before .before .loop-test .taken) _ (c .before .before .before .before .before .find-child .ensures) _ (c .before .before .before .kid .given .1) (c .if1 .taken)
+loop-again c =
+    let c3 = c .before .before .before in
+    let c5 = c3 .before .before in
+    let c7 = c5 .before .before in
+    let c8 = c7 .before in
+    counted-more (c8 .loop .inv) (c7 .loop-test .taken) _ (c5 .find-child .ensures) _ (c3 .kid .given .1)
+    (c .if1 .taken)
 
 loop-less-2 : tie.Need-loop-less-2 Inv-loop μ-loop
 loop-less-2 c = omega (arith, c .before .before .before .before .before .before .before .loop-test .taken)
 
 loop-again-2 : tie.Need-loop-again-2 Inv-loop μ-loop
-loop-again-2 c = counted-on (c .before .before .before .before .before .before .before .before .loop .inv) (c .before .before .before .before .before .before .before .loop-test .taken) _ (c .before .before .before .before .before .find-child .ensures) _ (c .before .before .before .kid .given .1) (c .if1 .left)
+loop-again-2 c =
+    let c3 = c .before .before .before in
+    let c5 = c3 .before .before in
+    let c7 = c5 .before .before in
+    let c8 = c7 .before in
+    counted-on (c8 .loop .inv) (c7 .loop-test .taken) _ (c5 .find-child .ensures) _ (c3 .kid .given .1) (c .if1 .left)
 
 returns-2 : tie.Need-returns-2 Inv-loop μ-loop
 returns-2 c = counted-all (c .before .loop .inv) (c .loop-test .left)

@@ -32,7 +32,11 @@ same-length : tie.Need-same-length Inv-loop μ-loop
 same-length c = search needs
 
 returns : tie.Need-returns Inv-loop μ-loop
-returns c = written-end (c .before .before .before .before .before .loop .inv) (c .before .before .before .before .loop-test .taken) _ (c .before .before .find-child .ensures) (c .enum-told .given .1)
+returns c =
+    let c2 = c .before .before in
+    let c4 = c2 .before .before in
+    let c5 = c4 .before in
+    written-end (c5 .loop .inv) (c4 .loop-test .taken) _ (c2 .find-child .ensures) (c .enum-told .given .1)
 
 enum-known-kid : tie.Need-enum-known-kid Inv-loop μ-loop
 enum-known-kid c = search needs
@@ -41,16 +45,33 @@ add-i : tie.Need-add-i Inv-loop μ-loop
 add-i c = search needs
 
 mul-if1 : tie.Need-mul-if1 Inv-loop μ-loop
-mul-if1 c = let w = there _ _ (c .before .before .before .find-child .ensures) (c .before .kid .given .1) (c .before .before .before .before .before .before .loop .inv .here) in omega (arith, w .inside, w .fits)
+mul-if1 c =
+    let c3 = c .before .before .before in
+    let c6 = c3 .before .before .before in
+    let w = there _ _ (c3 .find-child .ensures) (c .before .kid .given .1) (c6 .loop .inv .here) in
+    omega (arith, w .inside, w .fits)
 
 add-if1 : tie.Need-add-if1 Inv-loop μ-loop
-add-if1 c = let w = there _ _ (c .before .before .before .find-child .ensures) (c .before .kid .given .1) (c .before .before .before .before .before .before .loop .inv .here) in omega (arith, w .inside, w .fits)
+add-if1 c =
+    let c3 = c .before .before .before in
+    let c6 = c3 .before .before .before in
+    let w = there _ _ (c3 .find-child .ensures) (c .before .kid .given .1) (c6 .loop .inv .here) in
+    omega (arith, w .inside, w .fits)
 
 mul-if1-2 : tie.Need-mul-if1-2 Inv-loop μ-loop
-mul-if1-2 c = let w = there _ _ (c .before .before .before .find-child .ensures) (c .before .kid .given .1) (c .before .before .before .before .before .before .loop .inv .here) in omega (arith, w .inside, w .fits)
+mul-if1-2 c =
+    let c3 = c .before .before .before in
+    let c6 = c3 .before .before .before in
+    let w = there _ _ (c3 .find-child .ensures) (c .before .kid .given .1) (c6 .loop .inv .here) in
+    omega (arith, w .inside, w .fits)
 
 shared-slice-read-if1 : tie.Need-shared-slice-read-if1 Inv-loop μ-loop
-shared-slice-read-if1 c = let w = there _ _ (c .before .before .before .before .find-child .ensures) (c .before .before .kid .given .1) (c .before .before .before .before .before .before .before .loop .inv .here) in omega (arith, w .inside, w .fits)
+shared-slice-read-if1 c =
+    let c2 = c .before .before in
+    let c4 = c2 .before .before in
+    let c7 = c4 .before .before .before in
+    let w = there _ _ (c4 .find-child .ensures) (c2 .kid .given .1) (c7 .loop .inv .here) in
+    omega (arith, w .inside, w .fits)
 
 cast-out : tie.Need-cast-out Inv-loop μ-loop
 cast-out c = search needs
@@ -59,7 +80,14 @@ mul-out : tie.Need-mul-out Inv-loop μ-loop
 mul-out c = search needs
 
 slice-write-out : tie.Need-slice-write-out Inv-loop μ-loop
-slice-write-out c = roomy (c .before .before .before .before .before .before .before .before .loop .inv) (c .before .before .before .before .before .before .before .loop-test .taken) _ (c .before .before .before .before .before .find-child .ensures) _ (c .before .before .before .kid .given .1) (c .if1 .taken) (c .before .before .before .before .before .before .before .before .before .before .before .before .pre .room)
+slice-write-out c =
+    let c3 = c .before .before .before in
+    let c5 = c3 .before .before in
+    let c7 = c5 .before .before in
+    let c8 = c7 .before in
+    let c12 = c8 .before .before .before .before in
+    roomy (c8 .loop .inv) (c7 .loop-test .taken) _ (c5 .find-child .ensures) _ (c3 .kid .given .1) (c .if1 .taken)
+    (c12 .pre .room)
 
 add-n : tie.Need-add-n Inv-loop μ-loop
 add-n c = search needs
@@ -68,13 +96,25 @@ loop-less : tie.Need-loop-less Inv-loop μ-loop
 loop-less c = omega (arith, c .before .before .before .before .before .before .before .loop-test .taken)
 
 loop-again : tie.Need-loop-again Inv-loop μ-loop
-loop-again c = written-more (c .before .before .before .before .before .before .before .before .loop .inv) (c .before .before .before .before .before .before .before .loop-test .taken) _ (c .before .before .before .before .before .find-child .ensures) _ (c .before .before .before .kid .given .1) (c .if1 .taken) (c .before .before .before .before .before .before .before .before .before .before .before .before .pre .room)
+loop-again c =
+    let c3 = c .before .before .before in
+    let c5 = c3 .before .before in
+    let c7 = c5 .before .before in
+    let c8 = c7 .before in
+    let c12 = c8 .before .before .before .before in
+    written-more (c8 .loop .inv) (c7 .loop-test .taken) _ (c5 .find-child .ensures) _ (c3 .kid .given .1)
+    (c .if1 .taken) (c12 .pre .room)
 
 loop-less-2 : tie.Need-loop-less-2 Inv-loop μ-loop
 loop-less-2 c = omega (arith, c .before .before .before .before .before .before .before .loop-test .taken)
 
 loop-again-2 : tie.Need-loop-again-2 Inv-loop μ-loop
-loop-again-2 c = written-on (c .before .before .before .before .before .before .before .before .loop .inv) (c .before .before .before .before .before .before .before .loop-test .taken) _ (c .before .before .before .before .before .find-child .ensures) _ (c .before .before .before .kid .given .1) (c .if1 .left)
+loop-again-2 c =
+    let c3 = c .before .before .before in
+    let c5 = c3 .before .before in
+    let c7 = c5 .before .before in
+    let c8 = c7 .before in
+    written-on (c8 .loop .inv) (c7 .loop-test .taken) _ (c5 .find-child .ensures) _ (c3 .kid .given .1) (c .if1 .left)
 
 same-length-2 : tie.Need-same-length-2 Inv-loop μ-loop
 same-length-2 c = search needs

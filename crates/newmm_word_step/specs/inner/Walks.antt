@@ -7,7 +7,7 @@ use lib.ListN.{length, take, drop}
 use Rattle.newmm_rules.specs.Words.{Given, isWord}
 use Rattle.tcc.specs.Flags.{isEnd, endFlags}
 use Rattle.trie_pool.specs.Words.{at, walk, holds}
-use Rattle.trie_pool.specs.Sound.{Readable}
+use Rattle.trie_pool.specs.inner.Sound.{Readable}
 use Rattle.newmm_word_step.specs.declared.Step.{Step}
 use Rattle.newmm_word_step.specs.declared.Step.the-variants.{Nothing, Word, Part}
 

@@ -5,7 +5,7 @@ use mathlib.Core.Bool.{Bool, true, false}
 use mathlib.Core.List.{List}
 use lib.ListN.{getD}
 use Rattle.trie_pool.specs.Cells.{scalarAt, firstAt, countAt, markAt}
-use Rattle.trie_pool.specs.Sound.{Shaped, Rising, Fit}
+use Rattle.trie_pool.specs.inner.Sound.{Shaped, Rising, Fit}
 
 -- b says whether P holds
 pub record Decides (b : Bool) (P : Type 0) : Type 0 where

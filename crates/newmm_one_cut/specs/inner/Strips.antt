@@ -5,9 +5,9 @@ use mathlib.Core.List.{List, _++_}
 use lib.ListN.{length, getD, take, drop, replicate}
 use Rattle.newmm_rules.specs.Words.{Given}
 use Rattle.newmm_rules.specs.Cutting.{Cut, cut}
-use Rattle.newmm_bfs.specs.Rows.{Sized}
+use Rattle.newmm_bfs.specs.inner.Strips.{Sized}
 use Rattle.tcc.specs.Flags.{endFlags}
-use Rattle.trie_pool.specs.Sound.{Readable}
+use Rattle.trie_pool.specs.inner.Sound.{Readable}
 use Rattle.newmm_one_cut.specs.declared.Ends.{Ends}
 
 -- the first candidate above b, or m

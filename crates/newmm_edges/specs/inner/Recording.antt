@@ -8,10 +8,10 @@ use lib.Dec.{eqb}
 use Rattle.newmm_rules.specs.Positions.{member}
 use Rattle.newmm_rules.specs.Words.{wordEnds}
 use Rattle.newmm_rules.specs.Cutting.{State, graphOf, recordedAll}
-use Rattle.newmm_bfs.specs.Rows.{Sized, graphIn}
+use Rattle.newmm_bfs.specs.inner.Strips.{Sized, graphIn}
 use Rattle.tcc.specs.Flags.{endFlags}
-use Rattle.trie_pool.specs.Sound.{Readable}
-use Rattle.newmm_word_step.specs.Walks.{givenBy}
+use Rattle.trie_pool.specs.inner.Sound.{Readable}
+use Rattle.newmm_word_step.specs.inner.Walks.{givenBy}
 use Rattle.newmm_edges.specs.declared.Progress.{Progress}
 
 -- the rows when an edge from b to e is recorded, where k edges stand and those of b start at first

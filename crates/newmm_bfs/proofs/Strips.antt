@@ -9,7 +9,7 @@ use lib.Dec.{eqb}
 use borrow.Author.Tests.{eq-eqb, ne-eqb}
 use Rattle.newmm_rules.specs.Positions.{howMany}
 use Rattle.newmm_rules.proofs.Counting.{one-fewer}
-use Rattle.newmm_bfs.specs.Rows.{Sized, graphIn, before, unmarked, tailAfter, rowAfter}
+use Rattle.newmm_bfs.specs.inner.Strips.{Sized, graphIn, before, unmarked, tailAfter, rowAfter}
 
 -- ---- rows that agree behind the predecessors
 

@@ -4,7 +4,7 @@ use mathlib.Core.Path.{_≡_}
 use mathlib.Core.List.{List}
 use lib.ListN.{length}
 use Rattle.tcc.specs.Flags.{endFlags}
-use Rattle.trie_pool.specs.Sound.{Readable}
+use Rattle.trie_pool.specs.inner.Sound.{Readable}
 
 pub record Place (text pool flags : List ℕ) (b : ℕ) : Type 0 where
   pub inside : b < length text

@@ -8,9 +8,9 @@ use Rattle.char_string.specs.Scalars.{isScalar}
 use Rattle.char_string.specs.Blanks.{isTrimmed}
 use Rattle.trie_pool.specs.Cells.{scalarAt, firstAt, countAt, markAt, used}
 use Rattle.trie_pool.specs.Words.{none, at, child, holds}
-use Rattle.trie_pool.specs.Paths.{reach, rev}
-use Rattle.trie_pool.specs.Sound.{Shaped, Spare, Sound}
-use Rattle.trie_change.specs.Planting.{Planted}
+use Rattle.trie_pool.specs.inner.Paths.{reach, rev}
+use Rattle.trie_pool.specs.inner.Sound.{Shaped, Spare, Sound}
+use Rattle.trie_change.specs.inner.Planting.{Planted}
 
 -- the cells from low + 8 to high stand eight places back
 pub record Unshifted (p p′ : List ℕ) (low high : ℕ) : Type 0 where

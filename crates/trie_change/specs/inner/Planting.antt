@@ -8,8 +8,8 @@ use Rattle.char_string.specs.Scalars.{isScalar}
 use Rattle.char_string.specs.Blanks.{isTrimmed}
 use Rattle.trie_pool.specs.Cells.{scalarAt, firstAt, countAt, markAt, used}
 use Rattle.trie_pool.specs.Words.{lacking, none, at, child, holds}
-use Rattle.trie_pool.specs.Paths.{reach, rev}
-use Rattle.trie_pool.specs.Sound.{Shaped, Spare, Sound}
+use Rattle.trie_pool.specs.inner.Paths.{reach, rev}
+use Rattle.trie_pool.specs.inner.Sound.{Shaped, Spare, Sound}
 
 -- j is the place of a new child of b with scalar x
 pub record Room (p : List ℕ) (n b j x : ℕ) : Type 0 where

@@ -4,7 +4,7 @@ use mathlib.Core.Path.{_≡_}
 use mathlib.Core.List.{List, [], _∷_, _++_}
 use lib.ListN.{length, getD}
 use Rattle.newmm_rules.specs.Search.{pathTo}
-use Rattle.newmm_bfs.specs.Rows.{graphIn, before}
+use Rattle.newmm_bfs.specs.inner.Strips.{graphIn, before}
 use Rattle.newmm_bfs.specs.declared.Found.{Found}
 use Rattle.newmm_bfs.specs.declared.Found.the-variants.{Last, Nowhere}
 

@@ -1,13 +1,13 @@
 -- The rules of a well-formed pool as facts, one node being excepted: what functions of our own crates ask and leave.
-use Prim.Native.Nat.{ℕ, zero, suc, _+_, _*_, _≤_, _<_}
+use Prim.Native.Nat.{ℕ, suc, _+_, _*_, _≤_, _<_}
 use mathlib.Core.Path.{_≡_}
-use mathlib.Core.Bool.{Bool, true, false, cond}
+use mathlib.Core.Bool.{Bool, true, false}
 use mathlib.Core.List.{List}
-use lib.Dec.{ltb}
 use lib.ListN.{length, getD}
 use Rattle.char_string.specs.Scalars.{isScalar}
 use Rattle.char_string.specs.Blanks.{isTrimmed}
 use Rattle.trie_pool.specs.Cells.{scalarAt, firstAt, countAt, markAt}
+use Rattle.trie_pool.specs.Levels.{levelEnd}
 
 -- n nodes in level order: the children of each node stand behind those of the node before it, from node 1 to the last
 pub record Shaped (p : List ℕ) (n : ℕ) : Type 0 where
@@ -34,15 +34,7 @@ pub record Spare (p : List ℕ) (n : ℕ) : Type 0 where
   pub others : (i r : ℕ) → i < n → 5 ≤ r → r < 8 → getD p (8 * i + r) 0 ≡ 0
   pub blank : (k : ℕ) → 8 * n ≤ k → getD p k 0 ≡ 0
 
--- where the d-th level ends, the root being level 0
-abbrev pub hop : List ℕ → ℕ → ℕ → ℕ
-hop p n e = cond (ltb e n) (firstAt p e) e
-
-unfoldable pub ends : List ℕ → ℕ → ℕ → ℕ
-ends p n zero = 1
-ends p n (suc d) = hop p n (ends p n d)
-
--- a dictionary of n nodes, but that the node cur may be a leaf that ends no word (0, the root: no exception)
+-- a dictionary of n nodes, but that the node cur may be a leaf that levelEnd no word (0, the root: no exception)
 pub record Sound (p : List ℕ) (n cur : ℕ) : Type 0 where
   pub shaped : Shaped p n
   pub fits : 8 * n ≤ length p
@@ -53,7 +45,7 @@ pub record Sound (p : List ℕ) (n cur : ℕ) : Type 0 where
   pub fit : (i : ℕ) → 0 < i → i < n → Fit (scalarAt p i) (markAt p i)
   pub leaf : (i : ℕ) → 0 < i → i < n → (i ≡ cur → ⊥) → 1 ≤ countAt p i + markAt p i
   pub start : (i : ℕ) → 0 < i → i ≤ countAt p 0 → isTrimmed (scalarAt p i) ≡ false
-  pub shallow : ends p n 255 ≡ n
+  pub shallow : levelEnd p n 255 ≡ n
   pub spare : Spare p n
 
 -- what the readers ask: n nodes in level order, the children of each rising, b being one of them

@@ -5,7 +5,7 @@ use mathlib.Core.List.{List, _++_}
 use lib.ListN.{length, drop}
 use Rattle.trie_pool.specs.Cells.{scalarAt, firstAt, countAt, used}
 use Rattle.trie_pool.specs.Words.{Place, none, at, holds}
-use Rattle.trie_pool.specs.Sound.{Readable}
+use Rattle.trie_pool.specs.inner.Sound.{Readable}
 use Rattle.trie_pool.specs.Meaning.{prefixLengths}
 use Rattle.trie_search.specs.declared.search.Kid.{Kid}
 use Rattle.trie_search.specs.declared.search.Kid.the-variants.{Nothing, Is}
