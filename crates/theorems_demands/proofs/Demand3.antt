@@ -20,7 +20,8 @@ use Rattle.newmm_rules.specs.declared.Mode.{Mode}
 use Rattle.newmm_answers.specs.declared.CutAnswer.{CutAnswer}
 use Rattle.newmm_answers.specs.declared.CutAnswer.the-variants.{Ends}
 use Rattle.newmm_answers.specs.Answers.{cutOf, cutCauses, accepts, told, cutAnswer, outAfter}
-use Rattle.theorems_demands.specs.Demand3.{Reached, Call, answerOf, outOf, Demand3}
+use Rattle.newmm_answers.specs.Calls.{Call, answerOf, outOf}
+use Rattle.theorems_demands.specs.Demand3.{Reached, Demand3}
 use Rattle.theorems_demands.proofs.Reaching.{means}
 
 -- an answer with ends is an accepted one
@@ -53,10 +54,11 @@ module _ (mode : Mode) (text : List ℕ) (words : Words) (n : ℕ) where
       (r .0, (r .1 .0, (refl, (le-ltb cells′ (9 * length text + 128) s, (le-ltb room′ (length (cutOf mode words text .ends)) (omega arith), tt)))))
       ∙ ap Accepted e
 
-pub demand-3 : Demand3
-demand-3 a b v w ra rb same text mode n edges h s o =
-    let ma : meaning (a .pool) ≡ some w = means ra ∙ (λ i. some (λ (x : List ℕ). same x i)) in
-    let mb : meaning (b .pool) ≡ some w = means rb in
+pub demand-3-any : (a b : Call) (v w : Words) → meaning (a .pool) ≡ some v → meaning (b .pool) ≡ some w → ((x : List ℕ) → v x ≡ w x) → a .text ≡ b .text → a .mode ≡ b .mode → (n edges : ℕ)
+    → answerOf a ≡ Ends n edges → 9 * length (b .text) + 128 ≤ length (b .scratch) → n ≤ length (b .out) → (answerOf b ≡ Ends n edges) × (take n (outOf b) ≡ take n (outOf a))
+demand-3-any a b v w pa pb same text mode n edges h s o =
+    let ma : meaning (a .pool) ≡ some w = pa ∙ (λ i. some (λ (x : List ℕ). same x i)) in
+    let mb : meaning (b .pool) ≡ some w = pb in
     let ha : cutAnswer (b .mode) (b .text) (some w) (length (a .scratch)) (length (a .out)) ≡ Ends n edges =
     sym (λ i. cutAnswer (mode i) (text i) (ma i) (length (a .scratch)) (length (a .out))) ∙ h in
     let t = told-ends (accepts (b .mode) (b .text) (some w) (length (a .scratch)) (length (a .out))) (cutOf (b .mode) w (b .text) .edges) n edges ha in
@@ -69,3 +71,6 @@ demand-3 a b v w ra rb same text mode n edges h s o =
           ∙ sym (front-is (b .mode) (b .text) w n (length (a .scratch)) (a .out) (t .0))
           ∙ sym (λ i. take n (outAfter (mode i) (text i) (ma i) (length (a .scratch)) (a .out))),
     )
+
+pub demand-3 : Demand3
+demand-3 a b v w ra rb = demand-3-any a b v w (means ra) (means rb)

@@ -4,3 +4,6 @@ pub mod Ends
 pub mod Search
 pub mod Safe
 pub mod Cases
+pub mod Grown
+pub mod Orders
+pub mod More

@@ -7,13 +7,11 @@ use lib.ListN.{length, take}
 use Rattle.refusal.specs.declared.Answer.{Answer}
 use Rattle.refusal.specs.declared.Answer.the-variants.{Accepted}
 use Rattle.char_string.specs.Blanks.{trimmedOf}
-use Rattle.trie_pool.specs.Meaning.{Words, meaning, noWord, withWord, withoutWord}
+use Rattle.trie_pool.specs.Meaning.{Words, noWord, withWord, withoutWord}
 use Rattle.trie_char.specs.Answers.{freshAnswer, addAnswer, added, removeAnswer, removed}
 use Rattle.trie_char.specs.Changes.{After}
-use Rattle.newmm_rules.specs.declared.Mode.{Mode}
-use Rattle.newmm_answers.specs.declared.CutAnswer.{CutAnswer}
 use Rattle.newmm_answers.specs.declared.CutAnswer.the-variants.{Ends}
-use Rattle.newmm_answers.specs.Answers.{cutAnswer, outAfter}
+use Rattle.newmm_answers.specs.Calls.{Call, answerOf, outOf}
 
 -- What the contracts of `fresh`, `add` and `remove` say of a call: its answer, and the pool before and after it.
 abbrev pub Freshened : Answer → List ℕ → List ℕ → Type 0
@@ -30,21 +28,6 @@ pub data Reached : List ℕ → Words → Type 0 where
   fresh : {old new : List ℕ} {n : ℕ} → Freshened (Accepted n) old new → Reached new noWord
   add : {old new : List ℕ} {words : Words} {n : ℕ} (word : List ℕ) → Reached old words → Added (Accepted n) word old new → Reached new (withWord (trimmedOf word) words)
   remove : {old new : List ℕ} {words : Words} {n : ℕ} (word : List ℕ) → Reached old words → Taken (Accepted n) word old new → Reached new (withoutWord (trimmedOf word) words)
-
--- A call of the public cut: what it is given, each row as it was lent.
-pub record Call : Type 0 where
-  pub mode : Mode
-  pub text : List ℕ
-  pub pool : List ℕ
-  pub scratch : List ℕ
-  pub out : List ℕ
-
--- What its contract says of the answer, and of the output afterwards.
-abbrev pub answerOf : Call → CutAnswer
-answerOf c = cutAnswer (c .mode) (c .text) (meaning (c .pool)) (length (c .scratch)) (length (c .out))
-
-abbrev pub outOf : Call → List ℕ
-outOf c = outAfter (c .mode) (c .text) (meaning (c .pool)) (length (c .scratch)) (c .out)
 
 -- Two calls with the same text and mode, on pools that were reached from fresh ones and hold the same words. If one answers, and the other has 9n+128
 -- cells of scratch and room for those ends, then the other answers too, with the same number of ends, the same edge count and the same ends.

@@ -13,7 +13,8 @@ use Rattle.trie_char.proofs.remove.Kinds as remove-kinds
 use Rattle.trie_char.proofs.remove.Reads as remove-contract
 use Rattle.newmm.proofs.cut.Kinds as cut-kinds
 use Rattle.newmm.proofs.cut.Reads as cut-contract
-use Rattle.theorems_demands.specs.Demand3.{Freshened, Added, Taken, Call, answerOf, outOf}
+use Rattle.newmm_answers.specs.Calls.{Call, answerOf, outOf}
+use Rattle.theorems_demands.specs.Demand3.{Freshened, Added, Taken}
 
 pub freshened : (κs : Lfts 1) (a : Dens κs fresh-kinds.ps) (x : resT fresh-kinds.r κs .Denot) (s : AtExit (endedOf 1 fresh-kinds.ps fresh-kinds.r) κs)
     → fresh-contract.Post κs a x s → Freshened x (a .0 .now) (s .0 .now)

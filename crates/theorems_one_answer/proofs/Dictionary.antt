@@ -16,18 +16,18 @@ use Rattle.trie_char.proofs.prefix_lengths.Kinds as prefix-lengths-kinds
 use Rattle.trie_char.proofs.prefix_lengths.Reads as prefix-lengths-contract
 use Rattle.trie_char.proofs.amount_of_words.Kinds as amount-of-words-kinds
 use Rattle.trie_char.proofs.amount_of_words.Reads as amount-of-words-contract
-use Rattle.theorems_one_answer.specs.OneAnswer.{OneAnswer, OneAnswerKept}
+use Rattle.theorems_one_answer.specs.OneAnswer.{OneAnswer}
 use Rattle.theorems_one_answer.proofs.Shapes.{answer, answer-and-output, answer-and-pool}
 
 -- the answer and the pool
-pub fresh-one : OneAnswerKept {A = Answer × List ℕ} 1 fresh-kinds.ps fresh-kinds.r (λ κs a s. length (s .0 .now) ≡ length (a .0 .now)) fresh-contract.Post (λ κs x s. (x, s .0 .now))
-fresh-one κs a x y s t m n p q = answer-and-pool _ _ _ _ m n (p .0) (p .1) (q .0) (q .1)
+pub fresh-one : OneAnswer {A = Answer × List ℕ} 1 fresh-kinds.ps fresh-kinds.r fresh-contract.Post (λ κs x s. (x, s .0 .now))
+fresh-one κs a x y s t p q = answer-and-pool _ _ _ _ (p .0) (p .1) (q .0) (q .1)
 
-pub add-one : OneAnswerKept {A = Answer × List ℕ} 2 add-kinds.ps add-kinds.r (λ κs a s. length (s .0 .now) ≡ length (a .0 .now)) add-contract.Post (λ κs x s. (x, s .0 .now))
-add-one κs a x y s t m n p q = answer-and-pool _ _ _ _ m n (p .0) (p .1) (q .0) (q .1)
+pub add-one : OneAnswer {A = Answer × List ℕ} 2 add-kinds.ps add-kinds.r add-contract.Post (λ κs x s. (x, s .0 .now))
+add-one κs a x y s t p q = answer-and-pool _ _ _ _ (p .0) (p .1) (q .0) (q .1)
 
-pub remove-one : OneAnswerKept {A = Answer × List ℕ} 2 remove-kinds.ps remove-kinds.r (λ κs a s. length (s .0 .now) ≡ length (a .0 .now)) remove-contract.Post (λ κs x s. (x, s .0 .now))
-remove-one κs a x y s t m n p q = answer-and-pool _ _ _ _ m n (p .0) (p .1) (q .0) (q .1)
+pub remove-one : OneAnswer {A = Answer × List ℕ} 2 remove-kinds.ps remove-kinds.r remove-contract.Post (λ κs x s. (x, s .0 .now))
+remove-one κs a x y s t p q = answer-and-pool _ _ _ _ (p .0) (p .1) (q .0) (q .1)
 
 -- the answer
 pub contain-one : OneAnswer {A = Answer} 2 contain-kinds.ps contain-kinds.r contain-contract.Post (λ κs x s. x)

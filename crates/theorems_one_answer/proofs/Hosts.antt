@@ -26,7 +26,7 @@ use Rattle.fetlockice.proofs.fetlockice_cut_safe.Reads as cut-safe-contract
 use Rattle.trie_pool.specs.Meaning.{noWord}
 use Rattle.trie_char.proofs.One.{one-after}
 use Rattle.trie_char.specs.Answers.{freshAnswer, addAnswer, removeAnswer, added, removed}
-use Rattle.theorems_one_answer.specs.OneAnswer.{OneAnswer, OneAnswerKept}
+use Rattle.theorems_one_answer.specs.OneAnswer.{OneAnswer}
 use Rattle.theorems_one_answer.proofs.Shapes.{answer, both}
 
 pub decode-one : OneAnswer {A = ℕ × (ℕ × (ℕ × List ℕ))} 4 decode-kinds.ps decode-kinds.r decode-contract.Post (λ κs x s. (x, (s .1 .1 .0 .now, (s .1 .1 .1 .0 .now, s .1 .0 .now))))
@@ -35,14 +35,14 @@ decode-one κs a x y s t p q = both (answer (p .0) (q .0)) (both (answer (p .1 .
 pub clusters-one : OneAnswer {A = ℕ × (ℕ × (ℕ × List ℕ))} 4 clusters-kinds.ps clusters-kinds.r clusters-contract.Post (λ κs x s. (x, (s .1 .1 .0 .now, (s .1 .1 .1 .0 .now, s .1 .0 .now))))
 clusters-one κs a x y s t p q = both (answer (p .0) (q .0)) (both (answer (p .1 .0) (q .1 .0)) (both (answer (p .1 .1 .0) (q .1 .1 .0)) (answer (p .1 .1 .1) (q .1 .1 .1))))
 
-pub fresh-one : OneAnswerKept {A = ℕ × (ℕ × (ℕ × List ℕ))} 3 fresh-kinds.ps fresh-kinds.r (λ κs a s. length (s .0 .now) ≡ length (a .0 .now)) fresh-contract.Post (λ κs x s. (x, (s .1 .0 .now, (s .1 .1 .0 .now, s .0 .now))))
-fresh-one κs a x y s t m n p q = both (answer (p .0) (q .0)) (both (answer (p .1 .0) (q .1 .0)) (both (answer (p .1 .1 .0) (q .1 .1 .0)) (one-after (freshAnswer (a .0 .now)) (a .0 .now) _ _ noWord m n (p .1 .1 .1) (q .1 .1 .1))))
+pub fresh-one : OneAnswer {A = ℕ × (ℕ × (ℕ × List ℕ))} 3 fresh-kinds.ps fresh-kinds.r fresh-contract.Post (λ κs x s. (x, (s .1 .0 .now, (s .1 .1 .0 .now, s .0 .now))))
+fresh-one κs a x y s t p q = both (answer (p .0) (q .0)) (both (answer (p .1 .0) (q .1 .0)) (both (answer (p .1 .1 .0) (q .1 .1 .0)) (one-after (freshAnswer (a .0 .now)) (a .0 .now) _ _ noWord (p .1 .1 .1) (q .1 .1 .1))))
 
-pub add-one : OneAnswerKept {A = ℕ × (ℕ × (ℕ × List ℕ))} 4 add-kinds.ps add-kinds.r (λ κs a s. length (s .0 .now) ≡ length (a .0 .now)) add-contract.Post (λ κs x s. (x, (s .1 .1 .0 .now, (s .1 .1 .1 .0 .now, s .0 .now))))
-add-one κs a x y s t m n p q = both (answer (p .0) (q .0)) (both (answer (p .1 .0) (q .1 .0)) (both (answer (p .1 .1 .0) (q .1 .1 .0)) (one-after (addAnswer (a .1 .0 .now) (a .0 .now)) (a .0 .now) _ _ (added (a .1 .0 .now) (a .0 .now)) m n (p .1 .1 .1) (q .1 .1 .1))))
+pub add-one : OneAnswer {A = ℕ × (ℕ × (ℕ × List ℕ))} 4 add-kinds.ps add-kinds.r add-contract.Post (λ κs x s. (x, (s .1 .1 .0 .now, (s .1 .1 .1 .0 .now, s .0 .now))))
+add-one κs a x y s t p q = both (answer (p .0) (q .0)) (both (answer (p .1 .0) (q .1 .0)) (both (answer (p .1 .1 .0) (q .1 .1 .0)) (one-after (addAnswer (a .1 .0 .now) (a .0 .now)) (a .0 .now) _ _ (added (a .1 .0 .now) (a .0 .now)) (p .1 .1 .1) (q .1 .1 .1))))
 
-pub remove-one : OneAnswerKept {A = ℕ × (ℕ × (ℕ × List ℕ))} 4 remove-kinds.ps remove-kinds.r (λ κs a s. length (s .0 .now) ≡ length (a .0 .now)) remove-contract.Post (λ κs x s. (x, (s .1 .1 .0 .now, (s .1 .1 .1 .0 .now, s .0 .now))))
-remove-one κs a x y s t m n p q = both (answer (p .0) (q .0)) (both (answer (p .1 .0) (q .1 .0)) (both (answer (p .1 .1 .0) (q .1 .1 .0)) (one-after (removeAnswer (a .1 .0 .now) (a .0 .now)) (a .0 .now) _ _ (removed (a .1 .0 .now) (a .0 .now)) m n (p .1 .1 .1) (q .1 .1 .1))))
+pub remove-one : OneAnswer {A = ℕ × (ℕ × (ℕ × List ℕ))} 4 remove-kinds.ps remove-kinds.r remove-contract.Post (λ κs x s. (x, (s .1 .1 .0 .now, (s .1 .1 .1 .0 .now, s .0 .now))))
+remove-one κs a x y s t p q = both (answer (p .0) (q .0)) (both (answer (p .1 .0) (q .1 .0)) (both (answer (p .1 .1 .0) (q .1 .1 .0)) (one-after (removeAnswer (a .1 .0 .now) (a .0 .now)) (a .0 .now) _ _ (removed (a .1 .0 .now) (a .0 .now)) (p .1 .1 .1) (q .1 .1 .1))))
 
 pub contains-one : OneAnswer {A = ℕ × (ℕ × ℕ)} 4 contains-kinds.ps contains-kinds.r contains-contract.Post (λ κs x s. (x, (s .1 .1 .0 .now, s .1 .1 .1 .0 .now)))
 contains-one κs a x y s t p q = both (answer (p .0) (q .0)) (both (answer (p .1 .0) (q .1 .0)) (answer (p .1 .1) (q .1 .1)))

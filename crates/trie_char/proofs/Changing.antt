@@ -43,6 +43,7 @@ module _ (old : List ℕ) (n : ℕ) (n-is : n ≡ min (length old / 8) 1048576) 
   became part words l s h = record {
     means = meaning-yes (part ++ drop (8 * n) old) (ap wellFormed cells ∙ passes part s) ∙ ap some (ap holds cells ∙ (λ i v. h v i));
     later = ap (λ (k : ℕ). drop (8 * k) (part ++ drop (8 * n) old)) (sym n-is) ∙ drop-at part (drop (8 * n) old) (8 * n) l ∙ ap (λ (k : ℕ). drop (8 * k) old) n-is;
+    kept = size;
   }
     where
       size : length (part ++ drop (8 * n) old) ≡ length old
@@ -55,7 +56,7 @@ module _ (old : List ℕ) (n : ℕ) (n-is : n ≡ min (length old / 8) 1048576) 
 
 -- a pool that holds these words already
 pub stayed : (old : List ℕ) (words : Words) → isDictionary old ≡ true → ((v : List ℕ) → held (meaning old) v ≡ words v) → Became old old words
-stayed old words e h = record { means = meaning-yes old e ∙ ap some (sym (held-is old e) ∙ (λ i v. h v i)); later = refl }
+stayed old words e h = record { means = meaning-yes old e ∙ ap some (sym (held-is old e) ∙ (λ i v. h v i)); later = refl; kept = refl }
 
 -- ---- an accepted word
 

@@ -26,19 +26,19 @@ pub became-holds : (old new : List ℕ) (words : Words) → Became old new words
 became-holds old new words b = sym (held-is new (became-passes old new words b)) ∙ ap held (b .means)
 
 -- two pools of these words and one length are equal, cell by cell
-pub one-became : (old p q : List ℕ) (words : Words) → length p ≡ length old → length q ≡ length old → Became old p words → Became old q words → p ≡ q
-one-became old p q words a b f g =
+pub one-became : (old p q : List ℕ) (words : Words) → Became old p words → Became old q words → p ≡ q
+one-became old p q words f g =
     sym (take-append-drop (8 * capacity old) p) ∙ ap (λ (l : List ℕ). l ++ drop (8 * capacity old) p) fronts ∙ ap (λ (l : List ℕ). take (8 * capacity old) q ++ l) (f .later ∙ sym (g .later))
     ∙ take-append-drop (8 * capacity old) q
   where
     cap-p : capacity old ≡ capacity p
-    cap-p = omega arith
+    cap-p = omega (arith, f .kept)
 
     cap-q : capacity old ≡ capacity q
-    cap-q = omega arith
+    cap-q = omega (arith, g .kept)
 
     size : length (cellsOf p) ≡ length (cellsOf q)
-    size = omega (arith, long p (capacity p) refl, long q (capacity q) refl)
+    size = omega (arith, f .kept, g .kept, long p (capacity p) refl, long q (capacity q) refl)
 
     cells : cellsOf p ≡ cellsOf q
     cells = one-pool (cellsOf p) (cellsOf q) (used (cellsOf p)) (used (cellsOf q)) (sound (cellsOf p) (became-passes old p words f)) (sound (cellsOf q) (became-passes old q words g))
@@ -48,6 +48,6 @@ one-became old p q words a b f g =
     fronts = ap (λ (k : ℕ). take (8 * k) p) cap-p ∙ cells ∙ sym (ap (λ (k : ℕ). take (8 * k) q) cap-q)
 
 -- so an answer leaves one pool
-pub one-after : (a : Answer) (old p q : List ℕ) (words : Words) → length p ≡ length old → length q ≡ length old → After a old p words → After a old q words → p ≡ q
-one-after (Accepted n) old p q words a b f g = one-became old p q words a b f g
-one-after (Refused r) old p q words a b f g = f ∙ sym g
+pub one-after : (a : Answer) (old p q : List ℕ) (words : Words) → After a old p words → After a old q words → p ≡ q
+one-after (Accepted n) old p q words f g = one-became old p q words f g
+one-after (Refused r) old p q words f g = f ∙ sym g

@@ -3,7 +3,7 @@ use Prim.Native.Nat.{ℕ, _*_}
 use mathlib.Core.Path.{_≡_}
 use mathlib.Core.List.{List}
 use mathlib.Core.Option.{some}
-use lib.ListN.{getD, drop}
+use lib.ListN.{length, getD, drop}
 use Rattle.refusal.specs.declared.Answer.{Answer}
 use Rattle.refusal.specs.declared.Answer.the-variants.{Accepted, Refused}
 use Rattle.trie_pool.specs.Rules.{capacity}
@@ -13,6 +13,7 @@ use Rattle.trie_pool.specs.Meaning.{Words, meaning}
 pub record Became (old new : List ℕ) (words : Words) : Type 0 where
   pub means : meaning new ≡ some words
   pub later : drop (8 * capacity old) new ≡ drop (8 * capacity old) old
+  pub kept : length new ≡ length old
 
 -- A refusal changes no pool.
 abbrev pub After : Answer → List ℕ → List ℕ → Words → Type 0
