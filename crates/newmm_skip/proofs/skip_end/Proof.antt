@@ -146,10 +146,8 @@ add-e-2 c = search needs
 
 mul-is-short : tie.Need-mul-is-short Inv-lengths μ-lengths Inv-places μ-places
 mul-is-short c =
-    let c4 = c .before .before .before .before in
-    let c5 = c4 .before in
-    let h = c5 .lengths .inv .0 .trying in
-    omega (arith, h .far, h .walked .order, c4 .if4 .left)
+    let h = c .before .before .before .before .before .lengths .inv .0 .trying in
+    omega (arith, h .far, h .walked .order, c .before .before .before .before .if4 .left)
 
 sub-is-short : tie.Need-sub-is-short Inv-lengths μ-lengths Inv-places μ-places
 sub-is-short c = let h = c .before .before .before .before .before .lengths .inv .0 .trying in omega (arith, h .walked .order)
