@@ -2,6 +2,10 @@
 
 A definition or a theorem stands in the file before it, a contract's function in its crate's src/, a must-fail edit in
 its crate, and an op of a test in the first fields of the test's stdin.
+
+It also holds the table of public operations in docs/ASSESSMENT.md to the code: each operation is there and has no
+`requires`, its theorem and its wrong programs are there, and no other function that these crates export goes without a
+`requires`.
 """
 import os
 import re
@@ -12,7 +16,7 @@ CRATES = os.path.join(ROOT, "crates")
 COLUMNS = ["Sentence", "Definition", "Contract", "Theorem", "Test", "Must-fail"]
 
 # What a cell may say in words, with no name to look up.
-WORDS = re.compile(r"–|no public function has a `requires`; .*|the equations of each operation|those (of each operation|above)")
+WORDS = re.compile(r"–|no operation of ASSESSMENT's table has a `requires`; .*|the equations of each operation|those (of each operation|above)")
 
 
 def text(*path):
@@ -81,8 +85,57 @@ def edits(cell):
 CHECKS = {"Definition": antt, "Contract": functions, "Theorem": antt, "Test": tests, "Must-fail": edits}
 
 
+def header(crate, name):
+    """The signature and contract of a public function, or "" where the crate has none of that name."""
+    folder = os.path.join(CRATES, crate, "src")
+    for file in sorted(os.listdir(folder)):
+        found = re.search(r'(?ms)^( *)pub (extern "C" )?fn %s\(.*?^\1\{' % re.escape(name), text(folder, file))
+        if found:
+            return found[0]
+    return ""
+
+
+def exported(crate):
+    """The functions that a crate's lib.rt hands out."""
+    lib = text(CRATES, crate, "src", "lib.rt")
+    for name in re.findall(r"(?m)^pub use .*?(\w+);|^ *pub fn (\w+)\(", lib):
+        name = name[0] or name[1]
+        if header(crate, name):
+            yield name
+
+
+def operations():
+    """Problems of the table of public operations, and how many operations it has."""
+    public = []
+    for line in text(ROOT, "docs", "ASSESSMENT.md").splitlines():
+        if not re.match(r"\| `\w+::\w+` \|", line):
+            continue
+        operation, _, _, _, theorem, wrong = [cell.strip() for cell in line.strip("|").split(" | ")]
+        crate, name = operation.strip("`").split("::")
+        public.append((crate, name))
+        contract = header(crate, name)
+        if not contract:
+            yield "%s has no public function %s" % (crate, name)
+        if "requires" in contract:
+            yield "%s::%s has a requires" % (crate, name)
+        if theorem != "none":
+            yield from antt("theorems_one_answer/proofs/" + theorem)
+        for folder in wrong.split("; "):
+            if not os.path.isdir(os.path.join(CRATES, folder)):
+                yield "no folder " + folder
+    for crate in sorted({crate for crate, _ in public}):
+        for name in exported(crate):
+            if (crate, name) not in public and "requires" not in header(crate, name):
+                yield "%s::%s is exported without a requires and is not in the table" % (crate, name)
+    if not public:
+        yield "no table of public operations"
+
+
 def main():
     problems = names = 0
+    for problem in operations():
+        print("docs/ASSESSMENT.md: " + problem)
+        problems += 1
     for number, line in enumerate(text(ROOT, "docs", "TRACE.md").splitlines(), 1):
         if not line.startswith("| ") or line.startswith("| Sentence"):
             continue

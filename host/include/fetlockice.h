@@ -38,7 +38,7 @@ extern "C" {
 
 /* A pool has eight cells to a node. Nodes in use are the root and one for each distinct non-empty prefix of the words
  * held. Cells after the last whole node, and after this many nodes, are never read or written. A call on a dictionary
- * reads the rest of the pool once, to see that it is a dictionary. To give a pool more nodes, lend it with cells of 0
+ * reads the rest of the pool, to see that it is a dictionary. To give a pool more nodes, lend it with cells of 0
  * behind its last whole node. */
 #define FETLOCKICE_NODE_CELLS 8
 #define FETLOCKICE_MAX_NODES 1048576

@@ -1,4 +1,4 @@
-// The rules of a well-formed pool, decided in one pass.
+// The rules of a well-formed pool, decided by a few walks over its cells.
 use cells::wide;
 use char_string::is_scalar;
 use char_string::is_trimmed;
