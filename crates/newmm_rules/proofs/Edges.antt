@@ -9,7 +9,7 @@ use lib.ListN.{length, length-append}
 use lib.Dec.{eqb, ltb}
 use borrow.Author.Tests.{eqb-true, eqb-false, ltb-false}
 use Rattle.newmm_rules.specs.Cutting.{Edge, State, recorded, recordedAll, graphOf}
-use Rattle.newmm_rules.proofs.Positions.{In}
+use Rattle.newmm_rules.specs.Positions.{In}
 use Rattle.newmm_rules.proofs.Search.{Reach, here, edge}
 
 abbrev pub edgeOf : ℕ → ℕ → Edge

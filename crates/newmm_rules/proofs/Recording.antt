@@ -7,10 +7,10 @@ use mathlib.Core.Logic.{_⊎_, inr, ⊎-elim}
 use mathlib.Core.List.{List, [], _∷_, _++_, List·Memᴰ·head, List·Memᴰ·tail, List·Memᴰ·cases-cons, List·Memᴰ·append-cases, List·Memᴰ·not-nil, List·Memᴰ·eq-of-singleton, Memᴰ·cast, Memᴰ·append-right}
 use lib.ListN.{length}
 use lib.Dec.{ltb}
-use Rattle.newmm_rules.specs.Positions.{member, inserted}
+use Rattle.newmm_rules.specs.Positions.{member, inserted, In, Rises, none}
 use Rattle.newmm_rules.specs.Words.{Given, size, wordEnds}
 use Rattle.newmm_rules.specs.Cutting.{Edge, State, recorded, recordedAll, graphOf}
-use Rattle.newmm_rules.proofs.Positions.{In, Rises, none, member-in, put-rises, put-in, put-keeps, put-only}
+use Rattle.newmm_rules.proofs.Positions.{member-in, put-rises, put-in, put-keeps, put-only}
 use Rattle.newmm_rules.proofs.Spans.{word-spans}
 use Rattle.newmm_rules.proofs.Search.{Reach, here, edge}
 use Rattle.newmm_rules.proofs.Edges.{edgeOf, in-graph, reach-more}

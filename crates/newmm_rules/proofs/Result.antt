@@ -7,8 +7,10 @@ use mathlib.Core.List.{List, [], _∷_, List·Memᴰ·head, List·Memᴰ·tail}
 use lib.ListN.{length, getD}
 use Rattle.newmm_rules.specs.Words.{Given, size}
 use Rattle.newmm_rules.specs.Cutting.{State, begin, turn, turns, cut}
-use Rattle.newmm_rules.proofs.Positions.{In, Rises, at-least}
-use Rattle.newmm_rules.proofs.Tokens.{Tokens, rising, last-is, few-tokens, none-here}
+use Rattle.newmm_rules.specs.Positions.{In, Rises}
+use Rattle.newmm_rules.proofs.Positions.{at-least}
+use Rattle.newmm_rules.specs.Tokens.{Tokens}
+use Rattle.newmm_rules.proofs.Tokens.{rising, last-is, few-tokens, none-here}
 use Rattle.newmm_rules.proofs.Turns.{Between, at-first, turn-on, turn-off, rest-rises}
 
 -- no candidate below n is left

@@ -15,7 +15,7 @@ use Rattle.char_string.specs.declared.blanks.Found.the-variants.{At, Nothing}
 use Rattle.char_string.specs.Blanks.{isSpace, before, lastSpace}
 use Rattle.newmm_rules.specs.Longest.{lengths, longest, beforeLongest}
 use Rattle.newmm_rules.specs.Parts.{Cutter, sampleOf, cutFor, cutAt}
-use Rattle.newmm_rules.specs.Climbing.{Climbs, there, up}
+use Rattle.newmm_rules.specs.inner.Climbing.{Climbs, there, up}
 use Rattle.newmm_rules.proofs.Climbing.{onward, no-ends}
 
 none-longest : (e : ℕ) → longest (lengths e []) ≡ 0

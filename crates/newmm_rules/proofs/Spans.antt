@@ -10,11 +10,11 @@ use lib.Dec.{eqb}
 use borrow.Author.Tests.{eqb-false}
 use Rattle.lists.specs.Scans.{leading}
 use Rattle.lists.proofs.Scans.{leading-inside}
-use Rattle.newmm_rules.specs.Positions.{upFrom}
+use Rattle.newmm_rules.specs.Positions.{upFrom, In, Rises}
 use Rattle.newmm_rules.specs.NonThai.{isLetter, isDigit, isThaiDigit, isPoint, isBlank, groupOf, groups, number, lineEnd, firstMatch, nonThai}
 use Rattle.newmm_rules.specs.Words.{Given, size, isWord, wordEnds}
 use Rattle.newmm_rules.specs.NonDictionary.{nonThaiAt, stopsAt, skipEnd, tokenEnd}
-use Rattle.newmm_rules.proofs.Positions.{In, Rises, those-in, those-rise, up-in, up-rises, first-in}
+use Rattle.newmm_rules.proofs.Positions.{those-in, those-rise, up-in, up-rises, first-in}
 
 module _ (g : Given) (b : ℕ) where
   pub word-spans : (e : ℕ) → In e (wordEnds g b) → (b < e) × (e ≤ size g)

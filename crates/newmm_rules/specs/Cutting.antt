@@ -67,10 +67,14 @@ settle g b s = settled g b (s .candidates) s
 abbrev pub takenOut : List ℕ → State → State
 takenOut cs s = record { candidates = cs; known = s .known; committed = s .committed; edges = s .edges; ends = s .ends; count = s .count }
 
+-- the state after step 1 at the least candidate b, with cs left
+abbrev pub step1 : Given → ℕ → List ℕ → State → State
+step1 g b cs s = recordedAll b (wordEnds g b) (takenOut cs s)
+
 -- While the least candidate is below n, take it out as b.
 unfoldable pub turn : Given → List ℕ → State → State
 turn g [] s = s
-turn g (b ∷ cs) s = cond (ltb b (size g)) (settle g b (recordedAll b (wordEnds g b) (takenOut cs s))) s
+turn g (b ∷ cs) s = cond (ltb b (size g)) (settle g b (step1 g b cs s)) s
 
 -- k turns, as far as there are so many
 unfoldable pub turns : ℕ → Given → State → State

@@ -3,7 +3,7 @@ use Prim.Native.Nat.{ℕ, zero, suc, _-_}
 use mathlib.Core.Bool.{Bool, cond}
 use mathlib.Core.List.{List, [], _∷_, _++_}
 use lib.Dec.{eqb}
-use Rattle.newmm_rules.specs.Positions.{member}
+use Rattle.newmm_rules.specs.Positions.{member, In}
 
 abbrev pub Graph : Type 0
 Graph = ℕ → List ℕ
@@ -50,3 +50,8 @@ searched (suc k) graph goal (w ∷ ways) seen =
 -- as many turns are enough as there are positions between them.
 unfoldable pub pathTo : Graph → ℕ → ℕ → List ℕ
 pathTo graph start goal = searched (goal - start) graph goal (record { tip = start; ends = [] } ∷ []) (start ∷ [])
+
+-- the vertices after a on a way along edges to z
+pub data Chain (graph : Graph) : ℕ → List ℕ → ℕ → Type 0 where
+  stay : {a : ℕ} → Chain graph a [] a
+  along : {a x z : ℕ} {xs : List ℕ} → In x (graph a) → Chain graph x xs z → Chain graph a (x ∷ xs) z
