@@ -1,2 +1,6 @@
 pub mod Demand3
+pub mod Pools
+pub mod Search
+pub mod Ends
 pub mod Cases
+pub mod LongTexts
