@@ -30,7 +30,7 @@ use Rattle.newmm_answers.specs.Answers.{given, plainCut, cutOf, cutCauses, acce
 use Rattle.newmm_answers.specs.Calls.{Call, answerOf, outOf}
 use Rattle.newmm_answers.proofs.Plain.{plain-right}
 use Rattle.newmm_answers.proofs.Plain as plain
-use Rattle.theorems_demands.specs.Ends.{EndsRise, LastEnd, NoneForEmpty, FewEnds, PlainTokens, EveryWord, Written, EndsWritten}
+use Rattle.theorems_demands.specs.Ends.{EndsRise, LastEnd, NoneForEmpty, FewEnds, PlainTokens, EveryWord, Wrote, EndsWrote}
 use Rattle.theorems_demands.proofs.Reaching.{each-word}
 use Rattle.theorems_demands.proofs.Demand3.{told-ends, accepted-is, front-is}
 
@@ -70,8 +70,8 @@ every-word pool words means text b e inside h ends =
 
 -- ---- what an accepted call wrote
 
-pub ends-written : EndsWritten
-ends-written c n edges h =
+pub ends-wrote : EndsWrote
+ends-wrote c n edges h =
     let mode = c .mode in
     let text = c .text in
     let cells = length (c .scratch) in

@@ -51,7 +51,7 @@ EveryWord =
 
 -- What stands in the output after a call that answered with n ends: the first n cells rise strictly to the text's length, and in plain mode
 -- they are the ends of tokens by the words of the pool, which passes.
-pub record Written (c : Call) (n : ℕ) (after : List ℕ) : Type 0 where
+pub record Wrote (c : Call) (n : ℕ) (after : List ℕ) : Type 0 where
   pub words : Words
   pub means : meaning (c .pool) ≡ some words
   pub rise : Rises 1 (take n after)
@@ -59,5 +59,5 @@ pub record Written (c : Call) (n : ℕ) (after : List ℕ) : Type 0 where
   pub none-for-empty : length (c .text) ≡ 0 → n ≡ 0
   pub plain-tokens : c .mode ≡ Plain → Tokens (given words (c .text)) 0 (take n after) (length (c .text))
 
-abbrev pub EndsWritten : Type 0
-EndsWritten = (c : Call) (n edges : ℕ) → answerOf c ≡ Ends n edges → Written c n (outOf c)
+abbrev pub EndsWrote : Type 0
+EndsWrote = (c : Call) (n edges : ℕ) → answerOf c ≡ Ends n edges → Wrote c n (outOf c)

@@ -1,2 +1,2 @@
 pub mod OneAnswer
-pub mod Calls
+pub mod Runs

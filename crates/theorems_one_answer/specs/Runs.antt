@@ -10,13 +10,13 @@ use denote.Triple.Clauses.{AtExit}
 use Rattle.newmm.proofs.cut.Kinds as cut-kinds
 use Rattle.newmm.proofs.cut.Reads as cut-contract
 use Rattle.trie_pool.specs.Meaning.{Words, meaning}
-use Rattle.newmm_answers.specs.declared.CutAnswer.{CutAnswer}
 use Rattle.newmm_answers.specs.declared.CutAnswer.the-variants.{Ends}
 use Rattle.newmm_answers.specs.Calls.{Call}
 use Rattle.theorems_demands.specs.Demand3.{Reached}
-use Rattle.theorems_demands.specs.Ends.{Written}
+use Rattle.theorems_demands.specs.Ends.{Wrote}
 
--- A run of `newmm::cut`: its arguments, what it answered, the lent rows when it returned, and that it keeps the contract that the check has proved.
+-- A run of `newmm::cut`: its arguments, what it answered, the lent rows when it returned, and what the check has proved of it. The check
+-- makes `cut-kinds` from the function's signature and `cut-contract` from its `ensures`.
 pub record Run : Type 0 where
   pub lifetimes : Lfts 4
   pub arguments : Dens lifetimes cut-kinds.ps
@@ -35,43 +35,40 @@ callOf r =
       mode = r .arguments .1 .1 .1 .1 .0;
     }
 
--- what it answered, and the output when it returned
-abbrev pub answerOf : Run → CutAnswer
-answerOf r = r .answer
-
-abbrev pub outAfter : Run → List ℕ
-outAfter r = r .rows .1 .1 .0 .now
+-- the output when it returned
+abbrev pub outLeft : Run → List ℕ
+outLeft r = r .rows .1 .1 .0 .now
 
 -- Two runs with the same text and mode. If one answers with ends, and the other has 9n+128 cells of scratch and room for those ends, then
 -- the other answers too, with the same number of ends, the same edge count and the same ends.
-abbrev pub SameAnswer : Run → Run → Type 0
-SameAnswer a b =
+abbrev pub SameAnswers : Run → Run → Type 0
+SameAnswers a b =
     callOf a .text ≡ callOf b .text
     → callOf a .mode ≡ callOf b .mode
     → (n edges : ℕ)
-    → answerOf a ≡ Ends n edges
+    → a .answer ≡ Ends n edges
     → 9 * length (callOf b .text) + 128 ≤ length (callOf b .scratch)
     → n ≤ length (callOf b .out)
-    → (answerOf b ≡ Ends n edges) × (take n (outAfter b) ≡ take n (outAfter a))
+    → (b .answer ≡ Ends n edges) × (take n (outLeft b) ≡ take n (outLeft a))
 
 -- any two pools that pass and hold the same words
-abbrev pub Demand3AnyOfCalls : Type 0
-Demand3AnyOfCalls =
+abbrev pub Demand3AnyOfRuns : Type 0
+Demand3AnyOfRuns =
     (a b : Run) (v w : Words)
     → meaning (callOf a .pool) ≡ some v
     → meaning (callOf b .pool) ≡ some w
     → ((x : List ℕ) → v x ≡ w x)
-    → SameAnswer a b
+    → SameAnswers a b
 
 -- two pools that were reached from fresh ones and hold the same words
-abbrev pub Demand3OfCalls : Type 0
-Demand3OfCalls =
+abbrev pub Demand3OfRuns : Type 0
+Demand3OfRuns =
     (a b : Run) (v w : Words)
     → Reached (callOf a .pool) v
     → Reached (callOf b .pool) w
     → ((x : List ℕ) → v x ≡ w x)
-    → SameAnswer a b
+    → SameAnswers a b
 
 -- What a run that answered with n ends wrote: they rise strictly to the text's length, and in plain mode they are the ends of tokens.
-abbrev pub EndsOfCalls : Type 0
-EndsOfCalls = (r : Run) (n edges : ℕ) → answerOf r ≡ Ends n edges → Written (callOf r) n (outAfter r)
+abbrev pub EndsOfRuns : Type 0
+EndsOfRuns = (r : Run) (n edges : ℕ) → r .answer ≡ Ends n edges → Wrote (callOf r) n (outLeft r)
