@@ -64,7 +64,8 @@ pub one-counted : (b e : ℕ) (s : State) → recorded b e s .count ≡ suc (s .
 unfolding recorded
 one-counted b e s = refl
 
--- AT MOST 50 + v EDGES STAND after v starting places: one place more adds as many as fit under 51, and one in any case.
+-- AT MOST 50 + v EDGES STAND after v starting places: one place more adds as many as fit under 51,
+-- and one in any case.
 pub few-stand : (b v : ℕ) (es : List ℕ) (s : State) → length (s .edges) ≤ 50 + v → length (recordedAll b es s .edges) ≤ 50 + (v + 1)
 unfolding recordedAll
 few-stand b v [] s h = omega arith

@@ -49,8 +49,9 @@ module _ (g : Given) where
       let e = last .sole (no-rest (last .rest) refl) in
       omega (arith, inside (last .least) (List·Memᴰ·head refl), at-end .through, e)
 
-  -- EVERY TOKEN is a held word that ends at a cluster end, or exactly the span of the non-dictionary rule at its start, where no such word
-  -- starts; the first starts at 0, each other where the one before it ends, and the last ends at n.
+  -- EVERY TOKEN is a held word that ends at a cluster end, or exactly the span of the
+  -- non-dictionary rule at its start, where no such word starts; the first starts at 0, each other
+  -- where the one before it ends, and the last ends at n.
   pub tokens : Tokens g 0 (cut g .ends) (size g)
   unfolding cut
   tokens = subst (λ (z : ℕ). Tokens g 0 (turns (size g) g begin .ends) z) committed-end (last .tokens)

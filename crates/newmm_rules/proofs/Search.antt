@@ -1,4 +1,5 @@
--- The search finds the goal wherever edges lead to it, and what it finds is a way along edges. Assumes nothing.
+-- The search finds the goal wherever edges lead to it, and what it finds is a way along edges.
+-- Assumes nothing.
 use Prim.Native.Nat.{ℕ, zero, suc, _+_, _-_, _≤_, _<_}
 use native.Mathlib.Omega.{arith}
 use mathlib.Core.Path.{_≡_, refl, sym, _∙_, ap, subst}

@@ -1,4 +1,5 @@
--- Where words and tokens of the non-dictionary rule end: behind their start, and within the text. Assumes nothing.
+-- Where words and tokens of the non-dictionary rule end: behind their start, and within the text.
+-- Assumes nothing.
 use Prim.Native.Nat.{ℕ, zero, suc, _+_, _-_, _≤_, _<_, min}
 use native.Mathlib.Omega.{arith}
 use mathlib.Core.Path.{_≡_, refl}

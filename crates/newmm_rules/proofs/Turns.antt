@@ -20,8 +20,9 @@ use Rattle.newmm_rules.specs.Tokens.{Tokens, other, stop, then}
 use Rattle.newmm_rules.proofs.Tokens.{behind, chained}
 use Rattle.newmm_rules.proofs.Recording.{Handled, Placing, Placed, placed}
 
--- Between turns: the places below the least candidate are handled; a sole candidate is the committed end; edges and their count keep within
--- their bounds; and the ends so far are tokens from 0 to the committed end.
+-- Between turns: the places below the least candidate are handled; a sole candidate is the
+-- committed end; edges and their count keep within their bounds; and the ends so far are tokens
+-- from 0 to the committed end.
 pub record Between (g : Given) (s : State) : Type 0 where
   pub least : ℕ
   pub rest : List ℕ
@@ -142,7 +143,8 @@ module _ (g : Given) (s : State) (b : ℕ) (cs : List ℕ) (is : s .candidates �
       let t = token-spans g b below in
       to-end (tokenEnd g b ∷ []) (tokenEnd g b) (t .0) (t .1) (λ x m k. absurd (none-left e x (words-placed .placing .handled .left x m (omega (arith, t .0))))) (token e)
 
-  -- THE PATH SEARCH NEVER FAILS: edges that stand lead from the committed end to the sole candidate.
+  -- THE PATH SEARCH NEVER FAILS: edges that stand lead from the committed end to the sole
+  -- candidate.
   module _ (c : ℕ) (only : after .candidates ≡ c ∷ []) where
     in-only : (x : ℕ) → In x (after .candidates) → x ≡ c
     in-only x m = List·Memᴰ·eq-of-singleton (subst (λ (l : List ℕ). In x l) only m)

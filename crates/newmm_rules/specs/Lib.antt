@@ -1,4 +1,5 @@
--- In 01's order: rows of positions, words, the steps of plain cutting, the search of step 2, the non-dictionary rule of step 3, tokens, safe mode.
+-- In 01's order: rows of positions, words, the steps of plain cutting, the search of step 2, the
+-- non-dictionary rule of step 3, tokens, safe mode.
 pub mod Positions
 pub mod Words
 pub mod Cutting

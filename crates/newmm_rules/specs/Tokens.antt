@@ -6,7 +6,8 @@ use Rattle.newmm_rules.specs.Positions.{In}
 use Rattle.newmm_rules.specs.Words.{Given, size, wordEnds}
 use Rattle.newmm_rules.specs.NonDictionary.{tokenEnd}
 
--- A token from b to e is a held word that ends at a cluster end; or no such word starts at b, and it is the non-dictionary rule's.
+-- A token from b to e is a held word that ends at a cluster end; or no such word starts at b, and
+-- it is the non-dictionary rule's.
 pub data Token (g : Given) (b e : ℕ) : Type 0 where
   word : In e (wordEnds g b) → Token g b e
   other : wordEnds g b ≡ [] → b < size g → e ≡ tokenEnd g b → Token g b e

@@ -1,4 +1,5 @@
--- The numbers of the alternatives are 1 to 29, and the first alternative that matches is the one that `winner` names. Assumes nothing.
+-- The numbers of the alternatives are 1 to 29, and the first alternative that matches is the one
+-- that `winner` names. Assumes nothing.
 use Prim.Native.Nat.{ℕ, zero, suc, _+_, _≤_, _<_}
 use native.Mathlib.Omega.{arith}
 use mathlib.Core.Path.{_≡_, refl, sym, _∙_, ap}
