@@ -1,4 +1,5 @@
--- A pool of whole nodes that is lent with nodes of zeros behind it is a dictionary of the same words. Assumes nothing.
+-- A pool of whole nodes that is lent with nodes of zeros behind it is a dictionary of the same
+-- words. Assumes nothing.
 use Prim.Native.Nat.{ℕ, zero, suc, _+_, _*_, _-_, _/_, _≤_, _<_, min}
 use native.Mathlib.Omega.{arith}
 use native.Mathlib.Decide.{decLt}

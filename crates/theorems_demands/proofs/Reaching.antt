@@ -1,4 +1,5 @@
--- Every pool reached from a fresh one passes and holds the words that the calls left, and each of these is a word. Assumes nothing.
+-- Every pool reached from a fresh one passes and holds the words that the calls left, and each of
+-- these is a word. Assumes nothing.
 use Prim.Native.Nat.{ℕ}
 use mathlib.Core.Path.{_≡_, refl, sym, _∙_, ap, subst}
 use mathlib.Core.Bool.{true}

@@ -1,5 +1,6 @@
--- DEMAND 3: the same text, mode and words give the same ends and the same edge count, however the pools came about and whatever scratch held.
--- Everything that the statement stands on is named here; the last two definitions are the statement, for any pools and for reached ones.
+-- DEMAND 3: the same text, mode and words give the same ends and the same edge count, however the
+-- pools came about and whatever scratch held. Everything that the statement stands on is named
+-- here; the last two definitions are the statement, for any pools and for reached ones.
 use Prim.Native.Nat.{ℕ, _+_, _*_, _≤_}
 use mathlib.Core.Path.{_≡_}
 use mathlib.Core.List.{List}
@@ -14,7 +15,8 @@ use Rattle.trie_char.specs.Changes.{After}
 use Rattle.newmm_answers.specs.declared.CutAnswer.the-variants.{Ends}
 use Rattle.newmm_answers.specs.Calls.{Call, answerOf, outOf}
 
--- What the contracts of `fresh`, `add` and `remove` say of a call: its answer, and the pool before and after it.
+-- What the contracts of `fresh`, `add` and `remove` say of a call: its answer, and the pool before
+-- and after it.
 abbrev pub Freshened : Answer → List ℕ → List ℕ → Type 0
 Freshened r old new = (r ≡ freshAnswer old) × After r old new noWord
 
@@ -24,15 +26,22 @@ Added r word old new = (r ≡ addAnswer word old) × After r old new (added word
 abbrev pub Taken : Answer → List ℕ → List ℕ → List ℕ → Type 0
 Taken r word old new = (r ≡ removeAnswer word old) × After r old new (removed word old)
 
--- A pool of any size that is reached from a fresh one by accepted adds and removals, and the words that they leave. A refused call leaves
--- a reached pool reached (Pools, `StillReached`).
+-- A pool of any size that is reached from a fresh one by accepted adds and removals, and the words
+-- that they leave. A refused call leaves a reached pool reached (Pools, `StillReached`).
 pub data Reached : List ℕ → Words → Type 0 where
   fresh : {old new : List ℕ} {n : ℕ} → Freshened (Accepted n) old new → Reached new noWord
-  add : {old new : List ℕ} {words : Words} {n : ℕ} (word : List ℕ) → Reached old words → Added (Accepted n) word old new → Reached new (withWord (trimmedOf word) words)
-  remove : {old new : List ℕ} {words : Words} {n : ℕ} (word : List ℕ) → Reached old words → Taken (Accepted n) word old new → Reached new (withoutWord (trimmedOf word) words)
+  add : {old new : List ℕ} {words : Words} {n : ℕ} (word : List ℕ)
+      → Reached old words
+      → Added (Accepted n) word old new
+      → Reached new (withWord (trimmedOf word) words)
+  remove : {old new : List ℕ} {words : Words} {n : ℕ} (word : List ℕ)
+      → Reached old words
+      → Taken (Accepted n) word old new
+      → Reached new (withoutWord (trimmedOf word) words)
 
--- Two calls with the same text and mode. If one answers, and the other has 9n+128 cells of scratch and room for those ends, then the
--- other answers too, with the same number of ends, the same edge count and the same ends.
+-- Two calls with the same text and mode. If one answers, and the other has 9n+128 cells of scratch
+-- and room for those ends, then the other answers too, with the same number of ends, the same edge
+-- count and the same ends.
 abbrev pub SameAnswer : Call → Call → Type 0
 SameAnswer a b =
     a .text ≡ b .text
@@ -43,7 +52,8 @@ SameAnswer a b =
     → n ≤ length (b .out)
     → (answerOf b ≡ Ends n edges) × (take n (outOf b) ≡ take n (outOf a))
 
--- Any two pools that pass and hold the same words, however they came about: copied, lent with more nodes, or kept from another day.
+-- Any two pools that pass and hold the same words, however they came about: copied, lent with more
+-- nodes, or kept from another day.
 abbrev pub Demand3Any : Type 0
 Demand3Any =
     (a b : Call) (v w : Words)

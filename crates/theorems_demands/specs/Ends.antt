@@ -16,7 +16,8 @@ use Rattle.newmm_answers.specs.declared.CutAnswer.the-variants.{Ends}
 use Rattle.newmm_answers.specs.Answers.{given, cutOf}
 use Rattle.newmm_answers.specs.Calls.{Call, answerOf, outOf}
 
--- EVERY MODE: ends rise strictly, the last is n, and there is none for an empty text. There are no more ends than characters.
+-- EVERY MODE: ends rise strictly, the last is n, and there is none for an empty text. There are no
+-- more ends than characters.
 abbrev pub EndsRise : Type 0
 EndsRise = (mode : Mode) (words : Words) (text : List ℕ) → Rises 1 (cutOf mode words text .ends)
 
@@ -32,13 +33,15 @@ NoneForEmpty = (mode : Mode) (words : Words) (text : List ℕ) → length text �
 abbrev pub FewEnds : Type 0
 FewEnds = (mode : Mode) (words : Words) (text : List ℕ) → length (cutOf mode words text .ends) ≤ length text
 
--- PLAIN MODE: each token is a held word that ends at a cluster end, or no such word starts at its start and it is exactly the span of the
--- non-dictionary rule there. The first starts at 0, each other where the one before it ends, and the last ends at n.
+-- PLAIN MODE: each token is a held word that ends at a cluster end, or no such word starts at its
+-- start and it is exactly the span of the non-dictionary rule there. The first starts at 0, each
+-- other where the one before it ends, and the last ends at n.
 abbrev pub PlainTokens : Type 0
 PlainTokens = (words : Words) (text : List ℕ) → Tokens (given words text) 0 (cutOf Plain words text .ends) (length text)
 
--- In a pool that passes, every held word that starts at b and ends at a cluster end stands among `wordEnds`, however long it is. So where
--- a token says that no such word starts, there is none of any length.
+-- In a pool that passes, every held word that starts at b and ends at a cluster end stands among
+-- `wordEnds`, however long it is. So where a token says that no such word starts, there is none of
+-- any length.
 abbrev pub EveryWord : Type 0
 EveryWord =
     (pool : List ℕ) (words : Words)
@@ -49,8 +52,9 @@ EveryWord =
     → isEnd text e ≡ true
     → In e (wordEnds (given words text) b)
 
--- What stands in the output after a call that answered with n ends: the first n cells rise strictly to the text's length, and in plain mode
--- they are the ends of tokens by the words of the pool, which passes.
+-- What stands in the output after a call that answered with n ends: the first n cells rise strictly
+-- to the text's length, and in plain mode they are the ends of tokens by the words of the pool,
+-- which passes.
 pub record Wrote (c : Call) (n : ℕ) (after : List ℕ) : Type 0 where
   pub words : Words
   pub means : meaning (c .pool) ≡ some words

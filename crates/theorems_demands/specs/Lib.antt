@@ -1,5 +1,6 @@
 pub mod Demand3
 pub mod Pools
+pub mod Dictionary
 pub mod Search
 pub mod Ends
 pub mod Cases

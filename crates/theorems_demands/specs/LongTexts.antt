@@ -13,8 +13,8 @@ letters n = replicate n 0x61
 abbrev pub spaces : ℕ → List ℕ
 spaces n = replicate n 0x20
 
--- 140 letters a: plain [140], safe [100,140]; 139: [139]. 140 spaces, safe: [40,140]. 140 characters whose only space is at 105: the first
--- part is 6 long.
+-- 140 letters a: plain [140], safe [100,140]; 139: [139]. 140 spaces, safe: [40,140]. 140
+-- characters whose only space is at 105: the first part is 6 long.
 abbrev pub LongTexts : Type 0
 LongTexts =
     (cutOf Plain noWord (letters 140) .ends ≡ 140 ∷ [])

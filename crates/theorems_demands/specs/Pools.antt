@@ -25,7 +25,8 @@ StillReached =
     × (Added (Refused r) word old new → Reached new words)
     × (Taken (Refused r) word old new → Reached new words)
 
--- A pool of whole nodes that passes, lent with j more nodes of zeros behind them, means the same words: it passes too.
+-- A pool of whole nodes that passes, lent with j more nodes of zeros behind them, means the same
+-- words: it passes too.
 abbrev pub Grown : Type 0
 Grown =
     (pool : List ℕ) (m j : ℕ)

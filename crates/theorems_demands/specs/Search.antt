@@ -13,8 +13,9 @@ pub record Finds (graph : Graph) (a z : ℕ) : Type 0 where
   pub some : 0 < length (pathTo graph a z)
   pub chain : Chain graph a (pathTo graph a z) z
 
--- Whenever step 2 comes in a plain cut, in any turn: after step 1 at the least candidate b exactly one candidate c is left, and the search
--- finds a path of recorded edges from the committed end to it.
+-- Whenever step 2 comes in a plain cut, in any turn: after step 1 at the least candidate b exactly
+-- one candidate c is left, and the search finds a path of recorded edges from the committed end to
+-- it.
 abbrev pub SearchFinds : Type 0
 SearchFinds =
     (g : Given) (k b c : ℕ) (cs : List ℕ)

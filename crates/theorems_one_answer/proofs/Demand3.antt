@@ -1,5 +1,5 @@
--- Demand 3 speaks of the proved contracts: what it says of a call is what the contract of the function promises, so it holds of any two
--- runs of the cut. Assumes nothing.
+-- Demand 3 speaks of the proved contracts: what it says of a call is what the contract of the
+-- function promises, so it holds of any two runs of the cut. Assumes nothing.
 use Prim.Native.Nat.{ℕ}
 use mathlib.Core.Path.{_≡_, sym, _∙_, ap, subst}
 use mathlib.Core.List.{List}

@@ -15,8 +15,9 @@ use Rattle.newmm_answers.specs.Calls.{Call}
 use Rattle.theorems_demands.specs.Demand3.{Reached}
 use Rattle.theorems_demands.specs.Ends.{Wrote}
 
--- A run of `newmm::cut`: its arguments, what it answered, the lent rows when it returned, and what the check has proved of it. The check
--- makes `cut-kinds` from the function's signature and `cut-contract` from its `ensures`.
+-- A run of `newmm::cut`: its arguments, what it answered, the lent rows when it returned, and what
+-- the check has proved of it. The check makes `cut-kinds` from the function's signature and
+-- `cut-contract` from its `ensures`.
 pub record Run : Type 0 where
   pub lifetimes : Lfts 4
   pub arguments : Dens lifetimes cut-kinds.ps
@@ -39,8 +40,9 @@ callOf r =
 abbrev pub outLeft : Run → List ℕ
 outLeft r = r .rows .1 .1 .0 .now
 
--- Two runs with the same text and mode. If one answers with ends, and the other has 9n+128 cells of scratch and room for those ends, then
--- the other answers too, with the same number of ends, the same edge count and the same ends.
+-- Two runs with the same text and mode. If one answers with ends, and the other has 9n+128 cells of
+-- scratch and room for those ends, then the other answers too, with the same number of ends, the
+-- same edge count and the same ends.
 abbrev pub SameAnswers : Run → Run → Type 0
 SameAnswers a b =
     callOf a .text ≡ callOf b .text
@@ -69,6 +71,7 @@ Demand3OfRuns =
     → ((x : List ℕ) → v x ≡ w x)
     → SameAnswers a b
 
--- What a run that answered with n ends wrote: they rise strictly to the text's length, and in plain mode they are the ends of tokens.
+-- What a run that answered with n ends wrote: they rise strictly to the text's length, and in plain
+-- mode they are the ends of tokens.
 abbrev pub EndsOfRuns : Type 0
 EndsOfRuns = (r : Run) (n edges : ℕ) → r .answer ≡ Ends n edges → Wrote (callOf r) n (outLeft r)

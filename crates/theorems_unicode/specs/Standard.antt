@@ -7,7 +7,8 @@ use lib.ListN.{length, take}
 use Rattle.utf8.specs.Utf8.{Utf8}
 use Rattle.utf8.specs.Decoding.{runAll, scalarsOf}
 
--- The bytes that a run takes lie within the text, are well-formed UTF-8 and encode its scalars; a run that is whole takes them all.
+-- The bytes that a run takes lie within the text, are well-formed UTF-8 and encode its scalars; a
+-- run that is whole takes them all.
 pub record Taken (s : List ℕ) : Type 0 where
   pub inside : runAll s .taken ≤ length s
   pub prefix : Utf8 (take (runAll s .taken) s) (scalarsOf s)
