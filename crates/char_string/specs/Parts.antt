@@ -1,5 +1,5 @@
 -- Sub-texts: a part of the caller's text, and a view with a start and an end.
-use Prim.Native.Nat.{ℕ, _+_, _-_, _*_}
+use Prim.Native.Nat.{ℕ, _+_, _-_, _*_, _≤_}
 use mathlib.Core.Bool.{Bool, cond, _&&_}
 use mathlib.Core.List.{List}
 use lib.ListN.{length, getD, take, drop}
@@ -11,6 +11,11 @@ use Rattle.char_string.specs.declared.parts.CharAt.the-variants.{Scalar,
 -- A right pair of positions has start ≤ end ≤ n.
 abbrev pub rightPair : ℕ → ℕ → ℕ → Bool
 rightPair n start end = leb start end && leb end n
+
+-- the same of a view's start and end
+pub record Within (n : ℕ) (s : Span) : Type 0 where
+  pub order : s .start ≤ s .end
+  pub inside : s .end ≤ n
 
 -- A wrong pair of positions gives the empty part at the text's start: it is read as this pair.
 unfoldable pub fitted : ℕ → ℕ → ℕ → Span

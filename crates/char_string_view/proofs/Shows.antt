@@ -7,8 +7,8 @@ use lib.ListN.{length}
 use borrow.Author.Tests.{le-leb}
 use denote.Ref.{now, ptr}
 use Rattle.char_string.specs.declared.parts.Span.{Span}
-use Rattle.char_string.specs.Parts.{rightPair, fitted, between, partOf, cellAt, subView}
-use Rattle.char_string.proofs.Pairs.{Within, fit-right, within-fitted}
+use Rattle.char_string.specs.Parts.{Within, rightPair, fitted, between, partOf, cellAt, subView}
+use Rattle.char_string.proofs.Pairs.{fit-right, within-fitted}
 use Rattle.char_string.proofs.Views.{sub-view-shows}
 use Rattle.char_string_view.specs.declared.CharView.{CharView}
 use Rattle.char_string_view.specs.Views.{positions, shown, shownAt, subViewOf}

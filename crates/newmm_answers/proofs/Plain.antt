@@ -3,17 +3,11 @@ use Prim.Native.Nat.{ℕ, _*_, _≤_}
 use mathlib.Core.List.{List}
 use lib.ListN.{length}
 use Rattle.trie_pool.specs.Meaning.{Words}
-use Rattle.tcc.specs.Flags.{isEnd}
-use Rattle.newmm_rules.specs.Words.{Given}
-use Rattle.newmm_rules.proofs.Tokens.{Tokens}
+use Rattle.newmm_rules.specs.Tokens.{Tokens}
 use Rattle.newmm_rules.proofs.Result.{tokens, edges-most}
 use Rattle.newmm_rules.proofs.Climbing.{of-tokens}
 use Rattle.newmm_rules.proofs.Samples.{Right}
-use Rattle.newmm_answers.specs.Answers.{plainCut}
-
--- a text with its cluster ends, and the words held
-abbrev pub given : Words → List ℕ → Given
-given words text = record { text = text; isEnd = isEnd text; held = words }
+use Rattle.newmm_answers.specs.Answers.{given, plainCut}
 
 pub plain-tokens : (words : Words) (text : List ℕ) → Tokens (given words text) 0 (plainCut words text .ends) (length text)
 unfolding plainCut

@@ -11,6 +11,7 @@ use Rattle.refusal.specs.Answers.{Cause, answer, output}
 use Rattle.trie_pool.specs.Meaning.{Words}
 use Rattle.trie_check.specs.Refusals.{held, readCauses}
 use Rattle.tcc.specs.Flags.{isEnd}
+use Rattle.newmm_rules.specs.Words.{Given}
 use Rattle.newmm_rules.specs.Cutting.{Cut, cut}
 use Rattle.newmm_rules.specs.declared.Mode.{Mode}
 use Rattle.newmm_rules.specs.Modes.{segmented}
@@ -18,9 +19,13 @@ use Rattle.newmm_answers.specs.declared.CutAnswer.{CutAnswer}
 use Rattle.newmm_answers.specs.declared.CutAnswer.the-variants.{Ends}
 use Rattle.newmm_answers.specs.declared.CutAnswer.the-variants as variants
 
--- the plain cut of a text by itself, with its own clusters
+-- a text with its own cluster ends, and the words held
+abbrev pub given : Words → List ℕ → Given
+given words text = record { text = text; isEnd = isEnd text; held = words }
+
+-- the plain cut of a text by itself
 unfoldable pub plainCut : Words → List ℕ → Cut
-plainCut words text = cut (record { text = text; isEnd = isEnd text; held = words })
+plainCut words text = cut (given words text)
 
 -- the ends and the edge count of a text by the words that are held, in a mode
 unfoldable pub cutOf : Mode → Words → List ℕ → Cut

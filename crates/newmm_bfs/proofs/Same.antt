@@ -7,9 +7,8 @@ use mathlib.Core.Logic.{⊎-elim}
 use mathlib.Core.List.{List, [], _∷_, _++_, List·Memᴰ·head, List·Memᴰ·tail, List·Memᴰ·append-cases, List·Memᴰ·eq-of-singleton}
 use lib.Dec.{eqb}
 use borrow.Author.Tests.{eqb-false}
-use Rattle.newmm_rules.specs.Positions.{member}
+use Rattle.newmm_rules.specs.Positions.{member, In}
 use Rattle.newmm_rules.specs.Search.{Graph, Way, farther, Queue, queued, Passed, reached, onward, passed, after, searched, pathTo}
-use Rattle.newmm_rules.proofs.Positions.{In}
 
 module _ (G H : Graph) (a goal : ℕ) (same : (v : ℕ) → a ≤ v → v < goal → G v ≡ H v) (spans : (v y : ℕ) → a ≤ v → v < goal → In y (G v) → (a ≤ y) × (y ≤ goal)) where
   -- the ways that wait end before the goal

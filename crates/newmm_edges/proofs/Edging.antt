@@ -9,9 +9,9 @@ use mathlib.Core.List.{List, [], _∷_, _++_, append-nil, List·Memᴰ·head, Li
 use lib.ListN.{length, getD}
 use lib.Dec.{eqb}
 use borrow.Author.Tests.{eqb-true, eqb-false, eq-eqb, ne-eqb}
-use Rattle.newmm_rules.specs.Positions.{any, member, inserted}
+use Rattle.newmm_rules.specs.Positions.{any, member, inserted, In}
 use Rattle.newmm_rules.specs.Cutting.{State, recorded, graphOf}
-use Rattle.newmm_rules.proofs.Positions.{In, not-in, put-only, put-size}
+use Rattle.newmm_rules.proofs.Positions.{not-in, put-only, put-size}
 use Rattle.newmm_rules.proofs.Edges.{graph-more, one-more, one-counted}
 use Rattle.newmm_bfs.specs.inner.Strips.{Sized, graphIn}
 use Rattle.newmm_edges.specs.declared.Progress.{Progress}

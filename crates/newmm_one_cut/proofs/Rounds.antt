@@ -10,17 +10,17 @@ use lib.ListN.{length, getD, set, take, drop, length-set, length-append, length-
 use lib.Seq.{getD-set-same, getD-set-other, take-set-le, drop-set-lt, take-suc-set, take-take, getD-take, getD-drop, length-take-le}
 use lib.Dec.{eqb}
 use borrow.Author.Tests.{eq-eqb, ne-eqb, eqb-true, eqb-false}
-use Rattle.newmm_rules.specs.Positions.{any, member}
+use Rattle.newmm_rules.specs.Positions.{any, member, In, Rises, none, next}
 use Rattle.newmm_rules.specs.Words.{Given, size, wordEnds}
 use Rattle.newmm_rules.specs.NonDictionary.{tokenEnd}
 use Rattle.newmm_rules.specs.Search.{pathTo}
-use Rattle.newmm_rules.specs.Cutting.{State, begin, graphOf, commit, settled, takenOut, turn, turns}
-use Rattle.newmm_rules.proofs.Positions.{In, Rises, none, next, at-least, member-in, in-member, not-in}
+use Rattle.newmm_rules.specs.Cutting.{State, begin, graphOf, commit, settled, takenOut, step1, turn, turns}
+use Rattle.newmm_rules.proofs.Positions.{at-least, member-in, in-member, not-in}
 use Rattle.newmm_rules.proofs.Spans.{word-spans, token-spans}
 use Rattle.newmm_rules.proofs.Edges.{graph-in, few-stand}
 use Rattle.newmm_rules.proofs.Tokens.{few-tokens}
 use Rattle.newmm_rules.proofs.Recording.{Placing}
-use Rattle.newmm_rules.proofs.Turns.{Between, Turned, afterWords, At, turn-at}
+use Rattle.newmm_rules.proofs.Turns.{Between, Turned, At, turn-at}
 use Rattle.newmm_bfs.specs.inner.Strips.{Sized, graphIn, before, Edges, Start, Path}
 use Rattle.newmm_bfs.proofs.Strips.{above-same, drop-same}
 use Rattle.newmm_bfs.proofs.Same.{path-same}
@@ -132,7 +132,7 @@ module _ {text pool row : List ℕ} {m b committed ends : ℕ} {p : Progress} (r
     at-b = subst (λ (x : ℕ). At g (r .s) x cs) (sym (r .b-is)) (turn-at (r .between) (omega (arith, r .b-is)))
 
     abbrev s₁ : State
-    s₁ = afterWords g (r .s) b cs
+    s₁ = step1 g b cs (r .s)
 
     -- no edge from b stands yet
     no-edge : (l : List ℕ) → l ≡ graphOf (r .s .edges) b → l ≡ []

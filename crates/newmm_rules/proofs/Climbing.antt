@@ -5,9 +5,10 @@ use mathlib.Core.Path.{_≡_, refl, sym, _∙_, ap}
 use mathlib.Core.List.{List, [], _∷_, _++_}
 use lib.ListN.{length, getD}
 use Rattle.newmm_rules.specs.Words.{Given}
-use Rattle.newmm_rules.proofs.Positions.{Rises, none, next}
-use Rattle.newmm_rules.proofs.Tokens.{Tokens, stop, then, spans}
-use Rattle.newmm_rules.specs.Climbing.{Climbs, there, up}
+use Rattle.newmm_rules.specs.Positions.{Rises, none, next}
+use Rattle.newmm_rules.specs.Tokens.{Tokens, stop, then}
+use Rattle.newmm_rules.proofs.Tokens.{spans}
+use Rattle.newmm_rules.specs.inner.Climbing.{Climbs, there, up}
 use Rattle.newmm_rules.specs.Modes.{shifted}
 
 pub onward : {a z : ℕ} {es : List ℕ} → Climbs a es z → a ≤ z

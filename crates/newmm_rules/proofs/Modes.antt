@@ -11,7 +11,7 @@ use Rattle.newmm_rules.specs.declared.Mode.{Mode}
 use Rattle.newmm_rules.specs.declared.Mode.the-variants.{Plain, Safe}
 use Rattle.newmm_rules.specs.Parts.{Cutter, runsOf}
 use Rattle.newmm_rules.specs.Modes.{joined, inParts, unshifted, segmented}
-use Rattle.newmm_rules.specs.Climbing.{Climbs}
+use Rattle.newmm_rules.specs.inner.Climbing.{Climbs}
 use Rattle.newmm_rules.proofs.Samples.{Fits, Right}
 use Rattle.newmm_rules.proofs.Parts.{made-up, parts-climb, glued}
 

@@ -11,7 +11,7 @@ use borrow.Author.Tests.{ltb-false}
 use Rattle.char_string.specs.Blanks.{lastSpace}
 use Rattle.newmm_rules.specs.Parts.{Cutter, sampleOf, cutAt, sampled, Runs, lastPart, onePart, first, runsOf}
 use Rattle.newmm_rules.specs.Modes.{shifted, partEnds}
-use Rattle.newmm_rules.specs.Climbing.{Climbs, there}
+use Rattle.newmm_rules.specs.inner.Climbing.{Climbs, there}
 use Rattle.newmm_rules.proofs.Climbing.{behind, shift}
 use Rattle.newmm_rules.proofs.Samples.{Fits, Right, cut-inside}
 

@@ -4,19 +4,11 @@ use native.Mathlib.Omega.{arith}
 use mathlib.Core.Path.{_≡_, refl, sym, _∙_, ap}
 use mathlib.Core.Bool.{Bool, true, false, cond, _||_}
 use mathlib.Core.Logic.{_⊎_, inl, inr, ⊎-elim}
-use mathlib.Core.List.{List, [], _∷_, List·Memᴰ, List·Memᴰ·head, List·Memᴰ·tail, List·Memᴰ·cases-cons, List·Memᴰ·not-nil}
+use mathlib.Core.List.{List, [], _∷_, List·Memᴰ·head, List·Memᴰ·tail, List·Memᴰ·cases-cons, List·Memᴰ·not-nil}
 use lib.ListN.{length}
 use lib.Dec.{ltb, eqb}
 use borrow.Author.Tests.{eqb-true, eqb-false, eq-eqb, ltb-true, ltb-false}
-use Rattle.newmm_rules.specs.Positions.{upFrom, keep, those, firstOr, any, member, inserted}
-
-abbrev pub In {ℓ} : {A : Type ℓ} → A → List A → Type ℓ
-In x xs = List·Memᴰ x xs
-
--- positions that rise, the first of them at least low
-pub data Rises : ℕ → List ℕ → Type 0 where
-  none : {low : ℕ} → Rises low []
-  next : {low x : ℕ} {xs : List ℕ} → low ≤ x → Rises (suc x) xs → Rises low (x ∷ xs)
+use Rattle.newmm_rules.specs.Positions.{upFrom, keep, those, firstOr, any, member, inserted, In, Rises, none, next}
 
 pub at-least : {low x : ℕ} {xs : List ℕ} → Rises low xs → In x xs → low ≤ x
 at-least none m = absurd (List·Memᴰ·not-nil m)

@@ -7,23 +7,24 @@ use mathlib.Core.Logic.{_⊎_, inr, ⊎-elim}
 use mathlib.Core.List.{List, [], _∷_, _++_, List·Memᴰ·head, List·Memᴰ·tail, List·Memᴰ·cases-cons, List·Memᴰ·append-cases, List·Memᴰ·not-nil, List·Memᴰ·eq-of-singleton, Memᴰ·cast, Memᴰ·append-right}
 use lib.ListN.{length}
 use lib.Dec.{ltb}
-use Rattle.newmm_rules.specs.Positions.{member, inserted}
+use Rattle.newmm_rules.specs.Positions.{member, inserted, In, Rises, none}
 use Rattle.newmm_rules.specs.Words.{Given, size, wordEnds}
 use Rattle.newmm_rules.specs.Cutting.{Edge, State, recorded, recordedAll, graphOf}
-use Rattle.newmm_rules.proofs.Positions.{In, Rises, none, member-in, put-rises, put-in, put-keeps, put-only}
+use Rattle.newmm_rules.proofs.Positions.{member-in, put-rises, put-in, put-keeps, put-only}
 use Rattle.newmm_rules.proofs.Spans.{word-spans}
 use Rattle.newmm_rules.proofs.Search.{Reach, here, edge}
 use Rattle.newmm_rules.proofs.Edges.{edgeOf, in-graph, reach-more}
 
--- an edge that stands leads from a place below low, at or above the committed end, along a word that ends at a cluster end
+-- an edge that stands leads from a place below low, at or above the committed end, along a word
+-- that ends at a cluster end
 pub record Stands (g : Given) (low : ℕ) (s : State) (x y : ℕ) : Type 0 where
   pub after : s .committed ≤ x
   pub before : x < low
   pub word : In y (wordEnds g x)
   pub known : In y (s .known)
 
--- The places below low are handled: the candidates left lie at or above it, are all of those there that ever were candidates, and edges lead
--- to each from the committed end.
+-- The places below low are handled: the candidates left lie at or above it, are all of those there
+-- that ever were candidates, and edges lead to each from the committed end.
 pub record Handled (g : Given) (low : ℕ) (s : State) : Type 0 where
   pub rises : Rises low (s .candidates)
   pub inside : (x : ℕ) → In x (s .candidates) → x ≤ size g
@@ -127,7 +128,8 @@ module _ (g : Given) (b e : ℕ) (s : State) (w : In e (wordEnds g b)) (p : Plac
         order = p .order;
       }
 
--- the words at b recorded: the candidates stay, and none is left only where there were none and no word was there
+-- the words at b recorded: the candidates stay, and none is left only where there were none and no
+-- word was there
 pub record Placed (g : Given) (b : ℕ) (ws : List ℕ) (s s′ : State) : Type 0 where
   pub placing : Placing g b s′
   pub keeps : (x : ℕ) → In x (s .candidates) → In x (s′ .candidates)

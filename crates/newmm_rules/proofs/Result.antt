@@ -7,8 +7,10 @@ use mathlib.Core.List.{List, [], _∷_, List·Memᴰ·head, List·Memᴰ·tail}
 use lib.ListN.{length, getD}
 use Rattle.newmm_rules.specs.Words.{Given, size}
 use Rattle.newmm_rules.specs.Cutting.{State, begin, turn, turns, cut}
-use Rattle.newmm_rules.proofs.Positions.{In, Rises, at-least}
-use Rattle.newmm_rules.proofs.Tokens.{Tokens, rising, last-is, few-tokens, none-here}
+use Rattle.newmm_rules.specs.Positions.{In, Rises}
+use Rattle.newmm_rules.proofs.Positions.{at-least}
+use Rattle.newmm_rules.specs.Tokens.{Tokens}
+use Rattle.newmm_rules.proofs.Tokens.{rising, last-is, few-tokens, none-here}
 use Rattle.newmm_rules.proofs.Turns.{Between, at-first, turn-on, turn-off, rest-rises}
 
 -- no candidate below n is left
@@ -47,8 +49,9 @@ module _ (g : Given) where
       let e = last .sole (no-rest (last .rest) refl) in
       omega (arith, inside (last .least) (List·Memᴰ·head refl), at-end .through, e)
 
-  -- EVERY TOKEN is a held word that ends at a cluster end, or exactly the span of the non-dictionary rule at its start, where no such word
-  -- starts; the first starts at 0, each other where the one before it ends, and the last ends at n.
+  -- EVERY TOKEN is a held word that ends at a cluster end, or exactly the span of the
+  -- non-dictionary rule at its start, where no such word starts; the first starts at 0, each other
+  -- where the one before it ends, and the last ends at n.
   pub tokens : Tokens g 0 (cut g .ends) (size g)
   unfolding cut
   tokens = subst (λ (z : ℕ). Tokens g 0 (turns (size g) g begin .ends) z) committed-end (last .tokens)

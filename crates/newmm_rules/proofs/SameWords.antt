@@ -1,4 +1,5 @@
--- Equal words, equal answers: a cut depends on the dictionary only through which words it holds. Assumes nothing.
+-- Equal words, equal answers: a cut depends on the dictionary only through which words it holds.
+-- Assumes nothing.
 use Prim.Native.Nat.{ℕ}
 use mathlib.Core.Path.{_≡_}
 use mathlib.Core.Bool.{Bool}

@@ -15,7 +15,7 @@ use Rattle.char_string.specs.declared.blanks.Found.the-variants.{At, Nothing}
 use Rattle.char_string.specs.Blanks.{isSpace, before, lastSpace}
 use Rattle.newmm_rules.specs.Longest.{lengths, longest, beforeLongest}
 use Rattle.newmm_rules.specs.Parts.{Cutter, sampleOf, cutFor, cutAt}
-use Rattle.newmm_rules.specs.Climbing.{Climbs, there, up}
+use Rattle.newmm_rules.specs.inner.Climbing.{Climbs, there, up}
 use Rattle.newmm_rules.proofs.Climbing.{onward, no-ends}
 
 none-longest : (e : ℕ) → longest (lengths e []) ≡ 0
@@ -44,7 +44,8 @@ starts-inside {a} {z} (up {e = e} {es = es} h r) k = one-more a e z es h (λ q. 
 sample-long : (rest : List ℕ) → 140 ≤ length rest → length (sampleOf rest) ≡ 40
 sample-long rest h = length-take-le 40 (drop 100 rest) (omega (arith, length-drop 100 rest))
 
--- what a mode may ask of its space cut: a part has a character or more, and no more than the sample reaches
+-- what a mode may ask of its space cut: a part has a character or more, and no more than the sample
+-- reaches
 pub record Fits (spaceCut : ℕ → ℕ) : Type 0 where
   pub some : (i : ℕ) → i < 40 → 0 < spaceCut i
   pub inside : (i : ℕ) → i < 40 → spaceCut i ≤ 140

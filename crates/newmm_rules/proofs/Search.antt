@@ -1,4 +1,5 @@
--- The search finds the goal wherever edges lead to it, and what it finds is a way along edges. Assumes nothing.
+-- The search finds the goal wherever edges lead to it, and what it finds is a way along edges.
+-- Assumes nothing.
 use Prim.Native.Nat.{ℕ, zero, suc, _+_, _-_, _≤_, _<_}
 use native.Mathlib.Omega.{arith}
 use mathlib.Core.Path.{_≡_, refl, sym, _∙_, ap, subst}
@@ -8,15 +9,10 @@ use mathlib.Core.List.{List, [], _∷_, _++_, List·Memᴰ·head, List·Memᴰ·
 use lib.ListN.{length, length-append}
 use lib.Dec.{eqb}
 use borrow.Author.Tests.{eqb-true, eqb-false, eq-eqb, ne-eqb}
-use Rattle.newmm_rules.specs.Positions.{howMany, any, member}
-use Rattle.newmm_rules.specs.Search.{Graph, Way, farther, Queue, queued, Passed, reached, onward, passed, after, searched, pathTo}
+use Rattle.newmm_rules.specs.Positions.{howMany, any, member, In}
+use Rattle.newmm_rules.specs.Search.{Graph, Way, farther, Queue, queued, Passed, reached, onward, passed, after, searched, pathTo, Chain, stay, along}
 use Rattle.newmm_rules.proofs.Counting.{one-fewer, many-most}
-use Rattle.newmm_rules.proofs.Positions.{In, member-in}
-
--- the vertices after a on a way along edges to z
-pub data Chain (graph : Graph) : ℕ → List ℕ → ℕ → Type 0 where
-  stay : {a : ℕ} → Chain graph a [] a
-  along : {a x z : ℕ} {xs : List ℕ} → In x (graph a) → Chain graph x xs z → Chain graph a (x ∷ xs) z
+use Rattle.newmm_rules.proofs.Positions.{member-in}
 
 -- one edge more at the end
 pub chain-on : {graph : Graph} {a x z : ℕ} {xs : List ℕ} → Chain graph a xs x → In z (graph x) → Chain graph a (xs ++ (z ∷ [])) z

@@ -1,4 +1,5 @@
--- Where words and tokens of the non-dictionary rule end: behind their start, and within the text. Assumes nothing.
+-- Where words and tokens of the non-dictionary rule end: behind their start, and within the text.
+-- Assumes nothing.
 use Prim.Native.Nat.{ℕ, zero, suc, _+_, _-_, _≤_, _<_, min}
 use native.Mathlib.Omega.{arith}
 use mathlib.Core.Path.{_≡_, refl}
@@ -10,11 +11,11 @@ use lib.Dec.{eqb}
 use borrow.Author.Tests.{eqb-false}
 use Rattle.lists.specs.Scans.{leading}
 use Rattle.lists.proofs.Scans.{leading-inside}
-use Rattle.newmm_rules.specs.Positions.{upFrom}
+use Rattle.newmm_rules.specs.Positions.{upFrom, In, Rises}
 use Rattle.newmm_rules.specs.NonThai.{isLetter, isDigit, isThaiDigit, isPoint, isBlank, groupOf, groups, number, lineEnd, firstMatch, nonThai}
 use Rattle.newmm_rules.specs.Words.{Given, size, isWord, wordEnds}
 use Rattle.newmm_rules.specs.NonDictionary.{nonThaiAt, stopsAt, skipEnd, tokenEnd}
-use Rattle.newmm_rules.proofs.Positions.{In, Rises, those-in, those-rise, up-in, up-rises, first-in}
+use Rattle.newmm_rules.proofs.Positions.{those-in, those-rise, up-in, up-rises, first-in}
 
 module _ (g : Given) (b : ℕ) where
   pub word-spans : (e : ℕ) → In e (wordEnds g b) → (b < e) × (e ≤ size g)

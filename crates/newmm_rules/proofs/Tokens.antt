@@ -5,21 +5,10 @@ use mathlib.Core.Path.{_≡_, refl, _∙_, ap}
 use mathlib.Core.List.{List, [], _∷_, _++_}
 use lib.ListN.{length, getD}
 use Rattle.newmm_rules.specs.Words.{Given, size, wordEnds}
-use Rattle.newmm_rules.specs.NonDictionary.{tokenEnd}
-use Rattle.newmm_rules.specs.Search.{Graph}
-use Rattle.newmm_rules.proofs.Positions.{In, Rises, none, next}
+use Rattle.newmm_rules.specs.Positions.{In, Rises, none, next}
+use Rattle.newmm_rules.specs.Search.{Graph, Chain, stay, along}
+use Rattle.newmm_rules.specs.Tokens.{Token, word, other, Tokens, stop, then}
 use Rattle.newmm_rules.proofs.Spans.{word-spans, token-spans}
-use Rattle.newmm_rules.proofs.Search.{Chain, stay, along}
-
--- A token from b to e is a held word that ends at a cluster end; or no such word starts at b, and it is the non-dictionary rule's.
-pub data Token (g : Given) (b e : ℕ) : Type 0 where
-  word : In e (wordEnds g b) → Token g b e
-  other : wordEnds g b ≡ [] → b < size g → e ≡ tokenEnd g b → Token g b e
-
--- the ends of tokens, each of which starts where the one before it ends: from a to z
-pub data Tokens (g : Given) : ℕ → List ℕ → ℕ → Type 0 where
-  stop : {a : ℕ} → Tokens g a [] a
-  then : {a e z : ℕ} {es : List ℕ} → Token g a e → Tokens g e es z → Tokens g a (e ∷ es) z
 
 pub spans : {g : Given} {b e : ℕ} → Token g b e → (b < e) × (e ≤ size g)
 spans {g} {b} {e} (word m) = word-spans g b e m

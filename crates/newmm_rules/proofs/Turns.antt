@@ -9,17 +9,20 @@ use lib.ListN.{length}
 use borrow.Author.Tests.{lt-ltb, le-ltb}
 use Rattle.newmm_rules.specs.Words.{Given, size, wordEnds}
 use Rattle.newmm_rules.specs.NonDictionary.{tokenEnd}
-use Rattle.newmm_rules.specs.Search.{pathTo}
-use Rattle.newmm_rules.specs.Cutting.{State, begin, recordedAll, graphOf, commit, settled, takenOut, turn}
-use Rattle.newmm_rules.proofs.Positions.{In, Rises, none, next, at-least}
+use Rattle.newmm_rules.specs.Search.{pathTo, Chain}
+use Rattle.newmm_rules.specs.Cutting.{State, begin, graphOf, commit, settled, takenOut, step1, turn}
+use Rattle.newmm_rules.specs.Positions.{In, Rises, none, next}
+use Rattle.newmm_rules.proofs.Positions.{at-least}
 use Rattle.newmm_rules.proofs.Spans.{word-spans, token-spans}
-use Rattle.newmm_rules.proofs.Search.{Chain, Reach, here, Within, path-found}
+use Rattle.newmm_rules.proofs.Search.{Reach, here, Within, path-found}
 use Rattle.newmm_rules.proofs.Edges.{graph-in, few-stand, each-counted}
-use Rattle.newmm_rules.proofs.Tokens.{Tokens, other, stop, then, behind, chained}
+use Rattle.newmm_rules.specs.Tokens.{Tokens, other, stop, then}
+use Rattle.newmm_rules.proofs.Tokens.{behind, chained}
 use Rattle.newmm_rules.proofs.Recording.{Handled, Placing, Placed, placed}
 
--- Between turns: the places below the least candidate are handled; a sole candidate is the committed end; edges and their count keep within
--- their bounds; and the ends so far are tokens from 0 to the committed end.
+-- Between turns: the places below the least candidate are handled; a sole candidate is the
+-- committed end; edges and their count keep within their bounds; and the ends so far are tokens
+-- from 0 to the committed end.
 pub record Between (g : Given) (s : State) : Type 0 where
   pub least : ℕ
   pub rest : List ℕ
@@ -62,7 +65,7 @@ pub record Turned (g : Given) (b : ℕ) (s : State) : Type 0 where
 module _ (g : Given) (s : State) (b : ℕ) (cs : List ℕ) (is : s .candidates ≡ b ∷ cs) (below : b < size g) (h : Handled g b s) (order : s .committed ≤ b)
     (sole : cs ≡ [] → s .committed ≡ b) (few : length (s .edges) ≤ 50 + (b - s .committed)) (total : s .count ≤ 51 * b) (tokens : Tokens g 0 (s .ends) (s .committed)) where
   abbrev after : State
-  after = recordedAll b (wordEnds g b) (takenOut cs s)
+  after = step1 g b cs s
 
   all-in : (x : ℕ) → In x (b ∷ cs) → In x (s .candidates)
   all-in x m = subst (λ (l : List ℕ). In x l) (sym is) m
@@ -83,8 +86,8 @@ module _ (g : Given) (s : State) (b : ℕ) (cs : List ℕ) (is : s .candidates �
         order = order;
       }
 
-  step1 : Placed g b (wordEnds g b) (takenOut cs s) after
-  step1 = placed g b (wordEnds g b) (takenOut cs s) (λ e m. m) taken-out
+  words-placed : Placed g b (wordEnds g b) (takenOut cs s) after
+  words-placed = placed g b (wordEnds g b) (takenOut cs s) (λ e m. m) taken-out
 
   count-most : after .count ≤ 51 * (b + 1)
   count-most = omega (arith, each-counted b (wordEnds g b) (takenOut cs s), few-stand b (length (s .edges)) (wordEnds g b) (takenOut cs s) (omega arith))
@@ -96,20 +99,20 @@ module _ (g : Given) (s : State) (b : ℕ) (cs : List ℕ) (is : s .candidates �
 
     no-rest : (l : List ℕ) → l ≡ cs → l ≡ []
     no-rest [] e = refl
-    no-rest (c ∷ l) e = absurd (none-left c (step1 .keeps c (subst (λ (k : List ℕ). In c k) e (List·Memᴰ·head refl))))
+    no-rest (c ∷ l) e = absurd (none-left c (words-placed .keeps c (subst (λ (k : List ℕ). In c k) e (List·Memᴰ·head refl))))
 
     pub committed-is : s .committed ≡ b
     committed-is = sole (no-rest cs refl)
 
     no-words : (l : List ℕ) → l ≡ wordEnds g b → l ≡ []
     no-words [] e = refl
-    no-words (c ∷ l) e = absurd (let w = step1 .some c (subst (λ (k : List ℕ). In c k) e (List·Memᴰ·head refl)) in none-left (w .0) (w .1))
+    no-words (c ∷ l) e = absurd (let w = words-placed .some c (subst (λ (k : List ℕ). In c k) e (List·Memᴰ·head refl)) in none-left (w .0) (w .1))
 
     pub no-word : wordEnds g b ≡ []
     no-word = no-words (wordEnds g b) refl
 
     token : Tokens g (after .committed) (tokenEnd g b ∷ []) (tokenEnd g b)
-    token = subst (λ (z : ℕ). Tokens g z (tokenEnd g b ∷ []) (tokenEnd g b)) (sym (step1 .committed ∙ committed-is)) (then (other no-word below refl) stop)
+    token = subst (λ (z : ℕ). Tokens g z (tokenEnd g b ∷ []) (tokenEnd g b)) (sym (words-placed .committed ∙ committed-is)) (then (other no-word below refl) stop)
 
   -- tokens up to e are committed
   to-end : (path : List ℕ) (e : ℕ) → b < e → e ≤ size g → ((x : ℕ) → In x (after .known) → e ≤ x → x ≡ e) → Tokens g (after .committed) path e → Turned g b (commit path e after)
@@ -130,7 +133,7 @@ module _ (g : Given) (s : State) (b : ℕ) (cs : List ℕ) (is : s .candidates �
           sole = λ q. refl;
           few = omega arith;
           total = omega (arith, count-most);
-          tokens = behind (subst (λ (xs : List ℕ). Tokens g 0 xs (after .committed)) (sym (step1 .ends)) (subst (λ (z : ℕ). Tokens g 0 (s .ends) z) (sym (step1 .committed)) tokens)) t;
+          tokens = behind (subst (λ (xs : List ℕ). Tokens g 0 xs (after .committed)) (sym (words-placed .ends)) (subst (λ (z : ℕ). Tokens g 0 (s .ends) z) (sym (words-placed .committed)) tokens)) t;
         };
         on = k;
       }
@@ -138,9 +141,10 @@ module _ (g : Given) (s : State) (b : ℕ) (cs : List ℕ) (is : s .candidates �
   step3 : after .candidates ≡ [] → Turned g b (commit (tokenEnd g b ∷ []) (tokenEnd g b) after)
   step3 e =
       let t = token-spans g b below in
-      to-end (tokenEnd g b ∷ []) (tokenEnd g b) (t .0) (t .1) (λ x m k. absurd (none-left e x (step1 .placing .handled .left x m (omega (arith, t .0))))) (token e)
+      to-end (tokenEnd g b ∷ []) (tokenEnd g b) (t .0) (t .1) (λ x m k. absurd (none-left e x (words-placed .placing .handled .left x m (omega (arith, t .0))))) (token e)
 
-  -- THE PATH SEARCH NEVER FAILS: edges that stand lead from the committed end to the sole candidate.
+  -- THE PATH SEARCH NEVER FAILS: edges that stand lead from the committed end to the sole
+  -- candidate.
   module _ (c : ℕ) (only : after .candidates ≡ c ∷ []) where
     in-only : (x : ℕ) → In x (after .candidates) → x ≡ c
     in-only x m = List·Memᴰ·eq-of-singleton (subst (λ (l : List ℕ). In x l) only m)
@@ -149,30 +153,33 @@ module _ (g : Given) (s : State) (b : ℕ) (cs : List ℕ) (is : s .candidates �
     there = subst (λ (l : List ℕ). In c l) (sym only) (List·Memᴰ·head refl)
 
     c-above : b < c
-    c-above = at-least (step1 .placing .handled .rises) there
+    c-above = at-least (words-placed .placing .handled .rises) there
 
     c-known : (x : ℕ) → In x (after .known) → c ≤ x → x ≡ c
-    c-known x m k = in-only x (step1 .placing .handled .left x m (let d = c-above in omega arith))
+    c-known x m k = in-only x (words-placed .placing .handled .left x m (let d = c-above in omega arith))
 
     no-farther : (y : ℕ) → In y (after .known) → y ≤ c
     no-farther y m = elim (decLt y c) [ yes l ↦ omega arith | no n ↦ (let e = c-known y m (omega arith) in omega arith) ]
 
     within : Within (graphOf (after .edges)) (after .committed) c
     within x y m =
-        let st = step1 .placing .handled .edges x y (graph-in x y (after .edges) m) in
+        let st = words-placed .placing .handled .edges x y (graph-in x y (after .edges) m) in
         (omega (arith, st .after, word-spans g x y (st .word) .0), no-farther y (st .known))
 
+    pub path-on : after .committed < c
+    path-on = omega (arith, c-above, words-placed .placing .order)
+
     pub path : Chain (graphOf (after .edges)) (after .committed) (pathTo (graphOf (after .edges)) (after .committed) c) c
-    path = path-found within (omega (arith, c-above, step1 .placing .order)) (step1 .placing .handled .reach c there)
+    path = path-found within path-on (words-placed .placing .handled .reach c there)
 
     step2 : Turned g b (commit (pathTo (graphOf (after .edges)) (after .committed) c) c after)
     step2 =
-        to-end (pathTo (graphOf (after .edges)) (after .committed) c) c c-above (step1 .placing .handled .inside c there) c-known
-        (chained (λ x y m. step1 .placing .handled .edges x y (graph-in x y (after .edges) m) .word) path)
+        to-end (pathTo (graphOf (after .edges)) (after .committed) c) c c-above (words-placed .placing .handled .inside c there) c-known
+        (chained (λ x y m. words-placed .placing .handled .edges x y (graph-in x y (after .edges) m) .word) path)
 
   step4 : (c d : ℕ) (ds : List ℕ) → after .candidates ≡ c ∷ d ∷ ds → Turned g b after
   step4 c d ds e =
-      let p = step1 .placing .handled in
+      let p = words-placed .placing .handled in
       let k : b < c = at-least (p .rises) (subst (λ (l : List ℕ). In c l) (sym e) (List·Memᴰ·head refl)) in
       record {
         between = record {
@@ -186,11 +193,11 @@ module _ (g : Given) (s : State) (b : ℕ) (cs : List ℕ) (is : s .candidates �
             reach = p .reach;
             edges = λ x y m. let f = p .edges x y m in record { after = f .after; before = (let o = f .before in omega arith); word = f .word; known = f .known };
           };
-          order = (let o = step1 .placing .order in omega arith);
+          order = (let o = words-placed .placing .order in omega arith);
           sole = λ q. absurd (nil≢cons (sym q));
-          few = omega (arith, step1 .committed, step1 .placing .order, few-stand b (b - s .committed) (wordEnds g b) (takenOut cs s) few);
+          few = omega (arith, words-placed .committed, words-placed .placing .order, few-stand b (b - s .committed) (wordEnds g b) (takenOut cs s) few);
           total = omega (arith, count-most);
-          tokens = subst (λ (xs : List ℕ). Tokens g 0 xs (after .committed)) (sym (step1 .ends)) (subst (λ (z : ℕ). Tokens g 0 (s .ends) z) (sym (step1 .committed)) tokens);
+          tokens = subst (λ (xs : List ℕ). Tokens g 0 xs (after .committed)) (sym (words-placed .ends)) (subst (λ (z : ℕ). Tokens g 0 (s .ends) z) (sym (words-placed .committed)) tokens);
         };
         on = k;
       }
@@ -217,16 +224,13 @@ unfolding turn
 turn-off {g} {s} h k = ap (λ (l : List ℕ). turn g l s) (h .is) ∙ rw (le-ltb (h .least) (size g) k)
 
 -- What a turn at b comes to: the words there are recorded, and the candidates left decide.
-abbrev pub afterWords : Given → State → ℕ → List ℕ → State
-afterWords g s b cs = recordedAll b (wordEnds g b) (takenOut cs s)
-
 pub record At (g : Given) (s : State) (b : ℕ) (cs : List ℕ) : Type 0 where
   pub is : s .candidates ≡ b ∷ cs
   pub handled : Handled g b s
   pub order : s .committed ≤ b
-  pub placed-at : Placed g b (wordEnds g b) (takenOut cs s) (afterWords g s b cs)
-  pub turn-is : turn g (s .candidates) s ≡ settled g b (afterWords g s b cs .candidates) (afterWords g s b cs)
-  pub turned-to : Turned g b (settled g b (afterWords g s b cs .candidates) (afterWords g s b cs))
+  pub placed-at : Placed g b (wordEnds g b) (takenOut cs s) (step1 g b cs s)
+  pub turn-is : turn g (s .candidates) s ≡ settled g b (step1 g b cs s .candidates) (step1 g b cs s)
+  pub turned-to : Turned g b (settled g b (step1 g b cs s .candidates) (step1 g b cs s))
 
 pub turn-at : {g : Given} {s : State} (h : Between g s) → h .least < size g → At g s (h .least) (h .rest)
 unfolding turn
@@ -235,7 +239,7 @@ turn-at {g} {s} h k =
       is = h .is;
       handled = h .handled;
       order = h .order;
-      placed-at = step1 g s (h .least) (h .rest) (h .is) k (h .handled) (h .order) (h .sole) (h .few) (h .total) (h .tokens);
+      placed-at = words-placed g s (h .least) (h .rest) (h .is) k (h .handled) (h .order) (h .sole) (h .few) (h .total) (h .tokens);
       turn-is = ap (λ (l : List ℕ). turn g l s) (h .is) ∙ rw (lt-ltb (h .least) (size g) k);
-      turned-to = settles g s (h .least) (h .rest) (h .is) k (h .handled) (h .order) (h .sole) (h .few) (h .total) (h .tokens) (afterWords g s (h .least) (h .rest) .candidates) refl;
+      turned-to = settles g s (h .least) (h .rest) (h .is) k (h .handled) (h .order) (h .sole) (h .few) (h .total) (h .tokens) (step1 g (h .least) (h .rest) s .candidates) refl;
     }

@@ -12,7 +12,8 @@ use Rattle.newmm_rules.specs.Parts.{Cutter, Runs, runsOf}
 abbrev pub shifted : ℕ → List ℕ → List ℕ
 shifted by ends = map (λ (e : ℕ). by + e) ends
 
--- Every part is then cut plainly by itself. Each part's ends are written straight behind those of the part before, shifted to the whole text.
+-- Every part is then cut plainly by itself. Each part's ends are written straight behind those of
+-- the part before, shifted to the whole text.
 unfoldable pub partEnds : Cutter → ℕ → List (List ℕ) → List ℕ
 partEnds plain start [] = []
 partEnds plain start (part ∷ parts) = shifted start (plain part .ends) ++ partEnds plain (start + length part) parts
@@ -27,7 +28,8 @@ joined plain r = record { ends = partEnds plain 0 (r .parts); edges = edgesOf pl
 
 -- Below 140 characters: plain.
 unfoldable pub inParts : (ℕ → ℕ) → Cutter → List ℕ → Cut
-inParts spaceCut plain text = cond (ltb (length text) 140) (plain text) (joined plain (runsOf (length text) spaceCut plain text))
+inParts spaceCut plain text =
+    cond (ltb (length text) 140) (plain text) (joined plain (runsOf (length text) spaceCut plain text))
 
 -- Safe mode cuts at (index of the last space in the sample) + 1. The index isn't shifted by 100.
 abbrev pub unshifted : ℕ → ℕ

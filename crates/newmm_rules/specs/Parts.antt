@@ -18,8 +18,9 @@ Cutter = List ℕ → Cut
 abbrev pub sampleOf : List ℕ → List ℕ
 sampleOf rest = take 40 (drop 100 rest)
 
--- If it holds U+0020, cut the remaining text where the mode says for the index of the last one in the sample. Else cut the sample plainly; the cut is
--- 100 plus the lengths of the tokens before the longest one, the last of equals.
+-- If it holds U+0020, cut the remaining text where the mode says for the index of the last one in
+-- the sample. Else cut the sample plainly; the cut is 100 plus the lengths of the tokens before the
+-- longest one, the last of equals.
 abbrev pub cutFor : (ℕ → ℕ) → Cutter → List ℕ → Found → ℕ
 cutFor spaceCut plain sample (At i) = spaceCut i
 cutFor spaceCut plain sample Nothing = 100 + beforeLongest (lengths 0 (plain sample .ends))
@@ -48,9 +49,13 @@ onePart rest = record { samples = []; parts = lastPart rest }
 abbrev pub first : List (List ℕ) → List ℕ → Runs → Runs
 first sample part r = record { samples = sample ++ r .samples; parts = part ∷ r .parts }
 
--- While the remaining text has 140 or more. Each part has a character or more, so as many rounds are enough as there are characters.
+-- While the remaining text has 140 or more. Each part has a character or more, so as many rounds
+-- are enough as there are characters.
 unfoldable pub runsOf : ℕ → (ℕ → ℕ) → Cutter → List ℕ → Runs
 runsOf zero spaceCut plain rest = onePart rest
 runsOf (suc k) spaceCut plain rest =
     cond (ltb (length rest) 140) (onePart rest)
-    (first (sampled (sampleOf rest) (lastSpace (sampleOf rest))) (take (cutAt spaceCut plain rest) rest) (runsOf k spaceCut plain (drop (cutAt spaceCut plain rest) rest)))
+    (first
+    (sampled (sampleOf rest) (lastSpace (sampleOf rest)))
+    (take (cutAt spaceCut plain rest) rest)
+    (runsOf k spaceCut plain (drop (cutAt spaceCut plain rest) rest)))

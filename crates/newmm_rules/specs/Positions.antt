@@ -1,7 +1,7 @@
 -- Rows of positions.
-use Prim.Native.Nat.{ℕ, zero, suc}
+use Prim.Native.Nat.{ℕ, zero, suc, _≤_}
 use mathlib.Core.Bool.{Bool, true, false, cond, _||_}
-use mathlib.Core.List.{List, [], _∷_}
+use mathlib.Core.List.{List, [], _∷_, List·Memᴰ}
 use lib.ListN.{length}
 use lib.Dec.{ltb, eqb}
 
@@ -41,3 +41,12 @@ member p xs = any (eqb p) xs
 unfoldable pub inserted : ℕ → List ℕ → List ℕ
 inserted p [] = p ∷ []
 inserted p (x ∷ xs) = cond (ltb p x) (p ∷ x ∷ xs) (cond (eqb p x) (x ∷ xs) (x ∷ inserted p xs))
+
+-- x stands in the row
+abbrev pub In {ℓ} : {A : Type ℓ} → A → List A → Type ℓ
+In x xs = List·Memᴰ x xs
+
+-- positions that rise strictly, the first of them at least low
+pub data Rises : ℕ → List ℕ → Type 0 where
+  none : {low : ℕ} → Rises low []
+  next : {low x : ℕ} {xs : List ℕ} → low ≤ x → Rises (suc x) xs → Rises low (x ∷ xs)

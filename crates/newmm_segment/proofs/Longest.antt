@@ -8,7 +8,7 @@ use lib.ListN.{length, getD, drop, drop-of-length-le}
 use lib.Seq.{drop-cons}
 use lib.Dec.{leb}
 use borrow.Author.Tests.{leb-true, leb-false, le-leb, lt-leb}
-use Rattle.newmm_rules.specs.Climbing.{Climbs, there, up}
+use Rattle.newmm_rules.specs.inner.Climbing.{Climbs, there, up}
 use Rattle.newmm_rules.specs.Longest.{lengths, longest, beforeLongest}
 use Rattle.newmm_segment.specs.inner.Written.{Rising}
 

@@ -17,7 +17,7 @@ use Rattle.trie_pool.specs.Words.{holds}
 use Rattle.newmm_rules.specs.Cutting.{Cut}
 use Rattle.newmm_one_cut.specs.declared.Ends.{Ends}
 use Rattle.cells.proofs.Filling.{map-long}
-use Rattle.newmm_rules.specs.Climbing.{Climbs, there}
+use Rattle.newmm_rules.specs.inner.Climbing.{Climbs, there}
 use Rattle.newmm_rules.specs.Parts.{Cutter, sampleOf, cutAt, sampled, Runs, lastPart, onePart, first, runsOf}
 use Rattle.newmm_rules.specs.Modes.{shifted, partEnds, edgesOf, joined, inParts}
 use Rattle.newmm_rules.proofs.Climbing.{few, shift, no-ends}

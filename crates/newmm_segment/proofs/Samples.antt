@@ -14,7 +14,7 @@ use Rattle.newmm_one_cut.specs.declared.Ends.{Ends}
 use Rattle.newmm_word_step.specs.inner.Walks.{givenBy}
 use Rattle.newmm_one_cut.specs.inner.Strips.{Lent, Done}
 use Rattle.cells.proofs.Filling.{map-long}
-use Rattle.newmm_rules.specs.Climbing.{Climbs, there, up}
+use Rattle.newmm_rules.specs.inner.Climbing.{Climbs, there, up}
 use Rattle.newmm_rules.specs.Longest.{lengths, beforeLongest}
 use Rattle.newmm_rules.specs.Parts.{Cutter, sampleOf, cutFor, cutAt, sampled}
 use Rattle.newmm_rules.specs.Modes.{shifted, edgesOf}

@@ -21,16 +21,16 @@ use Rattle.newmm_answers.specs.declared.CutAnswer.{CutAnswer}
 use Rattle.newmm_answers.specs.declared.CutAnswer.the-variants.{Ends}
 use Rattle.newmm_answers.specs.Answers.{cutOf, cutCauses, accepts, told, cutAnswer, outAfter}
 use Rattle.newmm_answers.specs.Calls.{Call, answerOf, outOf}
-use Rattle.theorems_demands.specs.Demand3.{Reached, Demand3}
+use Rattle.theorems_demands.specs.Demand3.{Demand3Any, Demand3}
 use Rattle.theorems_demands.proofs.Reaching.{means}
 
 -- an answer with ends is an accepted one
-told-ends : (x : Answer) (k n e : ℕ) → told x k ≡ Ends n e → (x ≡ Accepted n) × (k ≡ e)
+pub told-ends : (x : Answer) (k n e : ℕ) → told x k ≡ Ends n e → (x ≡ Accepted n) × (k ≡ e)
 told-ends (Accepted m) k n e h = (let q : m ≡ n = cc in ap Accepted q, cc)
 told-ends (Refused r) k n e h = absurd (let z : _≡_ {A = ℕ} 0 1 = cc in omega arith)
 
 -- the number that a call is accepted with is the one that it is asked for
-accepted-is : (rs : List Cause) (n k : ℕ) → answer rs n ≡ Accepted k → n ≡ k
+pub accepted-is : (rs : List Cause) (n k : ℕ) → answer rs n ≡ Accepted k → n ≡ k
 accepted-is rs n k h = let q : Accepted n ≡ Accepted k = again rs n n h ∙ h in cc
 
 all-pass : (rs : List Cause) (n : ℕ) → None rs → answer rs n ≡ Accepted n
@@ -39,7 +39,7 @@ all-pass (r ∷ rs) n t = ap (λ (b : Bool). cond b (Refused (r .refusal)) (answ
 
 module _ (mode : Mode) (text : List ℕ) (words : Words) (n : ℕ) where
   -- the ends of an accepted call stand at the front of its output
-  front-is : (cells : ℕ) (out : List ℕ) → accepts mode text (some words) cells (length out) ≡ Accepted n → take n (outAfter mode text (some words) cells out) ≡ cutOf mode words text .ends
+  pub front-is : (cells : ℕ) (out : List ℕ) → accepts mode text (some words) cells (length out) ≡ Accepted n → take n (outAfter mode text (some words) cells out) ≡ cutOf mode words text .ends
   front-is cells out h =
       ap (λ (r : Answer). take n (output r (cutOf mode words text .ends) out)) h
       ∙ take-at (cutOf mode words text .ends) (drop (length (cutOf mode words text .ends)) out) n (accepted-is (cutCauses mode text (some words) cells (length out)) _ n h)
@@ -54,8 +54,8 @@ module _ (mode : Mode) (text : List ℕ) (words : Words) (n : ℕ) where
       (r .0, (r .1 .0, (refl, (le-ltb cells′ (9 * length text + 128) s, (le-ltb room′ (length (cutOf mode words text .ends)) (omega arith), tt)))))
       ∙ ap Accepted e
 
-pub demand-3-any : (a b : Call) (v w : Words) → meaning (a .pool) ≡ some v → meaning (b .pool) ≡ some w → ((x : List ℕ) → v x ≡ w x) → a .text ≡ b .text → a .mode ≡ b .mode → (n edges : ℕ)
-    → answerOf a ≡ Ends n edges → 9 * length (b .text) + 128 ≤ length (b .scratch) → n ≤ length (b .out) → (answerOf b ≡ Ends n edges) × (take n (outOf b) ≡ take n (outOf a))
+-- any two pools that pass and hold the same words
+pub demand-3-any : Demand3Any
 demand-3-any a b v w pa pb same text mode n edges h s o =
     let ma : meaning (a .pool) ≡ some w = pa ∙ (λ i. some (λ (x : List ℕ). same x i)) in
     let mb : meaning (b .pool) ≡ some w = pb in
@@ -72,5 +72,6 @@ demand-3-any a b v w pa pb same text mode n edges h s o =
           ∙ sym (λ i. take n (outAfter (mode i) (text i) (ma i) (length (a .scratch)) (a .out))),
     )
 
+-- two pools that were reached from fresh ones
 pub demand-3 : Demand3
 demand-3 a b v w ra rb = demand-3-any a b v w (means ra) (means rb)

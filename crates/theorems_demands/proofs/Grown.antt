@@ -1,4 +1,5 @@
--- trial: a pool of whole nodes that is lent with cells of 0 behind it is a dictionary of the same words
+-- A pool of whole nodes that is lent with nodes of zeros behind it is a dictionary of the same
+-- words. Assumes nothing.
 use Prim.Native.Nat.{ℕ, zero, suc, _+_, _*_, _-_, _/_, _≤_, _<_, min}
 use native.Mathlib.Omega.{arith}
 use native.Mathlib.Decide.{decLt}
@@ -16,10 +17,11 @@ use Rattle.trie_pool.specs.Words.{Place, none, at, on-place, scan, child, walk,
 use Rattle.trie_pool.specs.inner.Sound.{Sound}
 use Rattle.trie_pool.specs.Levels.{hop, levelEnd}
 use Rattle.trie_pool.specs.Rules.{capacity, cellsOf, wellFormed, isDictionary}
-use Rattle.trie_pool.specs.Meaning.{meaning}
 use Rattle.trie_pool.proofs.Rules.{sound, passes}
 use Rattle.trie_check.proofs.Parts.{meaning-yes}
+use Rattle.theorems_demands.specs.Pools.{Grown}
 
+-- two rows of cells that agree everywhere, wherever they end
 module _ (p q : List ℕ) (agree : (k : ℕ) → getD q k 0 ≡ getD p k 0) where
   scalar-same : (i : ℕ) → scalarAt q i ≡ scalarAt p i
   unfolding scalarAt
@@ -104,8 +106,7 @@ agree-on p j k = go (decLt k (length p))
         let e : k ≡ length p + (k - length p) = omega arith in
         ap (λ (i : ℕ). getD (p ++ replicate j 0) i 0) e ∙ getD-append-add p (replicate j 0) (k - length p) 0 ∙ zeros j (k - length p) ∙ sym (beyond p k (omega arith))
 
--- m whole nodes, and j more
-pub grown : (pool : List ℕ) (m j : ℕ) → length pool ≡ 8 * m → m + j ≤ 1048576 → isDictionary pool ≡ true → meaning (pool ++ replicate (8 * j) 0) ≡ meaning pool
+pub grown : Grown
 grown pool m j long small h =
     let size : length (pool ++ replicate (8 * j) 0) ≡ 8 * m + 8 * j = omega (arith, length-append pool (replicate (8 * j) 0), length-replicate {A = ℕ} (8 * j) 0) in
     let cp : cellsOf pool ≡ pool = take-all (8 * capacity pool) pool (omega arith) in

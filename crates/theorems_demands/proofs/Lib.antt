@@ -1,4 +1,5 @@
 pub mod Reaching
+pub mod Dictionary
 pub mod Demand3
 pub mod Ends
 pub mod Search

@@ -5,12 +5,12 @@ use native.Mathlib.Decide.{decLt}
 use mathlib.Core.Path.{_≡_, refl, sym, _∙_, ap, subst}
 use mathlib.Core.List.{List, [], _∷_}
 use lib.ListN.{length}
-use Rattle.newmm_rules.specs.Words.{Given, size, wordEnds}
-use Rattle.newmm_rules.specs.Search.{pathTo}
-use Rattle.newmm_rules.specs.Cutting.{State, begin, recordedAll, graphOf, takenOut, turn, turns}
-use Rattle.newmm_rules.proofs.Search.{Chain}
+use Rattle.newmm_rules.specs.Words.{Given, size}
+use Rattle.newmm_rules.specs.Search.{Graph, Chain, stay, along}
+use Rattle.newmm_rules.specs.Cutting.{State, begin, turn, turns}
 use Rattle.newmm_rules.proofs.Recording.{Handled}
-use Rattle.newmm_rules.proofs.Turns.{Between, at-first, turn-on, turn-off, path}
+use Rattle.newmm_rules.proofs.Turns.{Between, at-first, turn-on, turn-off, path-on, path}
+use Rattle.theorems_demands.specs.Search.{Finds, SearchFinds}
 
 -- what holds between turns holds after any number of them
 between : (k : ℕ) {g : Given} (s : State) → Between g s → Between g (turns k g s)
@@ -22,20 +22,12 @@ between (suc k) {g} s h = go (λ s′ h′. between k s′ h′) (decLt (h .leas
     go ih (yes l) = ih (turn g (s .candidates) s) (turn-on h l .between)
     go ih (no n) = subst (λ (x : State). Between g (turns k g x)) (sym (turn-off h (omega arith))) (ih s h)
 
--- the state after step 1 at the least candidate b
-abbrev pub step1 : Given → ℕ → List ℕ → State → State
-step1 g b cs s = recordedAll b (wordEnds g b) (takenOut cs s)
+-- a way on has an edge
+chain-some : {graph : Graph} {a z : ℕ} {xs : List ℕ} → Chain graph a xs z → a < z → 0 < length xs
+chain-some stay h = absurd (omega arith)
+chain-some (along m c) h = omega arith
 
--- Whenever step 2 comes in a plain cut, in any turn: the search gives a chain of recorded edges from the committed end to the one candidate left.
-pub search-finds : (g : Given) (k b c : ℕ) (cs : List ℕ)
-    → turns k g begin .candidates ≡ b ∷ cs
-    → b < size g
-    → step1 g b cs (turns k g begin) .candidates ≡ c ∷ []
-    → Chain
-    (graphOf (step1 g b cs (turns k g begin) .edges))
-    (step1 g b cs (turns k g begin) .committed)
-    (pathTo (graphOf (step1 g b cs (turns k g begin) .edges)) (step1 g b cs (turns k g begin) .committed) c)
-    c
+pub search-finds : SearchFinds
 search-finds g k b c cs is below only =
     let h = between k begin (at-first g) in
     let same : h .least ∷ h .rest ≡ b ∷ cs = sym (h .is) ∙ is in
@@ -44,4 +36,7 @@ search-finds g k b c cs is below only =
     let order : turns k g begin .committed ≤ b = omega (arith, h .order) in
     let few : length (turns k g begin .edges) ≤ 50 + (b - turns k g begin .committed) = omega (arith, h .few) in
     let total : turns k g begin .count ≤ 51 * b = omega (arith, h .total) in
-    path g (turns k g begin) b cs is below (subst (λ (z : ℕ). Handled g z (turns k g begin)) e (h .handled)) order (λ q. h .sole (r ∙ q) ∙ e) few total (h .tokens) c only
+    let handled : Handled g b (turns k g begin) = subst (λ (z : ℕ). Handled g z (turns k g begin)) e (h .handled) in
+    let on = path-on g (turns k g begin) b cs is below handled order (λ q. h .sole (r ∙ q) ∙ e) few total (h .tokens) c only in
+    let chain = path g (turns k g begin) b cs is below handled order (λ q. h .sole (r ∙ q) ∙ e) few total (h .tokens) c only in
+    record { on = on; some = chain-some chain on; chain = chain }

@@ -25,25 +25,41 @@ abbrev pub All : List Case → Type 0
 All [] = Unit
 All (c ∷ cs) = Right c × All cs
 
--- ก U+0E01, ข U+0E02, ค U+0E04, ง U+0E07, ต U+0E15, น U+0E19, ป U+0E1B, ม U+0E21, ย U+0E22, ร U+0E23, ล U+0E25, า U+0E32, ี U+0E35, เ U+0E40, ็ U+0E47,
--- ่ U+0E48, ์ U+0E4C.
+-- In 01's order: clusters, then cuts.
 abbrev pub cases : List Case
 cases =
+    -- the empty text gives none
     clusters [] []
+    -- ก็ gives [2]
     ∷ clusters (0xE01 ∷ 0xE47 ∷ []) (2 ∷ [])
+    -- เปลี่ยน gives [2,5,6,7]
     ∷ clusters (0xE40 ∷ 0xE1B ∷ 0xE25 ∷ 0xE35 ∷ 0xE48 ∷ 0xE22 ∷ 0xE19 ∷ []) (2 ∷ 5 ∷ 6 ∷ 7 ∷ [])
+    -- เมีย gives [4]
     ∷ clusters (0xE40 ∷ 0xE21 ∷ 0xE35 ∷ 0xE22 ∷ []) (4 ∷ [])
+    -- เมียนต์ gives [6,7]
     ∷ clusters (0xE40 ∷ 0xE21 ∷ 0xE35 ∷ 0xE22 ∷ 0xE19 ∷ 0xE15 ∷ 0xE4C ∷ []) (6 ∷ 7 ∷ [])
+    -- กรรม์ gives [1,5]
     ∷ clusters (0xE01 ∷ 0xE23 ∷ 0xE23 ∷ 0xE21 ∷ 0xE4C ∷ []) (1 ∷ 5 ∷ [])
+    -- {กข, กขค}: กขค gives [3]
     ∷ cuts ((0xE01 ∷ 0xE02 ∷ []) ∷ (0xE01 ∷ 0xE02 ∷ 0xE04 ∷ []) ∷ []) (0xE01 ∷ 0xE02 ∷ 0xE04 ∷ []) (3 ∷ [])
+    -- {กข, กขค, คง, ง}: กขคง gives [2,4], not [3,4]
     ∷ cuts
     ((0xE01 ∷ 0xE02 ∷ []) ∷ (0xE01 ∷ 0xE02 ∷ 0xE04 ∷ []) ∷ (0xE04 ∷ 0xE07 ∷ []) ∷ (0xE07 ∷ []) ∷ [])
     (0xE01 ∷ 0xE02 ∷ 0xE04 ∷ 0xE07 ∷ [])
     (2 ∷ 4 ∷ [])
+    -- {ขค}: กขค gives [3]
     ∷ cuts ((0xE02 ∷ 0xE04 ∷ []) ∷ []) (0xE01 ∷ 0xE02 ∷ 0xE04 ∷ []) (3 ∷ [])
-    ∷ cuts ((0xE02 ∷ 0xE04 ∷ []) ∷ (0xE02 ∷ 0xE04 ∷ 0xE07 ∷ []) ∷ []) (0xE01 ∷ 0xE02 ∷ 0xE04 ∷ 0xE07 ∷ []) (1 ∷ 4 ∷ [])
+    -- {ขค, ขคง}: กขคง gives [1,4]
+    ∷ cuts
+    ((0xE02 ∷ 0xE04 ∷ []) ∷ (0xE02 ∷ 0xE04 ∷ 0xE07 ∷ []) ∷ [])
+    (0xE01 ∷ 0xE02 ∷ 0xE04 ∷ 0xE07 ∷ [])
+    (1 ∷ 4 ∷ [])
+    -- {ก}: กา gives [2], since 1 isn't a cluster end
     ∷ cuts ((0xE01 ∷ []) ∷ []) (0xE01 ∷ 0xE32 ∷ []) (2 ∷ [])
+    -- no words: 12,5.a gives [4,5,6]
     ∷ cuts [] (0x31 ∷ 0x32 ∷ 0x2C ∷ 0x35 ∷ 0x2E ∷ 0x61 ∷ []) (4 ∷ 5 ∷ 6 ∷ [])
+    -- no words: \r gives [1]
     ∷ cuts [] (0xD ∷ []) (1 ∷ [])
+    -- no words: \r\n gives [2]
     ∷ cuts [] (0xD ∷ 0xA ∷ []) (2 ∷ [])
     ∷ []

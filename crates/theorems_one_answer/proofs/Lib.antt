@@ -7,4 +7,3 @@ pub mod Cut
 pub mod Demand3
 pub mod Hosts
 pub mod Views
-pub mod Two

@@ -11,9 +11,3 @@ use denote.Triple.Clauses.{AtExit}
 abbrev pub OneAnswer : {A : Type 0} (n : ℕ) (ps : List (PK n)) (r : RK n) → Out n ps r → ((κs : Lfts n) → resT r κs .Denot → AtExit (endedOf n ps r) κs → A) → Type 0
 OneAnswer n ps r promise seen =
     (κs : Lfts n) (a : Dens κs ps) (x y : resT r κs .Denot) (s t : AtExit (endedOf n ps r) κs) → promise κs a x s → promise κs a y t → seen κs x s ≡ seen κs y t
-
--- The same where a row is lent to be changed and the promise speaks of its meaning. No call makes a lent row longer or shorter; `kept` says so.
-abbrev pub OneAnswerKept : {A : Type 0} (n : ℕ) (ps : List (PK n)) (r : RK n) → ((κs : Lfts n) → Dens κs ps → AtExit (endedOf n ps r) κs → Type 0) → Out n ps r
-    → ((κs : Lfts n) → resT r κs .Denot → AtExit (endedOf n ps r) κs → A) → Type 0
-OneAnswerKept n ps r kept promise seen = (κs : Lfts n) (a : Dens κs ps) (x y : resT r κs .Denot) (s t : AtExit (endedOf n ps r) κs) → kept κs a s → kept κs a t → promise κs a x s → promise κs a y t
-    → seen κs x s ≡ seen κs y t

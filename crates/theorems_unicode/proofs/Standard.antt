@@ -11,6 +11,7 @@ use borrow.Author.Tests.{eqb-true, eqb-false}
 use Rattle.lists.specs.Scans.{within}
 use Rattle.utf8.specs.Utf8.{Range, fits, isSequence, scalarOf, Utf8, empty, next}
 use Rattle.utf8.specs.Decoding.{starts, sizeOf, Run, runAll, scalarsOf, more, stop}
+use Rattle.theorems_unicode.specs.Standard.{Taken}
 use Rattle.utf8.proofs.FirstBytes.{Opens, Kind, shut, one, two, three, four, kind-of}
 use Rattle.utf8.proofs.Sizes.{size-inside}
 use Rattle.utf8.proofs.Runs.{run-empty, run-broken, run-more}
@@ -88,12 +89,6 @@ kind-take b s (four r o) h = open-take s o h
 first-sequence : (s : List ℕ) → 0 < sizeOf s → T (isSequence (take (sizeOf s) s))
 first-sequence [] h = absurd (omega (arith, size-inside []))
 first-sequence (b ∷ s) h = is-true (kind-take b s (kind-of b) h)
-
--- what a run has taken
-pub record Taken (s : List ℕ) : Type 0 where
-  pub inside : runAll s .taken ≤ length s
-  pub prefix : Utf8 (take (runAll s .taken) s) (scalarsOf s)
-  pub all : runAll s .whole ≡ true → runAll s .taken ≡ length s
 
 taken-stop : (s : List ℕ) (w : Bool) → runAll s ≡ stop w → (w ≡ true → length s ≡ 0) → Taken s
 taken-stop s w r h =

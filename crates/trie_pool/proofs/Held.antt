@@ -7,9 +7,9 @@ use mathlib.Core.Bool.{true, false}
 use mathlib.Core.List.{List, [], _∷_}
 use lib.ListN.{length, getD}
 use Rattle.char_string.specs.Scalars.{isScalar}
-use Rattle.char_string.specs.Blanks.{isTrimmed, trimmedOf}
+use Rattle.char_string.specs.Blanks.{isTrimmed}
 use Rattle.trie_pool.specs.Cells.{markAt}
-use Rattle.trie_pool.specs.Words.{Place, none, at, on-place, child, walk, marked, holds}
+use Rattle.trie_pool.specs.Words.{Word, Place, none, at, on-place, child, walk, marked, holds}
 use Rattle.trie_pool.specs.inner.Paths.{reach, rev}
 use Rattle.trie_pool.specs.inner.Sound.{Sound}
 use Rattle.trie_pool.specs.Levels.{levelEnd}
@@ -18,13 +18,7 @@ use Rattle.trie_pool.proofs.Level.{ends-mono, level-low}
 use Rattle.trie_pool.proofs.Rules.{clash}
 use Rattle.trie_pool.proofs.Edges.{trimmed-is}
 
-pub record Word (w : List ℕ) : Type 0 where
-  pub trimmed : trimmedOf w ≡ w
-  pub some : 1 ≤ length w
-  pub short : length w ≤ 255
-  pub legal : (i : ℕ) → i < length w → isScalar (getD w i 0) ≡ true
-
--- where the word levelEnd
+-- where the word ends
 pub record Ending (p w : List ℕ) : Type 0 where
   pub node : ℕ
   pub there : walk p w 0 ≡ at node

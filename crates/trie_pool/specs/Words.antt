@@ -1,10 +1,20 @@
--- Which words a pool holds.
-use Prim.Native.Nat.{ℕ, zero, suc}
+-- What a word is, and which words a pool holds.
+use Prim.Native.Nat.{ℕ, zero, suc, _≤_, _<_}
+use mathlib.Core.Path.{_≡_}
 use mathlib.Core.Bool.{Bool, true, false, cond}
 use mathlib.Core.List.{List, [], _∷_}
 use lib.Dec.{ltb, eqb}
-use lib.ListN.{length}
+use lib.ListN.{length, getD}
+use Rattle.char_string.specs.Scalars.{isScalar}
+use Rattle.char_string.specs.Blanks.{trimmedOf}
 use Rattle.trie_pool.specs.Cells.{scalarAt, firstAt, countAt, markAt}
+
+-- A word of a dictionary: trimmed, and 1 to 255 scalar values long.
+pub record Word (w : List ℕ) : Type 0 where
+  pub trimmed : trimmedOf w ≡ w
+  pub some : 1 ≤ length w
+  pub short : length w ≤ 255
+  pub legal : (i : ℕ) → i < length w → isScalar (getD w i 0) ≡ true
 
 -- a node, or none
 pub data Place : Type 0 where

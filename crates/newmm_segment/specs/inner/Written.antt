@@ -7,7 +7,7 @@ use Rattle.char_string.specs.Blanks.{lastSpace}
 use Rattle.trie_pool.specs.inner.Sound.{Readable}
 use Rattle.newmm_rules.specs.Cutting.{Cut}
 use Rattle.newmm_one_cut.specs.declared.Ends.{Ends}
-use Rattle.newmm_rules.specs.Climbing.{Climbs}
+use Rattle.newmm_rules.specs.inner.Climbing.{Climbs}
 use Rattle.newmm_rules.specs.Parts.{Cutter, sampleOf, cutAt, sampled}
 use Rattle.newmm_rules.specs.Modes.{shifted, edgesOf}
 use Rattle.newmm_segment.specs.declared.Part.{Part}
