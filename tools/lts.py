@@ -7,10 +7,11 @@ GENERATED = "target/gen"
 
 
 def path(crate, function):
-    """The function's Lts.antt, made anew where its code or specs are newer. A function of a cycle is told as `+name`."""
-    name = function.lstrip("+")
+    """The function's Lts.antt, made anew where its code or specs are newer. FUNCTION is its folder below proofs/: `module/name`
+    where it stands in a module, `+name` for one that calls itself."""
+    name = function.split("/")[-1]
     folder = "%s/Rattle.%s.proofs/proofs/%s" % (GENERATED, crate, function)
-    found = "%s/Lts.antt" % folder if function == name else "%s/Lts-%s.antt" % (folder, name)
+    found = "%s/Lts-%s.antt" % (folder, name[1:]) if name.startswith("+") else "%s/Lts.antt" % folder
     sources = []
     for part in "src", "specs":
         for at, _, files in os.walk("crates/%s/%s" % (crate, part)):
