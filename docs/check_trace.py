@@ -1,4 +1,4 @@
-"""Checks that every name in docs/TRACE.md exists: python3 docs/check_trace.py
+"""Checks that every name in docs/TRACE.md exists, and every path into a crate in README.md and docs/: python3 docs/check_trace.py
 
 A definition or a theorem stands in the file before it, a contract's function in its crate's src/, a must-fail edit in
 its crate, and an op of a test in the first fields of the test's stdin.
@@ -7,6 +7,7 @@ It also holds the table of public operations in docs/ASSESSMENT.md to the code: 
 `requires`, its theorem and its wrong programs are there, and no other function that these crates export goes without a
 `requires`.
 """
+import glob
 import os
 import re
 import sys
@@ -16,7 +17,10 @@ CRATES = os.path.join(ROOT, "crates")
 COLUMNS = ["Sentence", "Definition", "Contract", "Theorem", "Test", "Must-fail"]
 
 # What a cell may say in words, with no name to look up.
-WORDS = re.compile(r"–|no operation of ASSESSMENT's table has a `requires`; .*|the equations of each operation|those (of each operation|above)")
+WORDS = re.compile(r"–|no [^`]* has a `requires`.*|the equations of each operation|those (of each operation|above)")
+
+# A path into a crate, in prose.
+INTO = re.compile(r"(?<![\w/·.*-])(?:crates/)?((?!target)[a-z]\w*)/((?:specs|proofs|must-fail|src)(?:/[\w+-]+)*(?:\.\w+)?)")
 
 
 def text(*path):
@@ -57,7 +61,7 @@ def tests(cell):
         words = item.replace("its sample in ", "").split(", ")
         program = ""
         for word in words:
-            found = re.fullmatch(r"(?:([\w/.]+) ?)?(?:`(\w+)`)?", word)
+            found = re.fullmatch(r"(?:([\w/.-]+) ?)?(?:`(\w+)`)?", word)
             if not found:
                 yield "cannot read the test " + word
                 continue
@@ -80,6 +84,15 @@ def edits(cell):
         for name in names.split(", "):
             if not os.path.exists(os.path.join(CRATES, folder, name + ".edit")):
                 yield "no edit %s/%s" % (folder, name)
+
+
+def paths(page):
+    """Problems of the paths in a page's prose."""
+    for number, line in enumerate(text(page).splitlines(), 1):
+        for crate, path in INTO.findall(line):
+            whole = os.path.join(CRATES, crate, path)
+            if not any(os.path.exists(whole + end) for end in ("", ".antt", ".edit", ".rt")):
+                yield "%s, line %d: no %s/%s" % (os.path.relpath(page, ROOT), number, crate, path)
 
 
 CHECKS = {"Definition": antt, "Contract": functions, "Theorem": antt, "Test": tests, "Must-fail": edits}
@@ -151,6 +164,11 @@ def main():
             for problem in CHECKS[column](cell):
                 print("line %d, %s: %s" % (number, column, problem))
                 problems += 1
+    pages = [os.path.join(ROOT, name) for name in ("README.md", "CONTRIBUTING.md") if os.path.exists(os.path.join(ROOT, name))]
+    for page in pages + sorted(glob.glob(os.path.join(ROOT, "docs", "*.md"))):
+        for problem in paths(page):
+            print(problem)
+            problems += 1
     print("%d cells with names, %d problems" % (names, problems))
     sys.exit(problems > 0)
 

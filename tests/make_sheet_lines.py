@@ -1,19 +1,16 @@
 """Writes crates/sheet_lines/stdin and stdout, and crates/test_sheet_lines/stdin and stdout.
 
-    python3 tests/make_sheet_lines.py VECTORS
+    python3 tests/make_sheet_lines.py
 
-VECTORS is a file of vector lines with the answers of an independent model; its program lines are taken.
+The independent model's lines for program are taken.
 
-The program's own stdin starts with the whole run of document 01. Then come the runs of FRAMING, and those of VECTORS. A
+The program's own stdin starts with the whole run of document 01. Then come the runs of FRAMING, and the model's. A
 run starts with an empty dictionary, so between two runs the words that are held are removed: they are known from the
 answers, since a 1 for `+` or `-` says that the word came or went.
 
 The test program gives each run a fresh pool, and hands the bytes over in parts of several lengths. Its lines are
 `program  bytes  most bytes at a time  =>  ok bytes`.
 """
-import os
-import sys
-
 import vectors
 
 # 01, "Sheets on both sides of a line": the whole run.
@@ -76,7 +73,7 @@ def lines(data):
     return data.split(b"\n")[:-1] if data.endswith(b"\n") or not data else data.split(b"\n")
 
 
-def runs(path):
+def runs():
     """Each run: the bytes, and what the program writes."""
     yield WHOLE
     for made in framing():
@@ -86,7 +83,7 @@ def runs(path):
         # the last line without its line feed; an empty one is then no line
         if made and made[-1][0]:
             yield data[:-1], answers
-    for fields, expected in vectors.read(path, ("program",)):
+    for fields, expected in vectors.model("program"):
         status, answers = expected.split(" ")
         if status != "ok":
             raise SystemExit("a run is never refused: %s" % expected)
@@ -105,7 +102,7 @@ def program(found):
     data += b"=a"
     answers += b"1\n"
     for name, side in ("stdin", data), ("stdout", answers):
-        with open(os.path.join(vectors.ROOT, "crates", "sheet_lines", name), "wb") as out:
+        with open(vectors.made("sheet_lines", name), "wb") as out:
             out.write(side)
     print("sheet_lines: %d lines" % answers.count(b"\n"))
 
@@ -119,7 +116,7 @@ def tests(found):
 
 
 def main():
-    found = [tuple(run) for run in runs(sys.argv[1])]
+    found = [tuple(run) for run in runs()]
     program(found)
     tests(found)
 

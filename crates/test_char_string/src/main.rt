@@ -1,4 +1,4 @@
-// Replays the test vectors of `utf8`, `char_string` and `char_view`: a line with the answer for each line of standard input.
+// Replays the test vectors of `utf8`, `char_string` and `char_string_view`: a line with the answer for each line of standard input.
 mod views;
 
 use char_string::CharAt;
