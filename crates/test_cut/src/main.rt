@@ -99,7 +99,7 @@ fn scratch_cells(text: &[u8], n: usize, most: usize) -> usize
 {
     if is(text, b"*") {
         if n <= 65536 {
-            let needed = 9 * n + 128;
+            let needed = scratch_for(n);
             if needed < most {
                 return needed;
             }

@@ -1,6 +1,6 @@
 -- DEMAND 3: the same text, mode and words give the same ends and the same edge count, however the pools came about and whatever scratch held.
 -- Everything that the statement stands on is named here; the last definition is the statement.
-use Prim.Native.Nat.{ℕ, _+_, _*_, _≤_}
+use Prim.Native.Nat.{ℕ, _≤_}
 use mathlib.Core.Path.{_≡_}
 use mathlib.Core.List.{List}
 use lib.ListN.{length, take}
@@ -11,6 +11,7 @@ use Rattle.trie_pool.specs.Meaning.{Words, noWord, withWord, withoutWord}
 use Rattle.trie_char.specs.Answers.{freshAnswer, addAnswer, added, removeAnswer, removed}
 use Rattle.trie_char.specs.Changes.{After}
 use Rattle.newmm_answers.specs.declared.CutAnswer.the-variants.{Ends}
+use Rattle.newmm_answers.specs.Answers.{scratchFor}
 use Rattle.newmm_answers.specs.Calls.{Call, answerOf, outOf}
 
 -- What the contracts of `fresh`, `add` and `remove` say of a call: its answer, and the pool before and after it.
@@ -41,6 +42,6 @@ Demand3 =
     → a .mode ≡ b .mode
     → (n edges : ℕ)
     → answerOf a ≡ Ends n edges
-    → 9 * length (b .text) + 128 ≤ length (b .scratch)
+    → scratchFor (length (b .text)) ≤ length (b .scratch)
     → n ≤ length (b .out)
     → (answerOf b ≡ Ends n edges) × (take n (outOf b) ≡ take n (outOf a))
