@@ -3,6 +3,7 @@
 // Output and scratch are lent full of leftovers. Where a call leaves a cell otherwise than document 01 says, a `?` is written.
 use newmm::cut;
 use newmm_answers::CutAnswer;
+use newmm_answers::scratch_for;
 use newmm_rules::Mode;
 use test_lines::behind;
 use test_lines::field;
