@@ -70,8 +70,8 @@ pub extern "C" fn fetlockice_contains(
     tell(held, count, detail)
 }
 
-// The lengths of the words that a text starts with, rising, at the front of out; accepted with their
-// number. Refusals 2, 3, 4, 6.
+// The lengths of the words that a text starts with, rising, at the front of out; accepted with
+// their number. Refusals 2, 3, 4, 6.
 #[no_mangle]
 pub extern "C" fn fetlockice_prefix_lengths(
     pool: &[u32],

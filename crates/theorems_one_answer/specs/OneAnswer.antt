@@ -7,8 +7,8 @@ use borrow.Fn.Kinds.{PK, RK, Out, Dens, resT, endedOf}
 use denote.Triple.Clauses.{AtExit}
 
 -- A function has lifetimes, parameters and a result: n, ps and r. The kit computes them from its
--- signature, and with the lifetimes κs of one call it has a type for what the call is given, for what
--- it answers, and for the lent memory as it returns.
+-- signature. With the lifetimes κs of one call it gives a type to what the call is given, to what
+-- it answers, and to the lent memory as it returns.
 abbrev pub Arguments : {n : ℕ} → Lfts n → List (PK n) → Type 0
 Arguments κs ps = Dens κs ps
 
