@@ -41,7 +41,7 @@ segment-single-requires : tie.Need-segment-single-requires
 segment-single-requires c κs = ready (lent (c .before .before .before .before))
 
 clear-requires-2 : tie.Need-clear-requires-2
-clear-requires-2 c κs = ends-fit (ended (c .before .before .before .before))
+clear-requires-2 c κs = omega (arith, ends-fit (ended (c .before .before .before .before)))
 
 same-length : tie.Need-same-length
 same-length c = search needs
@@ -66,7 +66,7 @@ copy-requires c κs =
     (omega (arith, ends-lent (ended (c2 .before .before .before))), c2 .if1 .left)
 
 clear-requires-3 : tie.Need-clear-requires-3
-clear-requires-3 c κs = ends-fit (ended (c .before .before .before .before .before .before .before .before .before))
+clear-requires-3 c κs = omega (arith, ends-fit (ended (c .before .before .before .before .before .before .before .before .before)))
 
 same-length-2 : tie.Need-same-length-2
 same-length-2 c = search needs
