@@ -7,19 +7,17 @@ use trie_char::fresh;
 use trie_char::prefix_lengths;
 use trie_char::remove;
 ghost use mathlib.Core.Path.{_≡_};
-ghost use Rattle.refusal.specs.Answers.{output};
-ghost use Rattle.trie_pool.specs.Meaning.{noWord};
-ghost use Rattle.trie_char.specs.Changes.{After};
-ghost use Rattle.fetlockice.specs.Told.{numberTold, countTold, detailTold};
-ghost use Rattle.trie_char.specs.Answers.{freshAnswer, added, removed, addAnswer, removeAnswer, containsAnswer, prefixes, prefixesAnswer, wordCountAnswer};
+ghost use Rattle.trie_char.specs.Answers.{freshAnswer, addAnswer, removeAnswer};
+ghost use Rattle.trie_char.specs.Answers.{containsAnswer, prefixesAnswer, wordCountAnswer};
+ghost use Rattle.fetlockice.specs.Told.{told, tells};
+ghost use Rattle.fetlockice.specs.Rows.{Freshened, Added, Removed, prefixesOut};
 
 // Makes a dictionary without words, whatever the cells held before. Refusal 8.
 #[no_mangle]
 pub extern "C" fn fetlockice_fresh(pool: &mut [u32], count: &mut usize, detail: &mut usize) -> u32
-    ensures { λ r. ⌜ r ≡ numberTold (freshAnswer (now (pool .entry))) ⌝ }
-    ensures { λ _. ⌜ now (count .exit) ≡ countTold (freshAnswer (now (pool .entry))) ⌝ }
-    ensures { λ _. ⌜ now (detail .exit) ≡ detailTold (freshAnswer (now (pool .entry))) ⌝ }
-    ensures { λ _. ⌜ After (freshAnswer (now (pool .entry))) (now (pool .entry)) (now (pool .exit)) noWord ⌝ }
+    ensures { λ r. ⌜ told r (now (count .exit)) (now (detail .exit))
+        ≡ tells (freshAnswer (now (pool .entry))) ⌝ }
+    ensures { λ _. ⌜ Freshened (now (pool .entry)) (now (pool .exit)) ⌝ }
 {
     let made = fresh(pool);
     tell(made, count, detail)
@@ -33,10 +31,9 @@ pub extern "C" fn fetlockice_add(
     count: &mut usize,
     detail: &mut usize,
 ) -> u32
-    ensures { λ r. ⌜ r ≡ numberTold (addAnswer (now (word .entry)) (now (pool .entry))) ⌝ }
-    ensures { λ _. ⌜ now (count .exit) ≡ countTold (addAnswer (now (word .entry)) (now (pool .entry))) ⌝ }
-    ensures { λ _. ⌜ now (detail .exit) ≡ detailTold (addAnswer (now (word .entry)) (now (pool .entry))) ⌝ }
-    ensures { λ _. ⌜ After (addAnswer (now (word .entry)) (now (pool .entry))) (now (pool .entry)) (now (pool .exit)) (added (now (word .entry)) (now (pool .entry))) ⌝ }
+    ensures { λ r. ⌜ told r (now (count .exit)) (now (detail .exit))
+        ≡ tells (addAnswer (now (word .entry)) (now (pool .entry))) ⌝ }
+    ensures { λ _. ⌜ Added (now (word .entry)) (now (pool .entry)) (now (pool .exit)) ⌝ }
 {
     let added = add(pool, word);
     tell(added, count, detail)
@@ -50,10 +47,9 @@ pub extern "C" fn fetlockice_remove(
     count: &mut usize,
     detail: &mut usize,
 ) -> u32
-    ensures { λ r. ⌜ r ≡ numberTold (removeAnswer (now (word .entry)) (now (pool .entry))) ⌝ }
-    ensures { λ _. ⌜ now (count .exit) ≡ countTold (removeAnswer (now (word .entry)) (now (pool .entry))) ⌝ }
-    ensures { λ _. ⌜ now (detail .exit) ≡ detailTold (removeAnswer (now (word .entry)) (now (pool .entry))) ⌝ }
-    ensures { λ _. ⌜ After (removeAnswer (now (word .entry)) (now (pool .entry))) (now (pool .entry)) (now (pool .exit)) (removed (now (word .entry)) (now (pool .entry))) ⌝ }
+    ensures { λ r. ⌜ told r (now (count .exit)) (now (detail .exit))
+        ≡ tells (removeAnswer (now (word .entry)) (now (pool .entry))) ⌝ }
+    ensures { λ _. ⌜ Removed (now (word .entry)) (now (pool .entry)) (now (pool .exit)) ⌝ }
 {
     let removed = remove(pool, word);
     tell(removed, count, detail)
@@ -67,15 +63,15 @@ pub extern "C" fn fetlockice_contains(
     count: &mut usize,
     detail: &mut usize,
 ) -> u32
-    ensures { λ r. ⌜ r ≡ numberTold (containsAnswer (now (word .entry)) (now (pool .entry))) ⌝ }
-    ensures { λ _. ⌜ now (count .exit) ≡ countTold (containsAnswer (now (word .entry)) (now (pool .entry))) ⌝ }
-    ensures { λ _. ⌜ now (detail .exit) ≡ detailTold (containsAnswer (now (word .entry)) (now (pool .entry))) ⌝ }
+    ensures { λ r. ⌜ told r (now (count .exit)) (now (detail .exit))
+        ≡ tells (containsAnswer (now (word .entry)) (now (pool .entry))) ⌝ }
 {
     let held = contain(pool, word);
     tell(held, count, detail)
 }
 
-// The lengths of the words that a text starts with, rising, at the front of out; accepted with their number. Refusals 2, 3, 4, 6.
+// The lengths of the words that a text starts with, rising, at the front of out; accepted with
+// their number. Refusals 2, 3, 4, 6.
 #[no_mangle]
 pub extern "C" fn fetlockice_prefix_lengths(
     pool: &[u32],
@@ -84,10 +80,9 @@ pub extern "C" fn fetlockice_prefix_lengths(
     count: &mut usize,
     detail: &mut usize,
 ) -> u32
-    ensures { λ r. ⌜ r ≡ numberTold (prefixesAnswer (now (text .entry)) (now (pool .entry)) (now (out .entry))) ⌝ }
-    ensures { λ _. ⌜ now (count .exit) ≡ countTold (prefixesAnswer (now (text .entry)) (now (pool .entry)) (now (out .entry))) ⌝ }
-    ensures { λ _. ⌜ now (detail .exit) ≡ detailTold (prefixesAnswer (now (text .entry)) (now (pool .entry)) (now (out .entry))) ⌝ }
-    ensures { λ _. ⌜ now (out .exit) ≡ output (prefixesAnswer (now (text .entry)) (now (pool .entry)) (now (out .entry))) (prefixes (now (text .entry)) (now (pool .entry))) (now (out .entry)) ⌝ }
+    ensures { λ r. ⌜ told r (now (count .exit)) (now (detail .exit))
+        ≡ tells (prefixesAnswer (now (text .entry)) (now (pool .entry)) (now (out .entry))) ⌝ }
+    ensures { λ _. ⌜ now (out .exit) ≡ prefixesOut (now (text .entry)) (now (pool .entry)) (now (out .entry)) ⌝ }
 {
     let lengths = prefix_lengths(pool, text, out);
     tell(lengths, count, detail)
@@ -96,9 +91,8 @@ pub extern "C" fn fetlockice_prefix_lengths(
 // Accepted with the number of words. Refusal 4.
 #[no_mangle]
 pub extern "C" fn fetlockice_word_count(pool: &[u32], count: &mut usize, detail: &mut usize) -> u32
-    ensures { λ r. ⌜ r ≡ numberTold (wordCountAnswer (now (pool .entry))) ⌝ }
-    ensures { λ _. ⌜ now (count .exit) ≡ countTold (wordCountAnswer (now (pool .entry))) ⌝ }
-    ensures { λ _. ⌜ now (detail .exit) ≡ detailTold (wordCountAnswer (now (pool .entry))) ⌝ }
+    ensures { λ r. ⌜ told r (now (count .exit)) (now (detail .exit))
+        ≡ tells (wordCountAnswer (now (pool .entry))) ⌝ }
 {
     let words = amount_of_words(pool);
     tell(words, count, detail)

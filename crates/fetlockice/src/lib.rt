@@ -1,4 +1,5 @@
-// The operations for hosts, written in C or Rust: each calls a library function and tells its answer as plain numbers. No struct crosses.
+// The operations for hosts, written in C or Rust: each calls a library function and tells its
+// answer as plain numbers. No struct crosses.
 mod cuts;
 mod dictionary;
 mod telling;

@@ -1,4 +1,5 @@
--- 01, "Numbers the host sees" and "Plain cutting": the answer of the public cut, and what becomes of the rows that it is lent.
+-- 01, "Numbers the host sees" and "Plain cutting": the answer of the public cut, and what becomes
+-- of the rows that it is lent.
 use Prim.Native.Nat.{ℕ, _+_, _*_}
 use mathlib.Core.List.{List, [], _∷_, _++_}
 use mathlib.Core.Option.{Option}
@@ -31,9 +32,16 @@ plainCut words text = cut (given words text)
 unfoldable pub cutOf : Mode → Words → List ℕ → Cut
 cutOf mode words text = segmented mode (plainCut words) text
 
+-- The scratch cells that a cut of n characters asks for.
+abbrev pub scratchFor : ℕ → ℕ
+scratchFor n = 9 * n + 128
+
 -- 5: scratch has fewer than 9n+128 cells; 9n+128.
+abbrev pub scratchCause : ℕ → ℕ → Cause
+scratchCause n cells = record { refusal = ScratchTooShort (scratchFor n); holds = ltb cells (scratchFor n) }
+
 abbrev pub scratchCauses : List ℕ → ℕ → List Cause
-scratchCauses text cells = record { refusal = ScratchTooShort (9 * length text + 128); holds = ltb cells (9 * length text + 128) } ∷ []
+scratchCauses text cells = scratchCause (length text) cells ∷ []
 
 -- 6: the output has fewer cells than the answer; cells needed.
 abbrev pub outCauses : List ℕ → ℕ → List Cause
@@ -49,9 +57,11 @@ cutCauses mode text pool cells room = firstCauses text pool cells ++ outCauses (
 
 -- The call is accepted with the number of ends, or refused.
 abbrev pub accepts : Mode → List ℕ → Option Words → ℕ → ℕ → Answer
-accepts mode text pool cells room = answer (cutCauses mode text pool cells room) (length (cutOf mode (held pool) text .ends))
+accepts mode text pool cells room =
+    answer (cutCauses mode text pool cells room) (length (cutOf mode (held pool) text .ends))
 
--- The result carries the number of ends and reports the number of edges recorded in the whole call.
+-- The result carries the number of ends, and reports the number of edges recorded in the whole
+-- call.
 abbrev pub told : Answer → ℕ → CutAnswer
 told (Accepted n) edges = Ends n edges
 told (Refused r) edges = variants.Refused r
@@ -59,9 +69,11 @@ told (Refused r) edges = variants.Refused r
 abbrev pub cutAnswer : Mode → List ℕ → Option Words → ℕ → ℕ → CutAnswer
 cutAnswer mode text pool cells room = told (accepts mode text pool cells room) (cutOf mode (held pool) text .edges)
 
--- A refusal changes no output. An accepted call writes the first cells of the output and keeps the rest.
+-- A refusal changes no output. An accepted call writes the first cells of the output and keeps the
+-- rest.
 abbrev pub outAfter : Mode → List ℕ → Option Words → ℕ → List ℕ → List ℕ
-outAfter mode text pool cells out = output (accepts mode text pool cells (length out)) (cutOf mode (held pool) text .ends) out
+outAfter mode text pool cells out =
+    output (accepts mode text pool cells (length out)) (cutOf mode (held pool) text .ends) out
 
 -- Scratch is untouched after 2 to 5, and all zero after 6 and after an accepted cutting call.
 abbrev pub cleared : Answer → List ℕ → List ℕ

@@ -3,6 +3,7 @@
 // Output and scratch are lent full of leftovers. Where a call leaves a cell otherwise than document 01 says, a `?` is written.
 use newmm::cut;
 use newmm_answers::CutAnswer;
+use newmm_answers::scratch_for;
 use newmm_rules::Mode;
 use test_lines::behind;
 use test_lines::field;
@@ -99,7 +100,7 @@ fn scratch_cells(text: &[u8], n: usize, most: usize) -> usize
 {
     if is(text, b"*") {
         if n <= 65536 {
-            let needed = 9 * n + 128;
+            let needed = scratch_for(n);
             if needed < most {
                 return needed;
             }

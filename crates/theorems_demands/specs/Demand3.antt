@@ -1,7 +1,7 @@
 -- DEMAND 3: the same text, mode and words give the same ends and the same edge count, however the
 -- pools came about and whatever scratch held. Everything that the statement stands on is named
 -- here; the last two definitions are the statement, for any pools and for reached ones.
-use Prim.Native.Nat.{ℕ, _+_, _*_, _≤_}
+use Prim.Native.Nat.{ℕ, _≤_}
 use mathlib.Core.Path.{_≡_}
 use mathlib.Core.List.{List}
 use mathlib.Core.Option.{some}
@@ -13,6 +13,7 @@ use Rattle.trie_pool.specs.Meaning.{Words, meaning, noWord, withWord, withoutWo
 use Rattle.trie_char.specs.Answers.{freshAnswer, addAnswer, added, removeAnswer, removed}
 use Rattle.trie_char.specs.Changes.{After}
 use Rattle.newmm_answers.specs.declared.CutAnswer.the-variants.{Ends}
+use Rattle.newmm_answers.specs.Answers.{scratchFor}
 use Rattle.newmm_answers.specs.Calls.{Call, answerOf, outOf}
 
 -- What the contracts of `fresh`, `add` and `remove` say of a call: its answer, and the pool before
@@ -48,7 +49,7 @@ SameAnswer a b =
     → a .mode ≡ b .mode
     → (n edges : ℕ)
     → answerOf a ≡ Ends n edges
-    → 9 * length (b .text) + 128 ≤ length (b .scratch)
+    → scratchFor (length (b .text)) ≤ length (b .scratch)
     → n ≤ length (b .out)
     → (answerOf b ≡ Ends n edges) × (take n (outOf b) ≡ take n (outOf a))
 

@@ -8,5 +8,5 @@ use Rattle.theorems_one_answer.specs.OneAnswer.{OneAnswer}
 use Rattle.theorems_one_answer.proofs.Shapes.{answer-and-output}
 
 -- the answer and the output
-pub decode-one : OneAnswer {A = Answer × List ℕ} 2 decode-kinds.ps decode-kinds.r decode-contract.Post (λ κs x s. (x, s .1 .0 .now))
+pub decode-one : OneAnswer {A = Answer × List ℕ} 2 decode-kinds.ps decode-kinds.r decode-contract.Post (λ κs x s. let out = s .1 .0 .now in (x, out))
 decode-one κs a x y s t p q = answer-and-output _ _ (p .0) (p .1) (q .0) (q .1)

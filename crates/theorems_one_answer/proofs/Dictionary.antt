@@ -20,13 +20,13 @@ use Rattle.theorems_one_answer.specs.OneAnswer.{OneAnswer}
 use Rattle.theorems_one_answer.proofs.Shapes.{answer, answer-and-output, answer-and-pool}
 
 -- the answer and the pool
-pub fresh-one : OneAnswer {A = Answer × List ℕ} 1 fresh-kinds.ps fresh-kinds.r fresh-contract.Post (λ κs x s. (x, s .0 .now))
+pub fresh-one : OneAnswer {A = Answer × List ℕ} 1 fresh-kinds.ps fresh-kinds.r fresh-contract.Post (λ κs x s. let pool = s .0 .now in (x, pool))
 fresh-one κs a x y s t p q = answer-and-pool _ _ _ _ (p .0) (p .1) (q .0) (q .1)
 
-pub add-one : OneAnswer {A = Answer × List ℕ} 2 add-kinds.ps add-kinds.r add-contract.Post (λ κs x s. (x, s .0 .now))
+pub add-one : OneAnswer {A = Answer × List ℕ} 2 add-kinds.ps add-kinds.r add-contract.Post (λ κs x s. let pool = s .0 .now in (x, pool))
 add-one κs a x y s t p q = answer-and-pool _ _ _ _ (p .0) (p .1) (q .0) (q .1)
 
-pub remove-one : OneAnswer {A = Answer × List ℕ} 2 remove-kinds.ps remove-kinds.r remove-contract.Post (λ κs x s. (x, s .0 .now))
+pub remove-one : OneAnswer {A = Answer × List ℕ} 2 remove-kinds.ps remove-kinds.r remove-contract.Post (λ κs x s. let pool = s .0 .now in (x, pool))
 remove-one κs a x y s t p q = answer-and-pool _ _ _ _ (p .0) (p .1) (q .0) (q .1)
 
 -- the answer
@@ -34,7 +34,7 @@ pub contain-one : OneAnswer {A = Answer} 2 contain-kinds.ps contain-kinds.r cont
 contain-one κs a x y s t p q = answer p q
 
 -- the answer and the output
-pub prefix-lengths-one : OneAnswer {A = Answer × List ℕ} 3 prefix-lengths-kinds.ps prefix-lengths-kinds.r prefix-lengths-contract.Post (λ κs x s. (x, s .1 .1 .0 .now))
+pub prefix-lengths-one : OneAnswer {A = Answer × List ℕ} 3 prefix-lengths-kinds.ps prefix-lengths-kinds.r prefix-lengths-contract.Post (λ κs x s. let out = s .1 .1 .0 .now in (x, out))
 prefix-lengths-one κs a x y s t p q = answer-and-output _ _ (p .0) (p .1) (q .0) (q .1)
 
 -- the answer

@@ -1,5 +1,5 @@
 -- Demand 3, and what the ends are, over runs of the proved function `newmm::cut` itself.
-use Prim.Native.Nat.{ℕ, _+_, _*_, _≤_}
+use Prim.Native.Nat.{ℕ, _≤_}
 use mathlib.Core.Path.{_≡_}
 use mathlib.Core.List.{List}
 use mathlib.Core.Option.{some}
@@ -11,6 +11,7 @@ use Rattle.newmm.proofs.cut.Kinds as cut-kinds
 use Rattle.newmm.proofs.cut.Reads as cut-contract
 use Rattle.trie_pool.specs.Meaning.{Words, meaning}
 use Rattle.newmm_answers.specs.declared.CutAnswer.the-variants.{Ends}
+use Rattle.newmm_answers.specs.Answers.{scratchFor}
 use Rattle.newmm_answers.specs.Calls.{Call}
 use Rattle.theorems_demands.specs.Demand3.{Reached}
 use Rattle.theorems_demands.specs.Ends.{Wrote}
@@ -49,7 +50,7 @@ SameAnswers a b =
     → callOf a .mode ≡ callOf b .mode
     → (n edges : ℕ)
     → a .answer ≡ Ends n edges
-    → 9 * length (callOf b .text) + 128 ≤ length (callOf b .scratch)
+    → scratchFor (length (callOf b .text)) ≤ length (callOf b .scratch)
     → n ≤ length (callOf b .out)
     → (b .answer ≡ Ends n edges) × (take n (outLeft b) ≡ take n (outLeft a))
 

@@ -3,10 +3,24 @@ use native.Mathlib.Omega.{arith}
 use mathlib.Core.Path.{sym}
 use lib.ListN.{length}
 use Rattle.trie_check.proofs.Parts.{long}
-use Rattle.newmm.proofs.Calls.{cleared-all, lent-ready, ends-fit, ends-lent, all-zero, short-answer, short-out, done-answer, done-out}
+use Rattle.newmm.proofs.Calls.{Lent, Ended, cleared-all, ready, ends-fit, ends-lent, short-cuts, done-cuts}
 use borrow.Author.Needs.{needs}
 use Rattle.newmm.proofs.cut_checked.Statement.{statement}
 use Rattle.newmm.proofs.cut_checked.Tie as tie
+
+-- what is lent on, and what stands in scratch after the cut
+lent : (c : tie.After-clear)
+    → let c7 = c .before .before .before .before .before .before .before in
+    Lent (c7 .args .text .now) (c7 .args .pool .now) (c .clear .last .0) (length (c7 .args .scratch .now)) (c .before .before .capacity .result)
+lent c =
+    let c2 = c .before .before in
+    let c7 = c2 .before .before .before .before .before in
+    record { passes = c7 .pre; nodes = c2 .capacity .ensures; blank = cleared-all (c7 .args .scratch .now) (c .clear .ensures) }
+
+ended : (c : tie.After-segment-single)
+    → let c12 = c .before .before .before .before .before .before .before .before .before .before .before .before in
+    Ended (c12 .args .mode) (c12 .args .text .now) (c12 .args .pool .now) (c .segment-single .last .1 .1 .0) (length (c12 .args .scratch .now)) (c .segment-single .result)
+ended c = record { blank-row = _; n = _; lent = lent (c .before .before .before .before .before); written = c .segment-single .ensures }
 
 capacity-requires : tie.Need-capacity-requires
 capacity-requires c κs = search needs
@@ -24,23 +38,10 @@ slice-aggregate-segment-single c =
     sym (long (c10 .args .pool .now) (c5 .capacity .result) (c5 .capacity .ensures))
 
 segment-single-requires : tie.Need-segment-single-requires
-segment-single-requires c κs =
-    let c4 = c .before .before .before .before in
-    let c6 = c4 .before .before in
-    let c11 = c6 .before .before .before .before .before in
-    lent-ready (c11 .args .mode) (c11 .args .text .now) (c11 .args .pool .now) (length (c11 .args .scratch .now))
-    (c11 .pre) (c6 .capacity .result) (c6 .capacity .ensures)
-    (cleared-all (c11 .args .scratch .now) (c4 .clear .ensures))
+segment-single-requires c κs = ready (lent (c .before .before .before .before))
 
 clear-requires-2 : tie.Need-clear-requires-2
-clear-requires-2 c κs =
-    let c4 = c .before .before .before .before in
-    let c9 = c4 .before .before .before .before .before in
-    let c11 = c9 .before .before in
-    let c16 = c11 .before .before .before .before .before in
-    ends-fit (c16 .args .mode) (c16 .args .text .now) (c16 .args .pool .now) (length (c16 .args .scratch .now))
-    (c16 .pre) (c11 .capacity .result) (c11 .capacity .ensures)
-    (cleared-all (c16 .args .scratch .now) (c9 .clear .ensures)) (c4 .segment-single .ensures)
+clear-requires-2 c κs = omega (arith, ends-fit (ended (c .before .before .before .before)))
 
 same-length : tie.Need-same-length
 same-length c = search needs
@@ -50,69 +51,22 @@ returns c =
     let c2 = c .before .before in
     let c4 = c2 .before .before in
     let c7 = c4 .before .before .before in
-    let c12 = c7 .before .before .before .before .before in
-    let c14 = c12 .before .before in
-    let c19 = c14 .before .before .before .before .before in (
-      short-answer (c19 .args .mode) (c19 .args .text .now) (c19 .args .pool .now) (length (c19 .args .scratch .now))
-          (c19 .pre) (c14 .capacity .result) (c14 .capacity .ensures)
-          (cleared-all (c19 .args .scratch .now) (c12 .clear .ensures)) (c7 .segment-single .ensures) _ (c4 .if1 .taken),
-      (
-        short-out (c19 .args .mode) (c19 .args .text .now) (c19 .args .pool .now) (length (c19 .args .scratch .now))
-            (c19 .pre) (c14 .capacity .result) (c14 .capacity .ensures)
-            (cleared-all (c19 .args .scratch .now) (c12 .clear .ensures)) (c7 .segment-single .ensures) _
-            (c4 .if1 .taken),
-        all-zero (c19 .args .mode) (c19 .args .text .now) (c19 .args .pool .now)
-            (length (c19 .args .scratch .now)) (c19 .pre) (c14 .capacity .result) (c14 .capacity .ensures)
-            (cleared-all (c19 .args .scratch .now) (c12 .clear .ensures)) (c7 .segment-single .ensures) _
-            (c2 .clear2 .ensures),
-      ),
-    )
+    let c19 = c7 .before .before .before .before .before .before .before .before .before .before .before .before in
+    short-cuts (c19 .args .scratch .now) (c19 .args .out .now) (ended c7) (c4 .if1 .taken) (c2 .clear2 .ensures)
 
 slice-reshare-prefix-copy : tie.Need-slice-reshare-prefix-copy
-slice-reshare-prefix-copy c =
-    let c3 = c .before .before .before in
-    let c8 = c3 .before .before .before .before .before in
-    let c10 = c8 .before .before in
-    let c15 = c10 .before .before .before .before .before in
-    ends-fit (c15 .args .mode) (c15 .args .text .now) (c15 .args .pool .now) (length (c15 .args .scratch .now))
-    (c15 .pre) (c10 .capacity .result) (c10 .capacity .ensures)
-    (cleared-all (c15 .args .scratch .now) (c8 .clear .ensures)) (c3 .segment-single .ensures)
+slice-reshare-prefix-copy c = ends-fit (ended (c .before .before .before))
 
 slice-aggregate-copy : tie.Need-slice-aggregate-copy
-slice-aggregate-copy c =
-    let c4 = c .before .before .before .before in
-    let c9 = c4 .before .before .before .before .before in
-    let c11 = c9 .before .before in
-    let c16 = c11 .before .before .before .before .before in
-    sym (ends-lent (c16 .args .mode) (c16 .args .text .now) (c16 .args .pool .now) (length (c16 .args .scratch .now))
-    (c16 .pre) (c11 .capacity .result) (c11 .capacity .ensures)
-    (cleared-all (c16 .args .scratch .now) (c9 .clear .ensures)) (c4 .segment-single .ensures))
+slice-aggregate-copy c = sym (ends-lent (ended (c .before .before .before .before)))
 
 copy-requires : tie.Need-copy-requires
 copy-requires c κs =
     let c2 = c .before .before in
-    let c5 = c2 .before .before .before in
-    let c10 = c5 .before .before .before .before .before in
-    let c12 = c10 .before .before in
-    let c17 = c12 .before .before .before .before .before in (
-      omega (
-        arith,
-        ends-lent (c17 .args .mode) (c17 .args .text .now) (c17 .args .pool .now)
-            (length (c17 .args .scratch .now)) (c17 .pre) (c12 .capacity .result) (c12 .capacity .ensures)
-            (cleared-all (c17 .args .scratch .now) (c10 .clear .ensures)) (c5 .segment-single .ensures),
-      ),
-      c2 .if1 .left,
-    )
+    (omega (arith, ends-lent (ended (c2 .before .before .before))), c2 .if1 .left)
 
 clear-requires-3 : tie.Need-clear-requires-3
-clear-requires-3 c κs =
-    let c9 = c .before .before .before .before .before .before .before .before .before in
-    let c14 = c9 .before .before .before .before .before in
-    let c16 = c14 .before .before in
-    let c21 = c16 .before .before .before .before .before in
-    ends-fit (c21 .args .mode) (c21 .args .text .now) (c21 .args .pool .now) (length (c21 .args .scratch .now))
-    (c21 .pre) (c16 .capacity .result) (c16 .capacity .ensures)
-    (cleared-all (c21 .args .scratch .now) (c14 .clear .ensures)) (c9 .segment-single .ensures)
+clear-requires-3 c κs = omega (arith, ends-fit (ended (c .before .before .before .before .before .before .before .before .before)))
 
 same-length-2 : tie.Need-same-length-2
 same-length-2 c = search needs
@@ -126,23 +80,8 @@ returns-2 c =
     let c6 = c2 .before .before .before .before in
     let c9 = c6 .before .before .before in
     let c12 = c9 .before .before .before in
-    let c17 = c12 .before .before .before .before .before in
-    let c19 = c17 .before .before in
-    let c24 = c19 .before .before .before .before .before in (
-      done-answer (c24 .args .mode) (c24 .args .text .now) (c24 .args .pool .now) (length (c24 .args .scratch .now))
-          (c24 .pre) (c19 .capacity .result) (c19 .capacity .ensures)
-          (cleared-all (c24 .args .scratch .now) (c17 .clear .ensures)) (c12 .segment-single .ensures) _ (c9 .if1 .left),
-      (
-        done-out (c24 .args .mode) (c24 .args .text .now) (c24 .args .pool .now) (length (c24 .args .scratch .now))
-            (c24 .pre) (c19 .capacity .result) (c19 .capacity .ensures)
-            (cleared-all (c24 .args .scratch .now) (c17 .clear .ensures)) (c12 .segment-single .ensures) _ _ (c9 .if1 .left)
-            (c6 .copy .ensures),
-        all-zero (c24 .args .mode) (c24 .args .text .now) (c24 .args .pool .now)
-            (length (c24 .args .scratch .now)) (c24 .pre) (c19 .capacity .result) (c19 .capacity .ensures)
-            (cleared-all (c24 .args .scratch .now) (c17 .clear .ensures)) (c12 .segment-single .ensures) _
-            (c2 .clear3 .ensures),
-      ),
-    )
+    let c24 = c12 .before .before .before .before .before .before .before .before .before .before .before .before in
+    done-cuts (c24 .args .scratch .now) (c24 .args .out .now) (ended c12) (c9 .if1 .left) (c6 .copy .ensures) (c2 .clear3 .ensures)
 
 pub cut-checked-spec : {M : Type 1} → statement M
 cut-checked-spec =

@@ -1,5 +1,5 @@
 -- Assumes nothing.
-use Rattle.fetlockice.proofs.Answers.{cut-told}
+use Rattle.fetlockice.proofs.Answers.{telling-cut}
 use borrow.Author.Needs.{needs}
 use Rattle.fetlockice.proofs.cuts.fetlockice_cut_safe.Statement.{statement}
 use Rattle.fetlockice.proofs.cuts.fetlockice_cut_safe.Tie as tie
@@ -23,7 +23,7 @@ same-length-2 c = search needs
 returns : tie.Need-returns
 returns c =
     let c8 = c .before .before .before .before .before .before .before .before in
-    cut-told (c8 .cut .ensures .0) (c .tell-cut .ensures) (c8 .cut .ensures .1 .0) (c8 .cut .ensures .1 .1)
+    (telling-cut (c8 .cut .ensures .0) (c .tell-cut .ensures), c8 .cut .ensures .1)
 
 pub fetlockice-cut-safe-spec : {M : Type 1} → statement M
 fetlockice-cut-safe-spec =
