@@ -4,6 +4,7 @@ use mathlib.Core.Path.{_≡_}
 use mathlib.Core.Bool.{true, false}
 use mathlib.Core.List.{List}
 use lib.ListN.{length, getD}
+use Rattle.refusal.specs.Limits.{maxNodes}
 use Rattle.char_string.specs.Scalars.{isScalar}
 use Rattle.char_string.specs.Blanks.{isTrimmed}
 use Rattle.trie_pool.specs.Cells.{scalarAt, firstAt, countAt, markAt, used}
@@ -44,7 +45,7 @@ pub record Plucks (p : List ℕ) (m b j : ℕ) : Type 0 where
   pub leaf : countAt p j ≡ 0
   pub unmarked : markAt p j ≡ 0
   pub fits : 8 * suc m ≤ length p
-  pub small : suc m ≤ 1048576
+  pub small : suc m ≤ maxNodes
 
 -- what it leaves: a pool of which the old one is one with that leaf more
 pub record Plucked (p p′ : List ℕ) (m b j : ℕ) : Type 0 where
