@@ -30,11 +30,13 @@ numbers rs = map (λ (r : Cause). numberOf (r .refusal)) rs
 abbrev pub longCause : ℕ → Cause
 longCause scalars = record { refusal = TooManyScalars scalars; holds = ltb maxText scalars }
 
--- 6: the output has fewer cells than the answer; cells needed. An operation that writes has this cause last.
+-- 6: the output has fewer cells than the answer; cells needed. An operation that writes has this
+-- cause last.
 abbrev pub outCause : ℕ → ℕ → Cause
 outCause needed room = record { refusal = OutputTooShort needed; holds = ltb room needed }
 
--- A refusal changes no output. An accepted call writes the first cells of the output and keeps the rest.
+-- A refusal changes no output. An accepted call writes the first cells of the output and keeps the
+-- rest.
 abbrev pub output : Answer → List ℕ → List ℕ → List ℕ
 output (Accepted n) written old = written ++ drop (length written) old
 output (Refused r) written old = old

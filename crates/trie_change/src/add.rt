@@ -10,7 +10,8 @@ use trie_search::seek;
 ghost use Prim.Native.Nat.{_+_, _≤_};
 ghost use lib.ListN.{length};
 ghost use Rattle.trie_pool.specs.Cells.{nodeCells};
-ghost use Rattle.trie_change.specs.inner.Planting.{Shifted, Put, Bumps, Bumped, Plants, Planted, Enters, Entered, Puts, PutIn};
+ghost use Rattle.trie_change.specs.inner.Planting.{Shifted, Put, Bumps, Bumped, Plants, Planted};
+ghost use Rattle.trie_change.specs.inner.Planting.{Enters, Entered, Puts, PutIn};
 
 // Moves the cells from `low` to `high` one node on.
 fn shift(p: &mut [u32], low: usize, high: usize)

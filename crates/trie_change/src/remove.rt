@@ -14,7 +14,8 @@ ghost use Prim.Native.Nat.{ℕ, _≤_};
 ghost use lib.ListN.{length};
 ghost use Rattle.trie_pool.specs.Words.{at};
 ghost use Rattle.trie_pool.specs.inner.Paths.{reach};
-ghost use Rattle.trie_change.specs.inner.Plucking.{Unshifted, Wiped, Lowers, Lowered, Plucks, Plucked, Prunes, Pruned, Removes, Removed};
+ghost use Rattle.trie_change.specs.inner.Plucking.{Unshifted, Wiped, Lowers, Lowered, Plucks, Plucked};
+ghost use Rattle.trie_change.specs.inner.Plucking.{Prunes, Pruned, Removes, Removed};
 
 // Moves the cells from low + 8 to high one node back.
 fn unshift(p: &mut [u32], low: usize, high: usize)

@@ -10,8 +10,8 @@ use Rattle.trie_pool.specs.Cells.{nodeCells}
 use Rattle.trie_pool.specs.Rules.{capacity}
 use Rattle.trie_pool.specs.Meaning.{Words, meaning}
 
--- The pool of these words, of which there is one (proofs/One.antt: one-after). Later cells and a part
--- node are never written.
+-- The pool of these words, of which there is one (proofs/One.antt: one-after). Later cells and a
+-- part node are never written.
 pub record Became (old new : List ℕ) (words : Words) : Type 0 where
   pub means : meaning new ≡ some words
   pub later : drop (nodeCells * capacity old) new ≡ drop (nodeCells * capacity old) old

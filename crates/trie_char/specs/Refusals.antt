@@ -20,15 +20,20 @@ lengthCauses word =
     record { refusal = WordTooLong (length (trimmedOf word)); holds = ltb maxWord (length (trimmedOf word)) } ∷ []
 
 -- Nodes in use are the root and one for each distinct non-empty prefix of the words held; so many
--- there would be with the word added. It is counted by the cells; that it is the number of prefixes of
--- the words is a theorem (crates/theorems_demands/proofs/Counts.antt: nodes-is).
+-- there would be with the word added. It is counted by the cells; that it is the number of prefixes
+-- of the words is a theorem (crates/theorems_demands/proofs/Counts.antt: nodes-is).
 abbrev pub nodesWith : List ℕ → List ℕ → ℕ
 nodesWith pool w = used (cellsOf pool) + lacking (cellsOf pool) w 0
 
--- 8: the pool has too few free nodes; nodes missing. Exactly if the nodes in use would pass capacity.
+-- 8: the pool has too few free nodes; nodes missing. Exactly if the nodes in use would pass
+-- capacity.
 abbrev pub nodeCauses : List ℕ → List ℕ → List Cause
 nodeCauses pool w =
-    record { refusal = TooFewNodes (nodesWith pool w - capacity pool); holds = ltb (capacity pool) (nodesWith pool w) } ∷ []
+    record {
+      refusal = TooFewNodes (nodesWith pool w - capacity pool);
+      holds = ltb (capacity pool) (nodesWith pool w);
+    }
+    ∷ []
 
 -- Prefix lengths: 2, 3, 4, 6.
 abbrev pub prefixCauses : List ℕ → Option Words → List ℕ → List Cause

@@ -32,7 +32,8 @@ pub fn fresh(pool: &mut [u32]) -> Answer
 // Adds the trimmed word; 1 if the set changed, else 0.
 pub fn add(pool: &mut [u32], word: &[u32]) -> Answer
     ensures { λ r. ⌜ r ≡ addAnswer (now (word .entry)) (now (pool .entry)) ⌝ }
-    ensures { λ r. ⌜ After r (now (pool .entry)) (now (pool .exit)) (added (now (word .entry)) (now (pool .entry))) ⌝ }
+    ensures { λ r. ⌜ After r (now (pool .entry)) (now (pool .exit))
+        (added (now (word .entry)) (now (pool .entry))) ⌝ }
 {
     let checked = check_word(pool, word);
     let Answer::Accepted(_) = checked else {
@@ -60,7 +61,8 @@ pub fn add(pool: &mut [u32], word: &[u32]) -> Answer
 // Removes the trimmed word; 1 if the set changed, else 0.
 pub fn remove(pool: &mut [u32], word: &[u32]) -> Answer
     ensures { λ r. ⌜ r ≡ removeAnswer (now (word .entry)) (now (pool .entry)) ⌝ }
-    ensures { λ r. ⌜ After r (now (pool .entry)) (now (pool .exit)) (removed (now (word .entry)) (now (pool .entry))) ⌝ }
+    ensures { λ r. ⌜ After r (now (pool .entry)) (now (pool .exit))
+        (removed (now (word .entry)) (now (pool .entry))) ⌝ }
 {
     let checked = check_word(pool, word);
     let Answer::Accepted(_) = checked else {

@@ -27,10 +27,12 @@ pub fn contain(pool: &[u32], word: &[u32]) -> Answer
     Answer::Accepted(0)
 }
 
-// The lengths of the words that the text starts with, rising, at the front of out; accepted with their number.
+// The lengths of the words that the text starts with, rising, at the front of out; accepted with
+// their number.
 pub fn prefix_lengths(pool: &[u32], text: &[u32], out: &mut [u32]) -> Answer
     ensures { λ r. ⌜ r ≡ prefixesAnswer (now (text .entry)) (now (pool .entry)) (now (out .entry)) ⌝ }
-    ensures { λ r. ⌜ now (out .exit) ≡ output r (prefixes (now (text .entry)) (now (pool .entry))) (now (out .entry)) ⌝ }
+    ensures { λ r. ⌜ now (out .exit) ≡
+        output r (prefixes (now (text .entry)) (now (pool .entry))) (now (out .entry)) ⌝ }
 {
     let checked = check(pool, text);
     let Answer::Accepted(_) = checked else {

@@ -12,7 +12,8 @@ ghost use Rattle.trie_char.specs.Refusals.{removeCauses};
 
 // Refusals 2, 3, 4 and 7, accepted with the word's length.
 pub fn check_word(pool: &[u32], word: &[u32]) -> Answer
-    ensures { λ r. ⌜ r ≡ answer (removeCauses (now (word .entry)) (meaning (now (pool .entry)))) (length (now (word .entry))) ⌝ }
+    ensures { λ r. ⌜ r ≡
+        answer (removeCauses (now (word .entry)) (meaning (now (pool .entry)))) (length (now (word .entry))) ⌝ }
 {
     let checked = check(pool, word);
     let Answer::Accepted(n) = checked else {

@@ -1,5 +1,5 @@
-// A pool as it is lent: which of its cells are read and written, whether it is a dictionary, and the
-// refusals that every operation on a text and a pool gives. For our own crates.
+// A pool as it is lent: which of its cells are read and written, whether it is a dictionary, and
+// the refusals that every operation on a text and a pool gives. For our own crates.
 mod rules;
 
 use crate::rules::well_formed;
@@ -38,7 +38,8 @@ pub fn is_dictionary(pool: &[u32]) -> bool
 
 // Refusals 2, 3 and 4, accepted with the text's length.
 pub fn check(pool: &[u32], text: &[u32]) -> Answer
-    ensures { λ r. ⌜ r ≡ answer (readCauses (now (text .entry)) (meaning (now (pool .entry)))) (length (now (text .entry))) ⌝ }
+    ensures { λ r. ⌜ r ≡
+        answer (readCauses (now (text .entry)) (meaning (now (pool .entry)))) (length (now (text .entry))) ⌝ }
 {
     let checked = check_text(text);
     let Answer::Accepted(n) = checked else {

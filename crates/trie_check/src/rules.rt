@@ -34,7 +34,8 @@ fn is_thai(x: u32) -> bool
     true
 }
 
-// Whether a node that is not the root may have this scalar, number of children, mark and fifth cell.
+// Whether a node that is not the root may have this scalar, number of children, mark and fifth
+// cell.
 fn inner_ok(scalar: u32, count: u32, mark: u32, fifth: u32) -> bool
     ensures { λ r. ⌜ Decides r (Inner scalar count mark fifth) ⌝ }
 {
@@ -114,7 +115,8 @@ fn each_ok(p: &[u32], n: usize, i: usize, s: usize) -> bool
     true
 }
 
-// Whether all that is asked of single nodes holds of each of n, and each but the root is a child of one.
+// Whether all that is asked of single nodes holds of each of n, and each but the root is a child of
+// one.
 fn nodes_ok(p: &[u32], n: usize) -> bool
     requires { ⌜ (0 < n) × (nodeCells * n ≤ length (now p)) ⌝ }
     ensures { λ r. ⌜ Decides r (Nodes (now (p .entry)) n) ⌝ }

@@ -1,4 +1,5 @@
--- What a pool means: the set of its words, and what adding, removing and reading do with a set of words.
+-- What a pool means: the set of its words, and what adding, removing and reading do with a set of
+-- words.
 use Prim.Native.Nat.{ℕ, zero, suc, _+_}
 use mathlib.Core.Bool.{Bool, true, false, not, cond, _&&_, _||_}
 use mathlib.Core.List.{List, [], _∷_}
@@ -46,7 +47,8 @@ differ false false = 0
 abbrev pub report : List ℕ → Words → Words → ℕ
 report w before after = differ (before w) (after w)
 
--- Prefix lengths come rising: the k from i on, n of them, at which the first k characters are a word
+-- Prefix lengths come rising: the k from i on, n of them, at which the first k characters are a
+-- word
 abbrev pub lengthsFrom : Words → List ℕ → ℕ → ℕ → List ℕ
 lengthsFrom held text i zero = []
 lengthsFrom held text i (suc n) =

@@ -54,7 +54,8 @@ beforeChildren p = eachNode p (λ i. ltb i (firstAt p i))
 -- 5. The scalars of a node's children rise.
 abbrev pub rising : List ℕ → Bool
 rising p =
-    eachNode p (λ i. every (countAt p i - 1) (λ k. ltb (scalarAt p (firstAt p i + k)) (scalarAt p (firstAt p i + suc k))))
+    eachNode p (λ i. every (countAt p i - 1)
+    (λ k. ltb (scalarAt p (firstAt p i + k)) (scalarAt p (firstAt p i + suc k))))
 
 -- 6. Each scalar but the root's is a Unicode scalar value.
 abbrev pub scalars : List ℕ → Bool
@@ -90,8 +91,8 @@ zeros p =
 
 abbrev pub rules : List ℕ → List Bool
 rules p =
-    inUse p ∷ rooted p ∷ levelOrder p ∷ beforeChildren p ∷ rising p ∷ scalars p ∷ marks p ∷ leaves p ∷ starts p ∷ stops p
-    ∷ levels p ∷ zeros p ∷ []
+    inUse p ∷ rooted p ∷ levelOrder p ∷ beforeChildren p ∷ rising p ∷ scalars p
+    ∷ marks p ∷ leaves p ∷ starts p ∷ stops p ∷ levels p ∷ zeros p ∷ []
 
 abbrev pub all : List Bool → Bool
 all [] = true

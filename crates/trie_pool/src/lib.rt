@@ -1,4 +1,5 @@
-// The dictionary's pool: the meaning of its cells stands in specs/, the laws of level order in proofs/.
+// The dictionary's pool: the meaning of its cells stands in specs/, the laws of level order in
+// proofs/.
 
 // The cells of a node: those of node i stand from NODE * i on. Its scalar is the first of them.
 pub const NODE: usize = 8;

@@ -30,7 +30,8 @@ fn least(a: usize, b: usize) -> usize
 }
 
 // Where a child of b with scalar x stands, or would stand. The children rise by one at least, so it
-// stands no further from the first than x from the first one's scalar: the search goes down from there.
+// stands no further from the first than x from the first one's scalar: the search goes down from
+// there.
 pub fn seek(p: &[u32], b: usize, x: u32) -> usize
     requires { ⌜ Readable (now p) b ⌝ }
     ensures { λ r. ⌜ Sought (now (p .entry)) b x r ⌝ }
@@ -163,11 +164,12 @@ pub fn prefix_count(p: &[u32], text: &[u32]) -> usize
     n
 }
 
-// Writes the lengths of the words that the text starts with to the front of out, rising, and returns
-// their number.
+// Writes the lengths of the words that the text starts with to the front of out, rising, and
+// returns their number.
 pub fn prefix_lengths(p: &[u32], text: &[u32], out: &mut [u32]) -> usize
     requires { ⌜ Asks (now p) (now text) (now out) ⌝ }
-    ensures { λ r. ⌜ Wrote (now (out .entry)) (prefixLengths (holds (now (p .entry))) (now (text .entry))) (now (out .exit)) r ⌝ }
+    ensures { λ r. ⌜ Wrote (now (out .entry))
+        (prefixLengths (holds (now (p .entry))) (now (text .entry))) (now (out .exit)) r ⌝ }
 {
     let mut b: usize = 0;
     let mut n: usize = 0;

@@ -47,7 +47,8 @@ sizeIn (row ∷ rows) s = cond (starts row s) (length row) (sizeIn rows s)
 unfoldable pub sizeOf : List ℕ → ℕ
 sizeOf s = sizeIn table37 s
 
--- What reading sequence after sequence finds: the scalars, the bytes that they take, and whether these are all.
+-- What reading sequence after sequence finds: the scalars, the bytes that they take, and whether
+-- these are all.
 pub record Run : Type 0 where
   pub scalars : List ℕ
   pub taken : ℕ

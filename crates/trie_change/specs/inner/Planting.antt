@@ -61,7 +61,8 @@ pub record Put (p p′ : List ℕ) (a x f : ℕ) : Type 0 where
   pub front : (k : ℕ) → k < a → getD p′ k 0 ≡ getD p k 0
   pub back : (k : ℕ) → a + 4 ≤ k → getD p′ k 0 ≡ getD p k 0
 
--- what `bump` asks, and what it leaves: the first child of each node from `low` to `high` is one more
+-- what `bump` asks, and what it leaves: the first child of each node from `low` to `high` is one
+-- more
 pub record Bumps (p : List ℕ) (low high : ℕ) : Type 0 where
   pub fits : 8 * high ≤ length p
   pub rising : low ≤ high

@@ -72,8 +72,8 @@ pub record Removes (p : List ℕ) (b : ℕ) : Type 0 where
   pub path : List ℕ
   pub leads : reach p path ≡ at b
 
--- what it leaves, where the path u (from its end) leads to b: the word that goes on with w from b is gone, b itself may be left without child or mark,
--- and each node up to b has kept its number
+-- what it leaves, where the path u (from its end) leads to b: the word that goes on with w from b
+-- is gone, b itself may be left without child or mark, and each node up to b has kept its number
 pub record Removed (p p′ u : List ℕ) (b : ℕ) (w : List ℕ) : Type 0 where
   pub sound : Sound p′ (used p′) b
   pub keeps : (v : List ℕ) (z : ℕ) → reach p v ≡ at z → z ≤ b → reach p′ v ≡ at z

@@ -1,4 +1,5 @@
--- The rules of a well-formed pool as facts, one node being excepted: what functions of our own crates ask and leave.
+-- The rules of a well-formed pool as facts, one node being excepted: what functions of our own
+-- crates ask and leave.
 use Prim.Native.Nat.{ℕ, suc, _+_, _*_, _≤_, _<_}
 use mathlib.Core.Path.{_≡_}
 use mathlib.Core.Bool.{Bool, true, false}
@@ -10,7 +11,8 @@ use Rattle.char_string.specs.Blanks.{isTrimmed}
 use Rattle.trie_pool.specs.Cells.{scalarAt, firstAt, countAt, markAt}
 use Rattle.trie_pool.specs.Levels.{levelEnd}
 
--- n nodes in level order: the children of each node stand behind those of the node before it, from node 1 to the last
+-- n nodes in level order: the children of each node stand behind those of the node before it, from
+-- node 1 to the last
 pub record Shaped (p : List ℕ) (n : ℕ) : Type 0 where
   pub some : 0 < n
   pub start : firstAt p 0 ≡ 1
@@ -35,7 +37,8 @@ pub record Spare (p : List ℕ) (n : ℕ) : Type 0 where
   pub others : (i r : ℕ) → i < n → 5 ≤ r → r < 8 → getD p (8 * i + r) 0 ≡ 0
   pub blank : (k : ℕ) → 8 * n ≤ k → getD p k 0 ≡ 0
 
--- a dictionary of n nodes, but that the node cur may be a leaf that ends no word (0, the root: no exception)
+-- a dictionary of n nodes, but that the node cur may be a leaf that ends no word (0, the root: no
+-- exception)
 pub record Sound (p : List ℕ) (n cur : ℕ) : Type 0 where
   pub shaped : Shaped p n
   pub fits : 8 * n ≤ length p

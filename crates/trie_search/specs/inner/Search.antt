@@ -22,7 +22,8 @@ abbrev pub toPlace : Kid → Place
 toPlace Nothing = none
 toPlace (Is r) = at r
 
--- what the functions on a text ask: that a length is a cell, and that the row has room for the answer
+-- what the functions on a text ask: that a length is a cell, and that the row has room for the
+-- answer
 pub record Asks (p text out : List ℕ) : Type 0 where
   pub here : Readable p 0
   pub short : length text ≤ maxText
