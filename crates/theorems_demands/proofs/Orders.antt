@@ -1,9 +1,12 @@
 -- 01, "The lowest number that applies to an operation is given": the numbers of each operation's causes, in order.
--- Which of them is given, and that none is exactly if the call is accepted: crates/refusal/proofs/Firsts.antt. Assumes nothing.
+-- Which of them is given, and that none is exactly if the call is accepted: crates/refusal/proofs/Firsts.antt
+-- (`first-that-holds`, `accepted-exactly-if-none`). Assumes nothing.
 use Prim.Native.Nat.{ℕ}
+use native.Mathlib.Omega.{arith}
 use mathlib.Core.Path.{_≡_, refl}
 use mathlib.Core.List.{List, [], _∷_}
 use Rattle.refusal.specs.Answers.{numbers}
+use Rattle.refusal.specs.Firsts.{Rising}
 use Rattle.utf8.specs.Decoding.{decodeCauses}
 use Rattle.utf8.proofs.Decoded.{decoding}
 use Rattle.tcc.specs.Answers.{clusterCauses}
@@ -50,3 +53,33 @@ count-order pool = refl
 -- Fresh pool: 8.
 pub fresh-order : (pool : List ℕ) → numbers (freshCauses pool) ≡ 8 ∷ []
 fresh-order pool = refl
+
+-- ---- Each of these lists rises, so the refusal that is given has the lowest number that applies
+-- (crates/refusal/proofs/Firsts.antt: lowest).
+
+pub decode-rises : Rising (1 ∷ 2 ∷ 6 ∷ [])
+decode-rises = ((omega arith, (omega arith, tt)), ((omega arith, tt), (tt, tt)))
+
+pub clusters-rises : Rising (2 ∷ 3 ∷ 6 ∷ [])
+clusters-rises = ((omega arith, (omega arith, tt)), ((omega arith, tt), (tt, tt)))
+
+pub prefix-rises : Rising (2 ∷ 3 ∷ 4 ∷ 6 ∷ [])
+prefix-rises = ((omega arith, (omega arith, (omega arith, tt))), ((omega arith, (omega arith, tt)), ((omega arith, tt), (tt, tt))))
+
+pub cut-rises : Rising (2 ∷ 3 ∷ 4 ∷ 5 ∷ 6 ∷ [])
+cut-rises = ((omega arith, (omega arith, (omega arith, (omega arith, tt)))), ((omega arith, (omega arith, (omega arith, tt))), ((omega arith, (omega arith, tt)), ((omega arith, tt), (tt, tt)))))
+
+pub add-rises : Rising (2 ∷ 3 ∷ 4 ∷ 7 ∷ 8 ∷ [])
+add-rises = ((omega arith, (omega arith, (omega arith, (omega arith, tt)))), ((omega arith, (omega arith, (omega arith, tt))), ((omega arith, (omega arith, tt)), ((omega arith, tt), (tt, tt)))))
+
+pub remove-rises : Rising (2 ∷ 3 ∷ 4 ∷ 7 ∷ [])
+remove-rises = ((omega arith, (omega arith, (omega arith, tt))), ((omega arith, (omega arith, tt)), ((omega arith, tt), (tt, tt))))
+
+pub contains-rises : Rising (2 ∷ 3 ∷ 4 ∷ [])
+contains-rises = ((omega arith, (omega arith, tt)), ((omega arith, tt), (tt, tt)))
+
+pub count-rises : Rising (4 ∷ [])
+count-rises = (tt, tt)
+
+pub fresh-rises : Rising (8 ∷ [])
+fresh-rises = (tt, tt)
