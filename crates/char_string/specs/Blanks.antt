@@ -10,7 +10,7 @@ use Rattle.char_string.specs.declared.blanks.Found.{Found}
 use Rattle.char_string.specs.declared.blanks.Found.the-variants.{At, Nothing}
 
 -- Trimming strips U+0009 to U+000D and U+0020 at both edges.
-abbrev pub isTrimmed : ℕ → Bool
+unfoldable pub isTrimmed : ℕ → Bool
 isTrimmed x = within 0x9 0xD x || eqb x 0x20
 
 abbrev pub stays : ℕ → Bool

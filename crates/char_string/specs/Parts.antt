@@ -24,12 +24,14 @@ fitted n start end = cond (rightPair n start end) (record { start = start; end =
 abbrev pub between : List ℕ → Span → List ℕ
 between text s = take (s .end - s .start) (drop (s .start) text)
 
--- the part of the text between two positions; also what a view over the text with that start and end shows
+-- the part of the text between two positions; also what a view over the text with that start and
+-- end shows
 abbrev pub partOf : List ℕ → ℕ → ℕ → List ℕ
 partOf text start end = between text (fitted (length text) start end)
 
--- Cell i of cells that lie at `place`: a block of memory and an offset in it, four bytes a cell. A token handed out is that
--- part of the caller's text itself, no copy: so it lies where the cell at its start lies.
+-- Cell i of cells that lie at `place`: a block of memory and an offset in it, four bytes a cell. A
+-- token handed out is that part of the caller's text itself, no copy: so it lies where the cell at
+-- its start lies.
 abbrev pub cellAt : ℕ × ℕ → ℕ → ℕ × ℕ
 cellAt place i = (place .0, i * 4 + place .1)
 

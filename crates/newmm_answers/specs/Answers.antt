@@ -5,10 +5,10 @@ use mathlib.Core.List.{List, [], _∷_, _++_}
 use mathlib.Core.Option.{Option}
 use lib.Dec.{ltb}
 use lib.ListN.{length, replicate}
-use Rattle.refusal.specs.declared.Refusal.the-variants.{ScratchTooShort, OutputTooShort}
+use Rattle.refusal.specs.declared.Refusal.the-variants.{ScratchTooShort}
 use Rattle.refusal.specs.declared.Answer.{Answer}
 use Rattle.refusal.specs.declared.Answer.the-variants.{Accepted, Refused}
-use Rattle.refusal.specs.Answers.{Cause, answer, output}
+use Rattle.refusal.specs.Answers.{Cause, answer, output, outCause}
 use Rattle.trie_pool.specs.Meaning.{Words}
 use Rattle.trie_check.specs.Refusals.{held, readCauses}
 use Rattle.tcc.specs.Flags.{isEnd}
@@ -45,7 +45,7 @@ scratchCauses text cells = scratchCause (length text) cells ∷ []
 
 -- 6: the output has fewer cells than the answer; cells needed.
 abbrev pub outCauses : List ℕ → ℕ → List Cause
-outCauses ends room = record { refusal = OutputTooShort (length ends); holds = ltb room (length ends) } ∷ []
+outCauses ends room = outCause (length ends) room ∷ []
 
 -- 2, 3, 4, 5: before any cutting is done. `cells` is the number of scratch cells.
 abbrev pub firstCauses : List ℕ → Option Words → ℕ → List Cause

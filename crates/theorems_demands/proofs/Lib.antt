@@ -7,4 +7,5 @@ pub mod Safe
 pub mod Cases
 pub mod Grown
 pub mod Orders
+pub mod Counts
 pub mod More

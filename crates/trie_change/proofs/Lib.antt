@@ -6,3 +6,4 @@ pub mod Adding
 pub mod Plucked
 pub mod Gone
 pub mod Taking
+pub mod Cleared

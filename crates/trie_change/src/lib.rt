@@ -1,6 +1,9 @@
-// Changing a dictionary's pool: one leaf more, one leaf less, and whole words. For our own crates.
+// Changing a dictionary's pool: one leaf more, one leaf less, whole words, and no words at all.
+// For our own crates.
 mod add;
+mod empty;
 mod remove;
 
 pub use add::add_word;
+pub use empty::reset;
 pub use remove::remove_word;

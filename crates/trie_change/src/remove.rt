@@ -1,6 +1,11 @@
 // Taking a word out.
 use cells::narrow;
 use cells::wide;
+use trie_pool::COUNT;
+use trie_pool::FIRST;
+use trie_pool::IN_USE;
+use trie_pool::MARK;
+use trie_pool::NODE;
 use trie_search::Kid;
 use trie_search::find_child;
 ghost use mathlib.Core.Path.{_≡_};
@@ -9,19 +14,20 @@ ghost use Prim.Native.Nat.{ℕ, _≤_};
 ghost use lib.ListN.{length};
 ghost use Rattle.trie_pool.specs.Words.{at};
 ghost use Rattle.trie_pool.specs.inner.Paths.{reach};
-ghost use Rattle.trie_change.specs.inner.Plucking.{Unshifted, Wiped, Lowers, Lowered, Plucks, Plucked, Prunes, Pruned, Removes, Removed};
+ghost use Rattle.trie_change.specs.inner.Plucking.{Unshifted, Wiped, Lowers, Lowered, Plucks, Plucked};
+ghost use Rattle.trie_change.specs.inner.Plucking.{Prunes, Pruned, Removes, Removed};
 
-// Moves the cells from low + 8 to high eight places back.
+// Moves the cells from low + 8 to high one node back.
 fn unshift(p: &mut [u32], low: usize, high: usize)
     requires { ⌜ high ≤ length (now p) ⌝ }
     ensures { λ _. ⌜ Unshifted (now (p .entry)) (now (p .exit)) low high ⌝ }
 {
     let mut k = low;
     while k < high {
-        if high - k <= 8 {
+        if high - k <= NODE {
             return;
         }
-        p[k] = p[k + 8];
+        p[k] = p[k + NODE];
         k += 1;
     }
 }
@@ -45,7 +51,7 @@ fn lower(p: &mut [u32], low: usize, high: usize)
 {
     let mut i = low;
     while i < high {
-        let c = 8 * i + 1;
+        let c = NODE * i + FIRST;
         p[c] = p[c] - 1;
         i += 1;
     }
@@ -56,13 +62,13 @@ fn pluck(p: &mut [u32], m: usize, b: usize, j: usize)
     requires { ⌜ Plucks (now p) m b j ⌝ }
     ensures { λ _. ⌜ Plucked (now (p .entry)) (now (p .exit)) m b j ⌝ }
 {
-    let a = 8 * m;
-    unshift(p, 8 * j, a + 8);
-    wipe(p, a, a + 8);
+    let a = NODE * m;
+    unshift(p, NODE * j, a + NODE);
+    wipe(p, a, a + NODE);
     lower(p, b + 1, m);
-    let c = 8 * b + 2;
+    let c = NODE * b + COUNT;
     p[c] = p[c] - 1;
-    p[4] = narrow(m);
+    p[IN_USE] = narrow(m);
 }
 
 // Drops the child j of b if it ends no word and has no child.
@@ -70,13 +76,13 @@ fn prune(p: &mut [u32], b: usize, j: usize)
     requires { ⌜ Prunes (now p) b j ⌝ }
     ensures { λ _. ⌜ Pruned (now (p .entry)) (now (p .exit)) b ⌝ }
 {
-    if p[8 * j + 2] != 0 {
+    if p[NODE * j + COUNT] != 0 {
         return;
     }
-    if p[8 * j + 3] != 0 {
+    if p[NODE * j + MARK] != 0 {
         return;
     }
-    let n = wide(p[4]);
+    let n = wide(p[IN_USE]);
     pluck(p, n - 1, b, j);
 }
 
@@ -87,7 +93,7 @@ pub fn remove_word(p: &mut [u32], b: usize, w: &[u32])
         Removed (now (p .entry)) (now (p .exit)) u b (now (w .entry))) ⌝ }
 {
     if w.len() == 0 {
-        p[8 * b + 3] = 0;
+        p[NODE * b + MARK] = 0;
         return;
     }
     let kid = find_child(p, b, w[0]);

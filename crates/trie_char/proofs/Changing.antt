@@ -14,7 +14,6 @@ use Rattle.refusal.specs.declared.Refusal.the-variants.{TooFewNodes}
 use Rattle.refusal.specs.declared.Answer.{Answer}
 use Rattle.refusal.specs.declared.Answer.the-variants.{Accepted, Refused}
 use Rattle.refusal.specs.Answers.{Cause, answer}
-use Rattle.refusal.proofs.Order.{refused-first}
 use Rattle.char_string.specs.Scalars.{isScalar}
 use Rattle.char_string.specs.Blanks.{trimmedOf}
 use Rattle.trie_pool.specs.Cells.{used}
@@ -30,8 +29,8 @@ use Rattle.trie_change.specs.inner.Planting.{Puts, PutIn}
 use Rattle.trie_change.specs.inner.Plucking.{Removes, Removed}
 use Rattle.trie_check.specs.Refusals.{held}
 use Rattle.trie_char.specs.Refusals.{nodesWith, nodeCauses, removeCauses, addCauses}
-use Rattle.trie_char.specs.Changes.{Became}
-use Rattle.refusal.proofs.Causes.{again, still, cause-yes, cause-no}
+use Rattle.trie_char.specs.Changes.{Became, After}
+use Rattle.refusal.proofs.Causes.{again, handed, handed-same, cause-yes, cause-no}
 use Rattle.trie_char.proofs.LongWords.{word-of}
 use Rattle.trie_check.proofs.Parts.{meaning-yes, known-is, held-is, inside, cells-are, long, sound-part, held-part}
 
@@ -88,6 +87,9 @@ module _ (old word : List ℕ) {a : Answer} {k : ℕ} (is : a ≡ answer (remove
 
   -- ---- add
 
+  pub used-there : 4 < length old
+  used-there = omega (arith, sound .fits, sound .shaped .some, long old n n-is, inside old n n-is)
+
   pub used-is : getD old 4 0 ≡ used part
   used-is = sym (getD-take (8 * n) old 4 0 (omega (arith, sound .fits, sound .shaped .some, long old n n-is)))
 
@@ -101,18 +103,18 @@ module _ (old word : List ℕ) {a : Answer} {k : ℕ} (is : a ≡ answer (remove
         let y : lacking (cellsOf old) (trimmedOf word) 0 ≡ more = sym (more-is ∙ ap (λ (p : List ℕ). lacking p t 0) (cells-are old n n-is) ∙ ap (λ (w : List ℕ). lacking (cellsOf old) w 0) t-is) in
         omega arith
 
-    abbrev row : Cause
-    row = record { refusal = TooFewNodes (nodesWith old (trimmedOf word) - capacity old); holds = ltb (capacity old) (nodesWith old (trimmedOf word)) }
+    abbrev cause : Cause
+    cause = record { refusal = TooFewNodes (nodesWith old (trimmedOf word) - capacity old); holds = ltb (capacity old) (nodesWith old (trimmedOf word)) }
 
     pub add-full : (q : ℕ) → n - u < more → Refused (TooFewNodes (more - (n - u))) ≡ answer (addCauses word old) q
     add-full q l =
         let d : more - (n - u) ≡ nodesWith old (trimmedOf word) - capacity old = omega (arith, nodes, used-fits) in
         ap (λ (z : ℕ). Refused (TooFewNodes z)) d
-        ∙ cause-yes (removeCauses word (meaning old)) row (length word) q first (lt-ltb (capacity old) (nodesWith old (trimmedOf word)) (omega (arith, nodes, used-fits)))
+        ∙ cause-yes (removeCauses word (meaning old)) cause (length word) q first (lt-ltb (capacity old) (nodesWith old (trimmedOf word)) (omega (arith, nodes, used-fits)))
 
     module _ (room : more ≤ n - u) where
       accepted : (q : ℕ) → Accepted q ≡ answer (addCauses word old) q
-      accepted q = cause-no (removeCauses word (meaning old)) row (length word) q first (le-ltb (capacity old) (nodesWith old (trimmedOf word)) (omega (arith, nodes, used-fits)))
+      accepted q = cause-no (removeCauses word (meaning old)) cause (length word) q first (le-ltb (capacity old) (nodesWith old (trimmedOf word)) (omega (arith, nodes, used-fits)))
 
       told : (x : ℕ) → x ≡ report (trimmedOf word) words (withWord (trimmedOf word) words) → Accepted x ≡ answer (addCauses word old) (report (trimmedOf word) words (withWord (trimmedOf word) words))
       told x e = ap Accepted e ∙ accepted (report (trimmedOf word) words (withWord (trimmedOf word) words))
@@ -182,8 +184,11 @@ module _ (old word : List ℕ) {a : Answer} {k : ℕ} (is : a ≡ answer (remove
 -- ---- a refused one
 
 module _ (old word : List ℕ) {a : Answer} {r : Refusal} (is : a ≡ answer (removeCauses word (meaning old)) (length word)) (no′ : a ≡ Refused r) where
-  pub remove-refused : (q : ℕ) → Refused r ≡ answer (removeCauses word (meaning old)) q
-  remove-refused q = still (removeCauses word (meaning old)) (length word) q (sym is ∙ no′)
+  pub remove-refused : (q : ℕ) → a ≡ answer (removeCauses word (meaning old)) q
+  remove-refused q = handed-same (removeCauses word (meaning old)) (length word) q is no′
 
-  pub add-refused : (q : ℕ) → Refused r ≡ answer (addCauses word old) q
-  add-refused q = sym (refused-first (removeCauses word (meaning old)) (nodeCauses old (trimmedOf word)) (length word) q (sym is ∙ no′))
+  pub add-refused : (q : ℕ) → a ≡ answer (addCauses word old) q
+  add-refused q = handed (removeCauses word (meaning old)) (nodeCauses old (trimmedOf word)) (length word) q is no′
+
+  pub untouched : (words : Words) → After a old old words
+  untouched words = subst (λ (z : Answer). After z old old words) (sym no′) refl

@@ -13,8 +13,7 @@ use Rattle.refusal.specs.declared.Refusal.the-variants.{WordTooLong}
 use Rattle.refusal.specs.declared.Answer.{Answer}
 use Rattle.refusal.specs.declared.Answer.the-variants.{Accepted, Refused}
 use Rattle.refusal.specs.Answers.{Cause, answer}
-use Rattle.refusal.proofs.Order.{refused-first}
-use Rattle.refusal.proofs.Causes.{none-of, cause-yes, cause-kept}
+use Rattle.refusal.proofs.Causes.{none-of, handed, cause-yes, cause-kept}
 use Rattle.char_string.specs.Scalars.{firstNonScalar}
 use Rattle.char_string.specs.Blanks.{trimmedOf}
 use Rattle.trie_pool.specs.Meaning.{Words}
@@ -32,15 +31,15 @@ word-of word m n k h =
     record { legal = ltb-false (firstNonScalar word) (length word) (r .1 .0); known = r .1 .1 .0; short = ltb-false 255 (length (trimmedOf word)) (r .1 .1 .1 .0) }
 
 module _ (word : List ℕ) (m : Option Words) {a : Answer} (is : a ≡ answer (readCauses word m) (length word)) where
-  abbrev row : Cause
-  row = record { refusal = WordTooLong (length (trimmedOf word)); holds = ltb 255 (length (trimmedOf word)) }
+  abbrev cause : Cause
+  cause = record { refusal = WordTooLong (length (trimmedOf word)); holds = ltb 255 (length (trimmedOf word)) }
 
-  pub word-read : {r : Refusal} → a ≡ Refused r → Refused r ≡ answer (removeCauses word m) (length word)
-  word-read e = sym (refused-first (readCauses word m) (lengthCauses word) (length word) (length word) (sym is ∙ e))
+  pub word-read : {r : Refusal} → a ≡ Refused r → a ≡ answer (removeCauses word m) (length word)
+  word-read = handed (readCauses word m) (lengthCauses word) (length word) (length word) is
 
   pub word-long : {k : ℕ} (t : ℕ) → a ≡ Accepted k → t ≡ length (trimmedOf word) → 255 < t → Refused (WordTooLong t) ≡ answer (removeCauses word m) (length word)
   word-long t e l h =
-      ap (λ (z : ℕ). Refused (WordTooLong z)) l ∙ cause-yes (readCauses word m) row (length word) (length word) (sym is ∙ e) (lt-ltb 255 (length (trimmedOf word)) (omega arith))
+      ap (λ (z : ℕ). Refused (WordTooLong z)) l ∙ cause-yes (readCauses word m) cause (length word) (length word) (sym is ∙ e) (lt-ltb 255 (length (trimmedOf word)) (omega arith))
 
   pub word-short : {k : ℕ} (t : ℕ) → a ≡ Accepted k → t ≡ length (trimmedOf word) → t ≤ 255 → Accepted k ≡ answer (removeCauses word m) (length word)
-  word-short t e l h = cause-kept (readCauses word m) row (length word) (sym is ∙ e) (le-ltb 255 (length (trimmedOf word)) (omega arith))
+  word-short t e l h = cause-kept (readCauses word m) cause (length word) (sym is ∙ e) (le-ltb 255 (length (trimmedOf word)) (omega arith))

@@ -3,23 +3,20 @@ use Prim.Native.Nat.{ℕ, _*_, _/_, _≤_, _<_, min}
 use native.Mathlib.Omega.{arith}
 use mathlib.Core.Path.{_≡_, sym, ap, _∙_}
 use mathlib.Core.Bool.{Bool, true, false, cond}
-use mathlib.Core.List.{List, _++_}
-use borrow.Author.Tests.{lt-ltb, le-ltb}
-use lib.Dec.{ltb}
+use mathlib.Core.List.{List, [], _∷_, _++_}
 use lib.ListN.{length, take, drop}
 use Rattle.refusal.specs.declared.Refusal.{Refusal}
 use Rattle.refusal.specs.declared.Refusal.the-variants.{NotADictionary, OutputTooShort}
 use Rattle.refusal.specs.declared.Answer.{Answer}
 use Rattle.refusal.specs.declared.Answer.the-variants.{Accepted, Refused}
-use Rattle.refusal.specs.Answers.{Cause, answer, output}
-use Rattle.refusal.proofs.Order.{refused-first}
+use Rattle.refusal.specs.Answers.{answer, output, outCause}
 use Rattle.trie_pool.specs.Words.{holds}
 use Rattle.trie_pool.specs.Rules.{cellsOf, isDictionary}
 use Rattle.trie_pool.specs.Meaning.{Words, meaning, prefixLengths, amount}
 use Rattle.trie_search.specs.inner.Search.{Asks, Wrote, Counts}
 use Rattle.trie_check.specs.Refusals.{held, poolCauses, readCauses}
-use Rattle.trie_char.specs.Refusals.{outCauses, prefixCauses}
-use Rattle.refusal.proofs.Causes.{again, still, cause-yes, cause-no}
+use Rattle.trie_char.specs.Refusals.{prefixCauses}
+use Rattle.refusal.proofs.Causes.{again, handed, handed-same, out-short, out-fits}
 use Rattle.trie_check.proofs.Refusals.{read-of}
 use Rattle.trie_check.proofs.Parts.{known-is, is-none, cells-are, sound-part, readable, held-part}
 
@@ -47,16 +44,12 @@ module _ (pool text : List ℕ) {a : Answer} {k : ℕ} (is : a ≡ answer (readC
     lengths : prefixLengths (held (meaning pool)) text ≡ prefixLengths (holds (take (8 * n) pool)) text
     lengths = ap (λ (f : Words). prefixLengths f text) words
 
-    abbrev row : List ℕ → Cause
-    row out = record { refusal = OutputTooShort (length (prefixLengths (held (meaning pool)) text)); holds = ltb (length out) (length (prefixLengths (held (meaning pool)) text)) }
-
     module _ (out : List ℕ) (m : ℕ) (m-is : m ≡ length (prefixLengths (holds (take (8 * n) pool)) text)) where
       count : m ≡ length (prefixLengths (held (meaning pool)) text)
       count = m-is ∙ sym (ap length lengths)
 
       pub prefix-short : (q : ℕ) → length out < m → Refused (OutputTooShort m) ≡ answer (prefixCauses text (meaning pool) out) q
-      prefix-short q l = ap (λ (z : ℕ). Refused (OutputTooShort z)) count
-          ∙ cause-yes (readCauses text (meaning pool)) (row out) (length text) q first (lt-ltb (length out) (length (prefixLengths (held (meaning pool)) text)) (omega (arith, count)))
+      prefix-short q = out-short (readCauses text (meaning pool)) (length (prefixLengths (held (meaning pool)) text)) (length out) (length text) q m first count
 
       pub asks : m ≤ length out → Asks (take (8 * n) pool) text out
       asks l = record { here = readable pool n n-is known; short = read-of text (meaning pool) (length text) k first .short; room = omega (arith, m-is) }
@@ -64,19 +57,19 @@ module _ (pool text : List ℕ) {a : Answer} {k : ℕ} (is : a ≡ answer (readC
       pub prefix-done : m ≤ length out → (new : List ℕ) (r : ℕ) → Wrote out (prefixLengths (holds (take (8 * n) pool)) text) new r
           → (Accepted r ≡ answer (prefixCauses text (meaning pool) out) (length (prefixLengths (held (meaning pool)) text))) × (new ≡ output (Accepted r) (prefixLengths (held (meaning pool)) text) out)
       prefix-done l new r w = (
-        ap Accepted (w .count ∙ sym (ap length lengths))
-            ∙ cause-no (readCauses text (meaning pool)) (row out) (length text) (length (prefixLengths (held (meaning pool)) text)) first (le-ltb (length out) (length (prefixLengths (held (meaning pool)) text)) (omega (arith, count))),
+        out-fits (readCauses text (meaning pool)) (length (prefixLengths (held (meaning pool)) text)) (length out) (length text) r first (w .count ∙ sym (ap length lengths)) (omega (arith, w .count, m-is)),
         w .is ∙ sym (ap (λ (z : List ℕ). z ++ drop (length z) out) lengths),
       )
 
 -- ---- a refused one
 
 module _ (pool text : List ℕ) {a : Answer} {r : Refusal} (is : a ≡ answer (readCauses text (meaning pool)) (length text)) (no′ : a ≡ Refused r) where
-  pub contain-refused : (q : ℕ) → Refused r ≡ answer (readCauses text (meaning pool)) q
-  contain-refused q = still (readCauses text (meaning pool)) (length text) q (sym is ∙ no′)
+  pub contain-refused : (q : ℕ) → a ≡ answer (readCauses text (meaning pool)) q
+  contain-refused q = handed-same (readCauses text (meaning pool)) (length text) q is no′
 
-  pub prefix-refused : (out : List ℕ) (q : ℕ) → Refused r ≡ answer (prefixCauses text (meaning pool) out) q
-  prefix-refused out q = sym (refused-first (readCauses text (meaning pool)) (outCauses (prefixLengths (held (meaning pool)) text) out) (length text) q (sym is ∙ no′))
+  pub prefix-refused : (out : List ℕ) (q : ℕ) → a ≡ answer (prefixCauses text (meaning pool) out) q
+  prefix-refused out q =
+      handed (readCauses text (meaning pool)) (outCause (length (prefixLengths (held (meaning pool)) text)) (length out) ∷ []) (length text) q is no′
 
 -- ---- the word count
 

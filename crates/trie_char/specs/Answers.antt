@@ -1,4 +1,5 @@
--- What each operation on a dictionary answers: the first refusal that applies, or the number that it is accepted with.
+-- What each operation on a dictionary answers: the first refusal that applies, or the number that
+-- it is accepted with.
 use Prim.Native.Nat.{ℕ}
 use mathlib.Core.Bool.{cond}
 use mathlib.Core.List.{List}
@@ -31,7 +32,8 @@ addAnswer word pool = answer (addCauses word pool) (report (trimmedOf word) (wor
 
 -- Remove: 2, 3, 4, 7; the same.
 abbrev pub removeAnswer : List ℕ → List ℕ → Answer
-removeAnswer word pool = answer (removeCauses word (meaning pool)) (report (trimmedOf word) (wordsOf pool) (removed word pool))
+removeAnswer word pool =
+    answer (removeCauses word (meaning pool)) (report (trimmedOf word) (wordsOf pool) (removed word pool))
 
 -- Contains: 2, 3, 4; accepted with 1 or 0.
 abbrev pub containsAnswer : List ℕ → List ℕ → Answer

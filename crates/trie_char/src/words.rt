@@ -12,18 +12,17 @@ ghost use Rattle.trie_char.specs.Refusals.{removeCauses};
 
 // Refusals 2, 3, 4 and 7, accepted with the word's length.
 pub fn check_word(pool: &[u32], word: &[u32]) -> Answer
-    ensures { λ r. ⌜ r ≡ answer (removeCauses (now (word .entry)) (meaning (now (pool .entry)))) (length (now (word .entry))) ⌝ }
+    ensures { λ r. ⌜ r ≡
+        answer (removeCauses (now (word .entry)) (meaning (now (pool .entry)))) (length (now (word .entry))) ⌝ }
 {
-    let first = check(pool, word);
-    match first {
-        Answer::Refused(r) => Answer::Refused(r),
-        Answer::Accepted(n) => {
-            let span = trim(word);
-            let kept = span.end - span.start;
-            if MAX_WORD < kept {
-                return Answer::Refused(Refusal::WordTooLong(kept));
-            }
-            Answer::Accepted(n)
-        }
+    let checked = check(pool, word);
+    let Answer::Accepted(n) = checked else {
+        return checked;
+    };
+    let span = trim(word);
+    let kept = span.end - span.start;
+    if MAX_WORD < kept {
+        return Answer::Refused(Refusal::WordTooLong(kept));
     }
+    Answer::Accepted(n)
 }

@@ -11,8 +11,7 @@ use Rattle.refusal.specs.declared.Refusal.the-variants.{NotADictionary}
 use Rattle.refusal.specs.declared.Answer.{Answer}
 use Rattle.refusal.specs.declared.Answer.the-variants.{Accepted, Refused}
 use Rattle.refusal.specs.Answers.{answer}
-use Rattle.refusal.proofs.Order.{refused-first}
-use Rattle.refusal.proofs.Causes.{none-of, cause-yes, cause-kept}
+use Rattle.refusal.proofs.Causes.{none-of, handed, cause-yes, cause-kept}
 use Rattle.char_string.specs.Scalars.{firstNonScalar, textCauses, checked}
 use Rattle.trie_pool.specs.Meaning.{Words}
 use Rattle.trie_check.specs.Refusals.{isNone, poolCauses, readCauses}
@@ -35,8 +34,9 @@ module _ (text : List ℕ) (m : Option Words) {a : Answer} (is : a ≡ checked t
   unfolding checked
   texts e = sym is ∙ e
 
-  pub check-text : {r : Refusal} → a ≡ Refused r → Refused r ≡ answer (readCauses text m) (length text)
-  check-text e = sym (refused-first (textCauses text) (poolCauses m) (length text) (length text) (texts e))
+  pub check-text : {r : Refusal} → a ≡ Refused r → a ≡ answer (readCauses text m) (length text)
+  unfolding checked
+  check-text = handed (textCauses text) (poolCauses m) (length text) (length text) is
 
   pub check-pool : {k : ℕ} → a ≡ Accepted k → isNone m ≡ true → Refused NotADictionary ≡ answer (readCauses text m) (length text)
   check-pool e h = cause-yes (textCauses text) (record { refusal = NotADictionary; holds = isNone m }) (length text) (length text) (texts e) h

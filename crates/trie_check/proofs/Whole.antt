@@ -49,9 +49,11 @@ rising-not p s e k l h n r =
 -- ---- one node
 
 thai-legal : (c : ℕ) → 0xE00 ≤ c → c ≤ 0xE7F → isScalar c ≡ true
+unfolding isScalar
 thai-legal c l h = simp (lt-ltb c 0xD800 (omega arith))
 
 thai-stays : (c : ℕ) → 0xE00 ≤ c → c ≤ 0xE7F → isTrimmed c ≡ false
+unfolding isTrimmed
 thai-stays c l h = simp (le-leb 0x9 c (omega arith), lt-leb c 0xD (omega arith), ne-eqb c 0x20 (λ e. omega arith))
 
 module _ (c k m z : ℕ) (zero′ : z ≡ 0) (mark : m ≤ 1) (leaf : 1 ≤ k + m) where

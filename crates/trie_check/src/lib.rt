@@ -1,5 +1,5 @@
-// A pool as it is lent: which of its cells are read and written, whether it is a dictionary, and the refusals that every operation on a text gives.
-// For our own crates.
+// A pool as it is lent: which of its cells are read and written, whether it is a dictionary, and
+// the refusals that every operation on a text and a pool gives. For our own crates.
 mod rules;
 
 use crate::rules::well_formed;
@@ -7,20 +7,23 @@ use char_string::check_text;
 use refusal::Answer;
 use refusal::Refusal;
 use trie_pool::MAX_NODES;
+use trie_pool::NODE;
 ghost use mathlib.Core.Path.{_≡_};
 ghost use Prim.Native.Nat.{_/_, min};
 ghost use lib.ListN.{length};
 ghost use Rattle.refusal.specs.Answers.{answer};
+ghost use Rattle.refusal.specs.Limits.{maxNodes};
+ghost use Rattle.trie_pool.specs.Cells.{nodeCells};
 ghost use Rattle.trie_pool.specs.Rules.{isDictionary};
 ghost use Rattle.trie_pool.specs.Meaning.{meaning};
 ghost use Rattle.trie_check.specs.Refusals.{readCauses};
 
 // The nodes that a pool of so many cells has room for.
 pub fn capacity(cells: usize) -> usize
-    ensures { λ r. ⌜ r ≡ min (cells / 8) 1048576 ⌝ }
+    ensures { λ r. ⌜ r ≡ min (cells / nodeCells) maxNodes ⌝ }
 {
-    if cells / 8 < MAX_NODES {
-        return cells / 8;
+    if cells / NODE < MAX_NODES {
+        return cells / NODE;
     }
     MAX_NODES
 }
@@ -29,22 +32,21 @@ pub fn capacity(cells: usize) -> usize
 pub fn is_dictionary(pool: &[u32]) -> bool
     ensures { λ r. ⌜ r ≡ isDictionary (now (pool .entry)) ⌝ }
 {
-    let cells = 8 * capacity(pool.len());
+    let cells = NODE * capacity(pool.len());
     well_formed(&pool[..cells])
 }
 
 // Refusals 2, 3 and 4, accepted with the text's length.
 pub fn check(pool: &[u32], text: &[u32]) -> Answer
-    ensures { λ r. ⌜ r ≡ answer (readCauses (now (text .entry)) (meaning (now (pool .entry)))) (length (now (text .entry))) ⌝ }
+    ensures { λ r. ⌜ r ≡
+        answer (readCauses (now (text .entry)) (meaning (now (pool .entry)))) (length (now (text .entry))) ⌝ }
 {
-    let first = check_text(text);
-    match first {
-        Answer::Refused(r) => Answer::Refused(r),
-        Answer::Accepted(n) => {
-            if !is_dictionary(pool) {
-                return Answer::Refused(Refusal::NotADictionary);
-            }
-            Answer::Accepted(n)
-        }
+    let checked = check_text(text);
+    let Answer::Accepted(n) = checked else {
+        return checked;
+    };
+    if !is_dictionary(pool) {
+        return Answer::Refused(Refusal::NotADictionary);
     }
+    Answer::Accepted(n)
 }

@@ -1,15 +1,21 @@
-// The rules of a well-formed pool, decided by a few walks over its cells.
+// Whether a pool is well-formed: the rules, decided by a few walks over its cells, without recursion.
 use cells::wide;
 use char_string::is_scalar;
 use char_string::is_trimmed;
+use trie_pool::COUNT;
+use trie_pool::FIRST;
+use trie_pool::IN_USE;
+use trie_pool::MARK;
 use trie_pool::MAX_NODES;
 use trie_pool::MAX_WORD;
+use trie_pool::NODE;
 ghost use mathlib.Core.Path.{_≡_};
 ghost use mathlib.Core.Bool.{false};
 ghost use Prim.Native.Nat.{ℕ, _*_, _≤_, _<_};
 ghost use lib.ListN.{length, getD};
+ghost use Rattle.refusal.specs.Limits.{maxWord};
 ghost use Rattle.char_string.specs.Blanks.{isTrimmed};
-ghost use Rattle.trie_pool.specs.Cells.{scalarAt};
+ghost use Rattle.trie_pool.specs.Cells.{nodeCells, scalarAt};
 ghost use Rattle.trie_pool.specs.inner.Sound.{Shaped, Rising};
 ghost use Rattle.trie_pool.specs.Levels.{levelEnd};
 ghost use Rattle.trie_pool.specs.Rules.{wellFormed};
@@ -28,34 +34,35 @@ fn is_thai(x: u32) -> bool
     true
 }
 
-// Whether a node that is not the root may have this scalar, number of children, mark and fifth cell.
-fn inner_ok(c: u32, k: u32, m: u32, z: u32) -> bool
-    ensures { λ r. ⌜ Decides r (Inner c k m z) ⌝ }
+// Whether a node that is not the root may have this scalar, number of children, mark and fifth
+// cell.
+fn inner_ok(scalar: u32, count: u32, mark: u32, fifth: u32) -> bool
+    ensures { λ r. ⌜ Decides r (Inner scalar count mark fifth) ⌝ }
 {
-    if z != 0 {
+    if fifth != 0 {
         return false;
     }
-    if 1 < m {
+    if 1 < mark {
         return false;
     }
-    if wide(k) + wide(m) == 0 {
+    if wide(count) + wide(mark) == 0 {
         return false;
     }
-    if is_thai(c) {
+    if is_thai(scalar) {
         return true;
     }
-    if !is_scalar(c) {
+    if !is_scalar(scalar) {
         return false;
     }
-    if m == 0 {
+    if mark == 0 {
         return true;
     }
-    !is_trimmed(c)
+    !is_trimmed(scalar)
 }
 
 // Whether the scalars of the nodes from s to e rise.
 fn rising(p: &[u32], s: usize, e: usize) -> bool
-    requires { ⌜ (s ≤ e) × (8 * e ≤ length (now p)) ⌝ }
+    requires { ⌜ (s ≤ e) × (nodeCells * e ≤ length (now p)) ⌝ }
     ensures { λ r. ⌜ Decides r (Rising (now (p .entry)) s e) ⌝ }
 {
     if e - s < 2 {
@@ -63,7 +70,7 @@ fn rising(p: &[u32], s: usize, e: usize) -> bool
     }
     let mut k = s + 1;
     while k < e {
-        if p[8 * k] <= p[8 * k - 8] {
+        if p[NODE * k] <= p[NODE * k - NODE] {
             return false;
         }
         k += 1;
@@ -73,17 +80,17 @@ fn rising(p: &[u32], s: usize, e: usize) -> bool
 
 // Whether node i may stand where it does, if its children start at s.
 fn each_ok(p: &[u32], n: usize, i: usize, s: usize) -> bool
-    requires { ⌜ (i < n) × (s ≤ n) × (8 * n ≤ length (now p)) ⌝ }
+    requires { ⌜ (i < n) × (s ≤ n) × (nodeCells * n ≤ length (now p)) ⌝ }
     ensures { λ r. ⌜ Decides r (Each (now (p .entry)) n i s) ⌝ }
 {
-    let a = 8 * i;
-    if wide(p[a + 1]) != s {
+    let a = NODE * i;
+    if wide(p[a + FIRST]) != s {
         return false;
     }
     if s <= i {
         return false;
     }
-    let k = wide(p[a + 2]);
+    let k = wide(p[a + COUNT]);
     if n - s < k {
         return false;
     }
@@ -102,15 +109,16 @@ fn each_ok(p: &[u32], n: usize, i: usize, s: usize) -> bool
     if i == 0 {
         return true;
     }
-    if !inner_ok(p[a], p[a + 2], p[a + 3], p[a + 4]) {
+    if !inner_ok(p[a], p[a + COUNT], p[a + MARK], p[a + IN_USE]) {
         return false;
     }
     true
 }
 
-// Whether all that is asked of single nodes holds of each of n, and each but the root is a child of one.
+// Whether all that is asked of single nodes holds of each of n, and each but the root is a child of
+// one.
 fn nodes_ok(p: &[u32], n: usize) -> bool
-    requires { ⌜ (0 < n) × (8 * n ≤ length (now p)) ⌝ }
+    requires { ⌜ (0 < n) × (nodeCells * n ≤ length (now p)) ⌝ }
     ensures { λ r. ⌜ Decides r (Nodes (now (p .entry)) n) ⌝ }
 {
     let mut i: usize = 0;
@@ -119,7 +127,7 @@ fn nodes_ok(p: &[u32], n: usize) -> bool
         if !each_ok(p, n, i, s) {
             return false;
         }
-        s += wide(p[8 * i + 2]);
+        s += wide(p[NODE * i + COUNT]);
         i += 1;
     }
     s == n
@@ -127,12 +135,12 @@ fn nodes_ok(p: &[u32], n: usize) -> bool
 
 // Whether none of the nodes from 1 to k has a trimmed scalar.
 fn starts_ok(p: &[u32], k: usize) -> bool
-    requires { ⌜ 8 * k < length (now p) ⌝ }
+    requires { ⌜ nodeCells * k < length (now p) ⌝ }
     ensures { λ r. ⌜ Decides r ((i : ℕ) → 0 < i → i ≤ k → isTrimmed (scalarAt (now (p .entry)) i) ≡ false) ⌝ }
 {
     let mut i: usize = 1;
     while i <= k {
-        if is_trimmed(p[8 * i]) {
+        if is_trimmed(p[NODE * i]) {
             return false;
         }
         i += 1;
@@ -142,8 +150,8 @@ fn starts_ok(p: &[u32], k: usize) -> bool
 
 // Whether the nodes stand on at most 255 levels below the root.
 fn shallow(p: &[u32], n: usize) -> bool
-    requires { ⌜ (Shaped (now p) n) × (8 * n ≤ length (now p)) ⌝ }
-    ensures { λ r. ⌜ Decides r (levelEnd (now (p .entry)) n 255 ≡ n) ⌝ }
+    requires { ⌜ (Shaped (now p) n) × (nodeCells * n ≤ length (now p)) ⌝ }
+    ensures { λ r. ⌜ Decides r (levelEnd (now (p .entry)) n maxWord ≡ n) ⌝ }
 {
     let mut e: usize = 1;
     let mut d: usize = 0;
@@ -151,7 +159,7 @@ fn shallow(p: &[u32], n: usize) -> bool
         if n <= e {
             return true;
         }
-        e = wide(p[8 * e + 1]);
+        e = wide(p[NODE * e + FIRST]);
         d += 1;
     }
     n <= e
@@ -175,32 +183,32 @@ fn blank(p: &[u32], k: usize) -> bool
 pub fn well_formed(p: &[u32]) -> bool
     ensures { λ r. ⌜ r ≡ wellFormed (now (p .entry)) ⌝ }
 {
-    if p.len() < 8 {
+    if p.len() < NODE {
         return false;
     }
-    let n = wide(p[4]);
+    let n = wide(p[IN_USE]);
     if n == 0 {
         return false;
     }
     if MAX_NODES < n {
         return false;
     }
-    if p.len() / 8 < n {
+    if p.len() / NODE < n {
         return false;
     }
     if p[0] != 0 {
         return false;
     }
-    if p[3] != 0 {
+    if p[MARK] != 0 {
         return false;
     }
-    if !blank(p, 8 * n) {
+    if !blank(p, NODE * n) {
         return false;
     }
     if !nodes_ok(p, n) {
         return false;
     }
-    if !starts_ok(p, wide(p[2])) {
+    if !starts_ok(p, wide(p[COUNT])) {
         return false;
     }
     if !shallow(p, n) {

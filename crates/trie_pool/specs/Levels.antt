@@ -5,10 +5,11 @@ use mathlib.Core.List.{List}
 use lib.Dec.{ltb}
 use Rattle.trie_pool.specs.Cells.{firstAt}
 
--- where the d-th level levelEnd, the root being level 0
+-- where the level behind the one that ends at e ends
 abbrev pub hop : List ℕ → ℕ → ℕ → ℕ
 hop p n e = cond (ltb e n) (firstAt p e) e
 
+-- where the d-th level ends, the root being level 0
 unfoldable pub levelEnd : List ℕ → ℕ → ℕ → ℕ
 levelEnd p n zero = 1
 levelEnd p n (suc d) = hop p n (levelEnd p n d)

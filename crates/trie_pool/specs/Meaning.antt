@@ -1,4 +1,5 @@
--- What a pool means: the set of its words, and what adding, removing and reading do with a set of words.
+-- What a pool means: the set of its words, and what adding, removing and reading do with a set of
+-- words.
 use Prim.Native.Nat.{ℕ, zero, suc, _+_}
 use mathlib.Core.Bool.{Bool, true, false, not, cond, _&&_, _||_}
 use mathlib.Core.List.{List, [], _∷_}
@@ -13,7 +14,8 @@ use Rattle.trie_pool.specs.Rules.{cellsOf, isDictionary}
 abbrev pub Words : Type 0
 Words = List ℕ → Bool
 
--- Nothing exactly where refusal 4 is due, else which words are held. Cutting and reading speak of a pool through this alone.
+-- Nothing exactly where refusal 4 is due, else which words are held. Cutting and reading speak of
+-- a pool through this alone.
 unfoldable pub meaning : List ℕ → Option Words
 meaning pool = cond (isDictionary pool) (some (holds (cellsOf pool))) none
 
@@ -45,10 +47,12 @@ differ false false = 0
 abbrev pub report : List ℕ → Words → Words → ℕ
 report w before after = differ (before w) (after w)
 
--- Prefix lengths come rising: the k from i on, n of them, at which the first k characters are a word
+-- Prefix lengths come rising: the k from i on, n of them, at which the first k characters are a
+-- word
 abbrev pub lengthsFrom : Words → List ℕ → ℕ → ℕ → List ℕ
 lengthsFrom held text i zero = []
-lengthsFrom held text i (suc n) = cond (held (take i text)) (i ∷ lengthsFrom held text (suc i) n) (lengthsFrom held text (suc i) n)
+lengthsFrom held text i (suc n) =
+    cond (held (take i text)) (i ∷ lengthsFrom held text (suc i) n) (lengthsFrom held text (suc i) n)
 
 unfoldable pub prefixLengths : Words → List ℕ → List ℕ
 prefixLengths held text = lengthsFrom held text 1 (length text)

@@ -4,19 +4,20 @@ use mathlib.Core.Bool.{Bool, true, not, _&&_, _||_}
 use mathlib.Core.List.{List, [], _∷_}
 use lib.Dec.{ltb, leb, eqb}
 use lib.ListN.{length, getD, take}
+use Rattle.refusal.specs.Limits.{maxWord, maxNodes}
 use Rattle.char_string.specs.Scalars.{isScalar}
 use Rattle.char_string.specs.Blanks.{isTrimmed}
-use Rattle.trie_pool.specs.Cells.{scalarAt, firstAt, countAt, markAt, used}
+use Rattle.trie_pool.specs.Cells.{nodeCells, scalarAt, firstAt, countAt, markAt, used}
 use Rattle.trie_pool.specs.Words.{marked}
 use Rattle.trie_pool.specs.Levels.{levelEnd}
 
 -- Eight cells to a node, at most 1,048,576 nodes.
 abbrev pub capacity : List ℕ → ℕ
-capacity pool = min (length pool / 8) 1048576
+capacity pool = min (length pool / nodeCells) maxNodes
 
 -- Later cells and a part node are never read or written.
 abbrev pub cellsOf : List ℕ → List ℕ
-cellsOf pool = take (8 * capacity pool) pool
+cellsOf pool = take (nodeCells * capacity pool) pool
 
 -- f holds of each number below n
 unfoldable pub every : ℕ → (ℕ → Bool) → Bool
@@ -38,7 +39,8 @@ inUse p = leb 1 (used p) && leb (used p) (capacity p)
 abbrev pub rooted : List ℕ → Bool
 rooted p = eqb (scalarAt p 0) 0 && eqb (markAt p 0) 0
 
--- 3. Level order: the root's children start at node 1, those of each other node right behind those of the node before it, and the last ones end with the nodes in use.
+-- 3. Level order: the root's children start at node 1, those of each other node right behind those
+-- of the node before it, and the last ones end with the nodes in use.
 abbrev pub levelOrder : List ℕ → Bool
 levelOrder p =
     eqb (firstAt p 0) 1
@@ -51,7 +53,9 @@ beforeChildren p = eachNode p (λ i. ltb i (firstAt p i))
 
 -- 5. The scalars of a node's children rise.
 abbrev pub rising : List ℕ → Bool
-rising p = eachNode p (λ i. every (countAt p i - 1) (λ k. ltb (scalarAt p (firstAt p i + k)) (scalarAt p (firstAt p i + suc k))))
+rising p =
+    eachNode p (λ i. every (countAt p i - 1)
+    (λ k. ltb (scalarAt p (firstAt p i + k)) (scalarAt p (firstAt p i + suc k))))
 
 -- 6. Each scalar but the root's is a Unicode scalar value.
 abbrev pub scalars : List ℕ → Bool
@@ -69,24 +73,26 @@ leaves p = eachInner p (λ i. leb 1 (countAt p i) || marked (markAt p i))
 abbrev pub starts : List ℕ → Bool
 starts p = every (countAt p 0) (λ i. not (isTrimmed (scalarAt p (suc i))))
 
--- 10. No word levelEnd with a trimmed character.
+-- 10. No word ends with a trimmed character.
 abbrev pub stops : List ℕ → Bool
 stops p = eachInner p (λ i. not (marked (markAt p i) && isTrimmed (scalarAt p i)))
 
 -- 11. There are at most 255 levels below the root.
 abbrev pub levels : List ℕ → Bool
-levels p = eqb (levelEnd p (used p) 255) (used p)
+levels p = eqb (levelEnd p (used p) maxWord) (used p)
 
--- 12. Cells that mean nothing are 0: the fifth of each node but the root, the last three of each, and all of the nodes that are not in use.
+-- 12. Cells that mean nothing are 0: the fifth of each node but the root, the last three of each,
+-- and all of the nodes that are not in use.
 abbrev pub zeros : List ℕ → Bool
 zeros p =
-    eachInner p (λ i. eqb (getD p (8 * i + 4) 0) 0)
-    && eachNode p (λ i. every 3 (λ r. eqb (getD p (8 * i + (5 + r)) 0) 0))
-    && every (length p - 8 * used p) (λ k. eqb (getD p (8 * used p + k) 0) 0)
+    eachInner p (λ i. eqb (getD p (nodeCells * i + 4) 0) 0)
+    && eachNode p (λ i. every 3 (λ r. eqb (getD p (nodeCells * i + (5 + r)) 0) 0))
+    && every (length p - nodeCells * used p) (λ k. eqb (getD p (nodeCells * used p + k) 0) 0)
 
 abbrev pub rules : List ℕ → List Bool
 rules p =
-    inUse p ∷ rooted p ∷ levelOrder p ∷ beforeChildren p ∷ rising p ∷ scalars p ∷ marks p ∷ leaves p ∷ starts p ∷ stops p ∷ levels p ∷ zeros p ∷ []
+    inUse p ∷ rooted p ∷ levelOrder p ∷ beforeChildren p ∷ rising p ∷ scalars p
+    ∷ marks p ∷ leaves p ∷ starts p ∷ stops p ∷ levels p ∷ zeros p ∷ []
 
 abbrev pub all : List Bool → Bool
 all [] = true

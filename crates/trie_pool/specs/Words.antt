@@ -25,7 +25,8 @@ abbrev pub on-place : {A : Type 0} → A → (ℕ → A) → Place → A
 on-place d g none = d
 on-place d g (at i) = g i
 
--- the node with scalar x among the n nodes from s on, whose scalars rise: the scan stops at a larger scalar
+-- the node with scalar x among the n nodes from s on, whose scalars rise: the scan stops at a
+-- larger scalar
 abbrev pub scan : List ℕ → ℕ → ℕ → ℕ → Place
 scan p x s zero = none
 scan p x s (suc n) = cond (ltb (scalarAt p s) x) (scan p x (suc s) n) (cond (eqb (scalarAt p s) x) (at s) none)

@@ -7,6 +7,7 @@ pub use search::ends_word;
 pub use search::find_child;
 pub use search::is_held;
 pub use search::missing;
+pub use search::nodes_in_use;
 pub use search::prefix_count;
 pub use search::prefix_lengths;
 pub use search::seek;

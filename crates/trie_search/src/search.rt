@@ -1,9 +1,14 @@
 // The search for words.
 use cells::wide;
+use trie_pool::COUNT;
+use trie_pool::FIRST;
+use trie_pool::IN_USE;
+use trie_pool::MARK;
+use trie_pool::NODE;
 ghost use mathlib.Core.Path.{_≡_};
-ghost use Prim.Native.Nat.{min};
+ghost use Prim.Native.Nat.{_<_, min};
 ghost use lib.ListN.{length};
-ghost use Rattle.trie_pool.specs.Cells.{markAt};
+ghost use Rattle.trie_pool.specs.Cells.{markAt, used};
 ghost use Rattle.trie_pool.specs.Words.{child, marked, holds, lacking};
 ghost use Rattle.trie_pool.specs.Meaning.{prefixLengths, amount};
 ghost use Rattle.trie_pool.specs.inner.Sound.{Readable};
@@ -24,31 +29,32 @@ fn least(a: usize, b: usize) -> usize
     b
 }
 
-// Where a child of b with scalar x stands, or would stand. The children rise by one at least, so it stands no further from the first than x from the
-// first one's scalar: the search goes down from there.
+// Where a child of b with scalar x stands, or would stand. The children rise by one at least, so it
+// stands no further from the first than x from the first one's scalar: the search goes down from
+// there.
 pub fn seek(p: &[u32], b: usize, x: u32) -> usize
     requires { ⌜ Readable (now p) b ⌝ }
     ensures { λ r. ⌜ Sought (now (p .entry)) b x r ⌝ }
 {
-    let first = wide(p[8 * b + 1]);
-    let count = wide(p[8 * b + 2]);
+    let first = wide(p[NODE * b + FIRST]);
+    let count = wide(p[NODE * b + COUNT]);
     if count == 0 {
         return first;
     }
-    let lowest = p[8 * first];
+    let lowest = p[NODE * first];
     if x <= lowest {
         return first;
     }
     let last = first + count - 1;
-    if p[8 * last] < x {
+    if p[NODE * last] < x {
         return last + 1;
     }
     let far = wide(x - lowest);
     let mut k = first + least(far, count - 1);
-    while x < p[8 * k] {
+    while x < p[NODE * k] {
         k -= 1;
     }
-    if p[8 * k] < x {
+    if p[NODE * k] < x {
         return k + 1;
     }
     k
@@ -59,13 +65,13 @@ pub fn find_child(p: &[u32], b: usize, x: u32) -> Kid
     requires { ⌜ Readable (now p) b ⌝ }
     ensures { λ r. ⌜ toPlace r ≡ child (now (p .entry)) b x ⌝ }
 {
-    let first = wide(p[8 * b + 1]);
-    let count = wide(p[8 * b + 2]);
+    let first = wide(p[NODE * b + FIRST]);
+    let count = wide(p[NODE * b + COUNT]);
     if count == 0 {
         return Kid::Nothing;
     }
     if count == 1 {
-        if p[8 * first] != x {
+        if p[NODE * first] != x {
             return Kid::Nothing;
         }
         return Kid::Is(first);
@@ -74,7 +80,7 @@ pub fn find_child(p: &[u32], b: usize, x: u32) -> Kid
     if first + count <= r {
         return Kid::Nothing;
     }
-    if p[8 * r] != x {
+    if p[NODE * r] != x {
         return Kid::Nothing;
     }
     Kid::Is(r)
@@ -85,7 +91,7 @@ pub fn ends_word(p: &[u32], i: usize) -> bool
     requires { ⌜ Readable (now p) i ⌝ }
     ensures { λ r. ⌜ r ≡ marked (markAt (now (p .entry)) i) ⌝ }
 {
-    p[8 * i + 3] != 0
+    p[NODE * i + MARK] != 0
 }
 
 // Whether the word is held.
@@ -107,7 +113,7 @@ pub fn is_held(p: &[u32], w: &[u32]) -> bool
         }
         t += 1;
     }
-    p[8 * i + 3] != 0
+    p[NODE * i + MARK] != 0
 }
 
 // How many nodes the word needs that the pool lacks.
@@ -149,7 +155,7 @@ pub fn prefix_count(p: &[u32], text: &[u32]) -> usize
             Kid::Is(r) => {
                 b = r;
                 i += 1;
-                if p[8 * r + 3] != 0 {
+                if p[NODE * r + MARK] != 0 {
                     n += 1;
                 }
             }
@@ -158,10 +164,12 @@ pub fn prefix_count(p: &[u32], text: &[u32]) -> usize
     n
 }
 
-// Writes the lengths of the words that the text starts with to the front of out, rising, and returns their number.
+// Writes the lengths of the words that the text starts with to the front of out, rising, and
+// returns their number.
 pub fn prefix_lengths(p: &[u32], text: &[u32], out: &mut [u32]) -> usize
     requires { ⌜ Asks (now p) (now text) (now out) ⌝ }
-    ensures { λ r. ⌜ Wrote (now (out .entry)) (prefixLengths (holds (now (p .entry))) (now (text .entry))) (now (out .exit)) r ⌝ }
+    ensures { λ r. ⌜ Wrote (now (out .entry))
+        (prefixLengths (holds (now (p .entry))) (now (text .entry))) (now (out .exit)) r ⌝ }
 {
     let mut b: usize = 0;
     let mut n: usize = 0;
@@ -175,7 +183,7 @@ pub fn prefix_lengths(p: &[u32], text: &[u32], out: &mut [u32]) -> usize
             Kid::Is(r) => {
                 b = r;
                 i += 1;
-                if p[8 * r + 3] != 0 {
+                if p[NODE * r + MARK] != 0 {
                     out[n] = i as u32;
                     n += 1;
                 }
@@ -185,16 +193,24 @@ pub fn prefix_lengths(p: &[u32], text: &[u32], out: &mut [u32]) -> usize
     n
 }
 
+// The nodes in use.
+pub fn nodes_in_use(p: &[u32]) -> usize
+    requires { ⌜ 4 < length (now p) ⌝ }
+    ensures { λ r. ⌜ r ≡ used (now (p .entry)) ⌝ }
+{
+    wide(p[IN_USE])
+}
+
 // How many words are held.
 pub fn count_words(p: &[u32]) -> usize
     requires { ⌜ Counts (now p) ⌝ }
     ensures { λ r. ⌜ r ≡ amount (now (p .entry)) ⌝ }
 {
-    let n = wide(p[4]);
+    let n = wide(p[IN_USE]);
     let mut words: usize = 0;
     let mut i: usize = 0;
     while i < n {
-        let mark = p[8 * i + 3];
+        let mark = p[NODE * i + MARK];
         i += 1;
         if mark != 0 {
             words += 1;

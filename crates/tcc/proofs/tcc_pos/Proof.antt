@@ -1,10 +1,8 @@
 -- Assumes nothing.
 use native.Mathlib.Omega.{arith}
-use mathlib.Core.Path.{refl, sym, _∙_, ap}
+use mathlib.Core.Path.{refl, sym, _∙_}
 use lib.ListN.{length}
-use Rattle.refusal.specs.declared.Answer.{Answer}
-use Rattle.refusal.specs.Answers.{output}
-use Rattle.tcc_rules.specs.Clusters.{clusterEnds}
+use Rattle.refusal.proofs.Causes.{no-output}
 use Rattle.tcc_rules.proofs.Rising.{few}
 use Rattle.tcc.proofs.Deciding.{right, refused, short, fitting}
 use borrow.Author.Needs.{needs}
@@ -24,11 +22,8 @@ returns : tie.Need-returns
 returns c =
     let c2 = c .before .before in
     let c5 = c2 .before .before .before in (
-      c .enum-told .given .1 ∙ sym
-          (refused (c5 .args .text .now) (length (c5 .args .out .now)) (length (clusterEnds (c5 .args .text .now)))
-          (sym (c2 .check-text .ensures) ∙ c .enum-told .given .1)),
-      sym
-          (ap (λ (a : Answer). output a (clusterEnds (c5 .args .text .now)) (c5 .args .out .now)) (c .enum-told .given .1)),
+      refused (c5 .args .text .now) (length (c5 .args .out .now)) (c2 .check-text .ensures) (c .enum-told .given .1),
+      no-output _ _ (c .enum-told .given .1),
     )
 
 put-ends-requires : tie.Need-put-ends-requires

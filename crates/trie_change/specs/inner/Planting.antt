@@ -4,6 +4,7 @@ use mathlib.Core.Path.{_≡_}
 use mathlib.Core.Bool.{true, false}
 use mathlib.Core.List.{List}
 use lib.ListN.{length, getD}
+use Rattle.refusal.specs.Limits.{maxWord, maxNodes}
 use Rattle.char_string.specs.Scalars.{isScalar}
 use Rattle.char_string.specs.Blanks.{isTrimmed}
 use Rattle.trie_pool.specs.Cells.{scalarAt, firstAt, countAt, markAt, used}
@@ -25,7 +26,7 @@ pub record Plants (p : List ℕ) (n b j x : ℕ) : Type 0 where
   pub room : Room p n b j x
   pub spare : Spare p n
   pub fits : 8 * suc n ≤ length p
-  pub small : suc n ≤ 1048576
+  pub small : suc n ≤ maxNodes
 
 -- p′ is p with a leaf of scalar x more: it stands at j, under b
 pub record Planted (p p′ : List ℕ) (n b j x : ℕ) : Type 0 where
@@ -60,11 +61,12 @@ pub record Put (p p′ : List ℕ) (a x f : ℕ) : Type 0 where
   pub front : (k : ℕ) → k < a → getD p′ k 0 ≡ getD p k 0
   pub back : (k : ℕ) → a + 4 ≤ k → getD p′ k 0 ≡ getD p k 0
 
--- what `bump` asks, and what it leaves: the first child of each node from `low` to `high` is one more
+-- what `bump` asks, and what it leaves: the first child of each node from `low` to `high` is one
+-- more
 pub record Bumps (p : List ℕ) (low high : ℕ) : Type 0 where
   pub fits : 8 * high ≤ length p
   pub rising : low ≤ high
-  pub small : (i : ℕ) → low ≤ i → i < high → getD p (8 * i + 1) 0 ≤ 1048576
+  pub small : (i : ℕ) → low ≤ i → i < high → getD p (8 * i + 1) 0 ≤ maxNodes
 
 pub record Bumped (p p′ : List ℕ) (low high : ℕ) : Type 0 where
   pub first : (i : ℕ) → low ≤ i → i < high → getD p′ (8 * i + 1) 0 ≡ suc (getD p (8 * i + 1) 0)
@@ -75,7 +77,7 @@ pub record Enters (p : List ℕ) (b x : ℕ) : Type 0 where
   pub sound : Sound p (used p) b
   pub inside : b < used p
   pub room : child p b x ≡ none → 8 * suc (used p) ≤ length p
-  pub small : child p b x ≡ none → suc (used p) ≤ 1048576
+  pub small : child p b x ≡ none → suc (used p) ≤ maxNodes
 
 -- what it leaves: the child of b with scalar x is r, made if there was none
 pub data Entered (p p′ : List ℕ) (b x r : ℕ) : Type 0 where
@@ -86,12 +88,12 @@ pub data Entered (p p′ : List ℕ) (b x r : ℕ) : Type 0 where
 pub record Puts (p w : List ℕ) : Type 0 where
   pub sound : Sound p (used p) 0
   pub some : 1 ≤ length w
-  pub short : length w ≤ 255
+  pub short : length w ≤ maxWord
   pub legal : (t : ℕ) → t < length w → isScalar (getD w t 0) ≡ true
   pub start : isTrimmed (getD w 0 0) ≡ false
   pub stop : isTrimmed (getD w (length w - 1) 0) ≡ false
   pub room : 8 * (used p + lacking p w 0) ≤ length p
-  pub small : used p + lacking p w 0 ≤ 1048576
+  pub small : used p + lacking p w 0 ≤ maxNodes
 
 -- what it leaves: a dictionary that holds the word, and else what it held
 pub record PutIn (p p′ w : List ℕ) : Type 0 where

@@ -4,6 +4,7 @@ use mathlib.Core.Path.{_≡_}
 use mathlib.Core.Bool.{true, false}
 use mathlib.Core.List.{List}
 use lib.ListN.{length, getD}
+use Rattle.refusal.specs.Limits.{maxNodes}
 use Rattle.char_string.specs.Scalars.{isScalar}
 use Rattle.char_string.specs.Blanks.{isTrimmed}
 use Rattle.trie_pool.specs.Cells.{scalarAt, firstAt, countAt, markAt, used}
@@ -44,7 +45,7 @@ pub record Plucks (p : List ℕ) (m b j : ℕ) : Type 0 where
   pub leaf : countAt p j ≡ 0
   pub unmarked : markAt p j ≡ 0
   pub fits : 8 * suc m ≤ length p
-  pub small : suc m ≤ 1048576
+  pub small : suc m ≤ maxNodes
 
 -- what it leaves: a pool of which the old one is one with that leaf more
 pub record Plucked (p p′ : List ℕ) (m b j : ℕ) : Type 0 where
@@ -71,8 +72,8 @@ pub record Removes (p : List ℕ) (b : ℕ) : Type 0 where
   pub path : List ℕ
   pub leads : reach p path ≡ at b
 
--- what it leaves, where the path u (from its end) leads to b: the word that goes on with w from b is gone, b itself may be left without child or mark,
--- and each node up to b has kept its number
+-- what it leaves, where the path u (from its end) leads to b: the word that goes on with w from b
+-- is gone, b itself may be left without child or mark, and each node up to b has kept its number
 pub record Removed (p p′ u : List ℕ) (b : ℕ) (w : List ℕ) : Type 0 where
   pub sound : Sound p′ (used p′) b
   pub keeps : (v : List ℕ) (z : ℕ) → reach p v ≡ at z → z ≤ b → reach p′ v ≡ at z

@@ -12,7 +12,8 @@ pub record Decides (b : Bool) (P : Type 0) : Type 0 where
   pub yes′ : b ≡ true → P
   pub no′ : b ≡ false → P → ⊥
 
--- what is asked of the scalar, the count, the mark and the fifth cell of a node that is not the root
+-- what is asked of the scalar, the count, the mark and the fifth cell of a node that is not the
+-- root
 pub record Inner (c k m z : ℕ) : Type 0 where
   pub fit : Fit c m
   pub leaf : 1 ≤ k + m

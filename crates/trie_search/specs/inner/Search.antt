@@ -3,6 +3,7 @@ use Prim.Native.Nat.{ℕ, _+_, _*_, _≤_, _<_}
 use mathlib.Core.Path.{_≡_}
 use mathlib.Core.List.{List, _++_}
 use lib.ListN.{length, drop}
+use Rattle.refusal.specs.Limits.{maxText}
 use Rattle.trie_pool.specs.Cells.{scalarAt, firstAt, countAt, used}
 use Rattle.trie_pool.specs.Words.{Place, none, at, holds}
 use Rattle.trie_pool.specs.inner.Sound.{Readable}
@@ -21,10 +22,11 @@ abbrev pub toPlace : Kid → Place
 toPlace Nothing = none
 toPlace (Is r) = at r
 
--- what the functions on a text ask: that a length is a cell, and that the row has room for the answer
+-- what the functions on a text ask: that a length is a cell, and that the row has room for the
+-- answer
 pub record Asks (p text out : List ℕ) : Type 0 where
   pub here : Readable p 0
-  pub short : length text ≤ 65535
+  pub short : length text ≤ maxText
   pub room : length (prefixLengths (holds p) text) ≤ length out
 
 -- the answer stands at the front of the row, and the rest of it is as it was

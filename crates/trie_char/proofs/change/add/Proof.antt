@@ -2,7 +2,7 @@
 use mathlib.Core.Path.{refl, sym}
 use native.Mathlib.Omega.{arith}
 use Rattle.trie_check.proofs.Parts.{inside, long, readable}
-use Rattle.trie_char.proofs.Changing.{known, used-fits, add-full, add-blank, add-held, puts, add-done, add-refused}
+use Rattle.trie_char.proofs.Changing.{known, used-there, used-fits, add-full, add-blank, add-held, puts, add-done, add-refused, untouched}
 use borrow.Author.Needs.{needs}
 use Rattle.trie_char.proofs.change.add.Statement.{statement}
 use Rattle.trie_char.proofs.change.add.Tie as tie
@@ -10,23 +10,24 @@ use Rattle.trie_char.proofs.change.add.Tie as tie
 check-word-requires : tie.Need-check-word-requires
 check-word-requires c κs = search needs
 
-enum-known-first : tie.Need-enum-known-first
-enum-known-first c = search needs
+enum-told : tie.Need-enum-told
+enum-told c = search needs
+
+enum-told-2 : tie.Need-enum-told-2
+enum-told-2 c = search needs
 
 same-length : tie.Need-same-length
 same-length c = refl
 
 returns : tie.Need-returns
 returns c =
-    let c3 = c .before .before .before in
-    let c7 = c3 .before .before .before .before in (
-      add-refused (c7 .args .pool .now) (c7 .args .word .now) (c3 .check-word .ensures)
-          (c .before .first .given .1) _,
-      refl,
+    let c2 = c .before .before in
+    let c6 = c2 .before .before .before .before in (
+      add-refused (c6 .args .pool .now) (c6 .args .word .now) (c2 .check-word .ensures)
+          (c .enum-told2 .given .1) _,
+      untouched (c6 .args .pool .now) (c6 .args .word .now) (c2 .check-word .ensures)
+          (c .enum-told2 .given .1) _,
     )
-
-enum-told : tie.Need-enum-told
-enum-told c = search needs
 
 trimmed-requires : tie.Need-trimmed-requires
 trimmed-requires c κs = search needs
@@ -57,27 +58,15 @@ missing-requires c κs =
     (known (c9 .args .pool .now) (c9 .args .word .now) (c5 .check-word .ensures) (c3 .enum-told .given .1) _
     (c .before .capacity .ensures) _ (c2 .trimmed .ensures .0))
 
-slice-read-wide : tie.Need-slice-read-wide
-slice-read-wide c =
+nodes-in-use-requires : tie.Need-nodes-in-use-requires
+nodes-in-use-requires c κs =
     let c3 = c .before .before .before in
     let c4 = c3 .before in
     let c5 = c4 .before in
     let c7 = c5 .before .before in
     let c11 = c7 .before .before .before .before in
-    let r = readable (c11 .args .pool .now) _ (c3 .capacity .ensures)
-    (known (c11 .args .pool .now) (c11 .args .word .now) (c7 .check-word .ensures) (c5 .enum-told .given .1) _
-    (c3 .capacity .ensures) _ (c4 .trimmed .ensures .0)) in
-    omega (
-      arith,
-      r .inside,
-      r .fits,
-      long (c11 .args .pool .now) _ (c3 .capacity .ensures),
-      inside
-          (c11 .args .pool .now) _ (c3 .capacity .ensures),
-    )
-
-wide-requires : tie.Need-wide-requires
-wide-requires c κs = tt
+    used-there (c11 .args .pool .now) (c11 .args .word .now) (c7 .check-word .ensures) (c5 .enum-told .given .1) _
+    (c3 .capacity .ensures) _ (c4 .trimmed .ensures .0)
 
 sub-free : tie.Need-sub-free
 sub-free c =
@@ -88,7 +77,7 @@ sub-free c =
     let c12 = c8 .before .before .before .before in
     let f = used-fits (c12 .args .pool .now) (c12 .args .word .now) (c8 .check-word .ensures)
     (c6 .enum-told .given .1) _ (c4 .capacity .ensures) _ (c5 .trimmed .ensures .0) in
-    omega (arith, f, c .wide .ensures)
+    omega (arith, f, c .nodes-in-use .ensures)
 
 sub-short : tie.Need-sub-short
 sub-short c = omega (arith, c .if1 .taken)
@@ -105,8 +94,8 @@ returns-2 c =
     let c9 = c7 .before .before in
     let c13 = c9 .before .before .before .before in (
       add-full (c13 .args .pool .now) (c13 .args .word .now) (c9 .check-word .ensures) (c7 .enum-told .given .1) _
-          (c5 .capacity .ensures) _ (c6 .trimmed .ensures .0) _ _ (c3 .missing .ensures) (c .before .wide .ensures) _
-          (c .if1 .taken),
+          (c5 .capacity .ensures) _ (c6 .trimmed .ensures .0) _ _ (c3 .missing .ensures)
+          (c .before .nodes-in-use .ensures) _ (c .if1 .taken),
       refl,
     )
 
@@ -123,7 +112,7 @@ returns-3 c =
     let c10 = c8 .before .before in
     let c14 = c10 .before .before .before .before in
     add-blank (c14 .args .pool .now) (c14 .args .word .now) (c10 .check-word .ensures) (c8 .enum-told .given .1) _
-    (c6 .capacity .ensures) _ (c7 .trimmed .ensures .0) _ _ (c4 .missing .ensures) (c2 .wide .ensures)
+    (c6 .capacity .ensures) _ (c7 .trimmed .ensures .0) _ _ (c4 .missing .ensures) (c2 .nodes-in-use .ensures)
     (c .before .if1 .left) (c .if2 .taken)
 
 slice-reshare-prefix-is-held : tie.Need-slice-reshare-prefix-is-held
@@ -164,7 +153,7 @@ returns-4 c =
     let c13 = c11 .before .before in
     let c17 = c13 .before .before .before .before in
     add-held (c17 .args .pool .now) (c17 .args .word .now) (c13 .check-word .ensures) (c11 .enum-told .given .1) _
-    (c9 .capacity .ensures) _ (c10 .trimmed .ensures .0) _ _ (c7 .missing .ensures) (c5 .wide .ensures)
+    (c9 .capacity .ensures) _ (c10 .trimmed .ensures .0) _ _ (c7 .missing .ensures) (c5 .nodes-in-use .ensures)
     (c4 .if1 .left) (c3 .if2 .left) _ (c .before .is-held .ensures) (c .if3 .taken)
 
 slice-relend-prefix-add-word : tie.Need-slice-relend-prefix-add-word
@@ -191,7 +180,7 @@ add-word-requires c κs =
     let c14 = c12 .before .before in
     let c18 = c14 .before .before .before .before in
     puts (c18 .args .pool .now) (c18 .args .word .now) (c14 .check-word .ensures) (c12 .enum-told .given .1) _
-    (c10 .capacity .ensures) _ (c11 .trimmed .ensures .0) _ _ (c8 .missing .ensures) (c6 .wide .ensures)
+    (c10 .capacity .ensures) _ (c11 .trimmed .ensures .0) _ _ (c8 .missing .ensures) (c6 .nodes-in-use .ensures)
     (c5 .if1 .left) (c4 .if2 .left)
 
 same-length-5 : tie.Need-same-length-5
@@ -212,7 +201,7 @@ returns-5 c =
     let c17 = c15 .before .before in
     let c21 = c17 .before .before .before .before in
     add-done (c21 .args .pool .now) (c21 .args .word .now) (c17 .check-word .ensures) (c15 .enum-told .given .1) _
-    (c13 .capacity .ensures) _ (c14 .trimmed .ensures .0) _ _ (c11 .missing .ensures) (c9 .wide .ensures)
+    (c13 .capacity .ensures) _ (c14 .trimmed .ensures .0) _ _ (c11 .missing .ensures) (c9 .nodes-in-use .ensures)
     (c8 .if1 .left) (c7 .if2 .left) _ (c5 .is-held .ensures) (c4 .if3 .left) _ (c2 .add-word .kept .0)
     (c2 .add-word .ensures)
 
@@ -221,18 +210,17 @@ add-spec =
     tie.close
     (tie.spec
     check-word-requires
-    enum-known-first
+    enum-told
+    enum-told-2
     same-length
     returns
-    enum-told
     trimmed-requires
     capacity-requires
     mul-cells
     slice-reshare-prefix-missing
     slice-aggregate-missing
     missing-requires
-    slice-read-wide
-    wide-requires
+    nodes-in-use-requires
     sub-free
     sub-short
     same-length-2

@@ -2,7 +2,7 @@
 use mathlib.Core.Path.{refl, sym}
 use borrow.Author.Tests.{not-true, not-false}
 use Rattle.trie_check.proofs.Parts.{inside, long, readable}
-use Rattle.trie_char.proofs.Changing.{known, remove-absent, removes, remove-done, remove-refused}
+use Rattle.trie_char.proofs.Changing.{known, remove-absent, removes, remove-done, remove-refused, untouched}
 use borrow.Author.Needs.{needs}
 use Rattle.trie_char.proofs.change.remove.Statement.{statement}
 use Rattle.trie_char.proofs.change.remove.Tie as tie
@@ -10,23 +10,24 @@ use Rattle.trie_char.proofs.change.remove.Tie as tie
 check-word-requires : tie.Need-check-word-requires
 check-word-requires c κs = search needs
 
-enum-known-first : tie.Need-enum-known-first
-enum-known-first c = search needs
+enum-told : tie.Need-enum-told
+enum-told c = search needs
+
+enum-told-2 : tie.Need-enum-told-2
+enum-told-2 c = search needs
 
 same-length : tie.Need-same-length
 same-length c = refl
 
 returns : tie.Need-returns
 returns c =
-    let c3 = c .before .before .before in
-    let c7 = c3 .before .before .before .before in (
-      remove-refused (c7 .args .pool .now) (c7 .args .word .now) (c3 .check-word .ensures)
-          (c .before .first .given .1) _,
-      refl,
+    let c2 = c .before .before in
+    let c6 = c2 .before .before .before .before in (
+      remove-refused (c6 .args .pool .now) (c6 .args .word .now) (c2 .check-word .ensures)
+          (c .enum-told2 .given .1) _,
+      untouched (c6 .args .pool .now) (c6 .args .word .now) (c2 .check-word .ensures)
+          (c .enum-told2 .given .1) _,
     )
-
-enum-told : tie.Need-enum-told
-enum-told c = search needs
 
 trimmed-requires : tie.Need-trimmed-requires
 trimmed-requires c κs = search needs
@@ -114,10 +115,10 @@ remove-spec =
     tie.close
     (tie.spec
     check-word-requires
-    enum-known-first
+    enum-told
+    enum-told-2
     same-length
     returns
-    enum-told
     trimmed-requires
     capacity-requires
     mul-cells

@@ -9,11 +9,17 @@ use Rattle.trie_char.proofs.read.contain.Tie as tie
 check-requires : tie.Need-check-requires
 check-requires c κs = search needs
 
-enum-known-first : tie.Need-enum-known-first
-enum-known-first c = search needs
-
 enum-told : tie.Need-enum-told
 enum-told c = search needs
+
+enum-told-2 : tie.Need-enum-told-2
+enum-told-2 c = search needs
+
+returns : tie.Need-returns
+returns c =
+    let c2 = c .before .before in
+    let c5 = c2 .before .before .before in
+    contain-refused (c5 .args .pool .now) (c5 .args .word .now) (c2 .check .ensures) (c .enum-told2 .given .1) _
 
 capacity-requires : tie.Need-capacity-requires
 capacity-requires c κs = search needs
@@ -34,20 +40,14 @@ is-held-requires c κs =
     readable (c7 .args .pool .now) _ (c .before .capacity .ensures)
     (known (c7 .args .pool .now) (c7 .args .word .now) (c4 .check .ensures) (c2 .enum-told .given .1))
 
-returns : tie.Need-returns
-returns c =
+returns-2 : tie.Need-returns-2
+returns-2 c =
     let c3 = c .before .before .before in
     let c4 = c3 .before in
     let c6 = c4 .before .before in
     let c9 = c6 .before .before .before in
     contain-yes (c9 .args .pool .now) (c9 .args .word .now) (c6 .check .ensures) (c4 .enum-told .given .1) _
     (c3 .capacity .ensures) _ (c .before .is-held .ensures) (c .if1 .taken)
-
-returns-2 : tie.Need-returns-2
-returns-2 c =
-    let c3 = c .before .before .before in
-    let c6 = c3 .before .before .before in
-    contain-refused (c6 .args .pool .now) (c6 .args .word .now) (c3 .check .ensures) (c .before .first .given .1) _
 
 returns-3 : tie.Need-returns-3
 returns-3 c =
@@ -63,12 +63,12 @@ contain-spec =
     tie.close
     (tie.spec
     check-requires
-    enum-known-first
     enum-told
+    enum-told-2
+    returns
     capacity-requires
     mul-cells
     slice-aggregate-is-held
     is-held-requires
-    returns
     returns-2
     returns-3)

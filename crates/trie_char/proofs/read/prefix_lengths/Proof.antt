@@ -1,5 +1,6 @@
 -- Assumes nothing.
 use mathlib.Core.Path.{refl, sym}
+use Rattle.refusal.proofs.Causes.{no-output}
 use Rattle.trie_check.proofs.Parts.{long, readable}
 use Rattle.trie_char.proofs.Reading.{known, asks, prefix-short, prefix-done, prefix-refused}
 use borrow.Author.Needs.{needs}
@@ -9,11 +10,20 @@ use Rattle.trie_char.proofs.read.prefix_lengths.Tie as tie
 check-requires : tie.Need-check-requires
 check-requires c κs = search needs
 
-enum-known-first : tie.Need-enum-known-first
-enum-known-first c = search needs
-
 enum-told : tie.Need-enum-told
 enum-told c = search needs
+
+enum-told-2 : tie.Need-enum-told-2
+enum-told-2 c = search needs
+
+returns : tie.Need-returns
+returns c =
+    let c2 = c .before .before in
+    let c6 = c2 .before .before .before .before in (
+      prefix-refused (c6 .args .pool .now) (c6 .args .text .now) (c2 .check .ensures) (c .enum-told2 .given .1)
+          (c6 .args .out .now) _,
+      no-output _ _ (c .enum-told2 .given .1),
+    )
 
 capacity-requires : tie.Need-capacity-requires
 capacity-requires c κs = search needs
@@ -34,8 +44,8 @@ prefix-count-requires c κs =
     readable (c8 .args .pool .now) _ (c .before .capacity .ensures)
     (known (c8 .args .pool .now) (c8 .args .text .now) (c4 .check .ensures) (c2 .enum-told .given .1))
 
-returns : tie.Need-returns
-returns c =
+returns-2 : tie.Need-returns-2
+returns-2 c =
     let c3 = c .before .before .before in
     let c4 = c3 .before in
     let c6 = c4 .before .before in
@@ -62,15 +72,6 @@ prefix-lengths-requires c κs =
     asks (c12 .args .pool .now) (c12 .args .text .now) (c8 .check .ensures) (c6 .enum-told .given .1) _
     (c5 .capacity .ensures) (c12 .args .out .now) _ (c3 .prefix-count .ensures) (c2 .if1 .left)
 
-returns-2 : tie.Need-returns-2
-returns-2 c =
-    let c3 = c .before .before .before in
-    let c7 = c3 .before .before .before .before in (
-      prefix-refused (c7 .args .pool .now) (c7 .args .text .now) (c3 .check .ensures) (c .before .first .given .1)
-          (c7 .args .out .now) _,
-      refl,
-    )
-
 same-length : tie.Need-same-length
 same-length c = search needs
 
@@ -92,15 +93,15 @@ prefix-lengths-spec =
     tie.close
     (tie.spec
     check-requires
-    enum-known-first
     enum-told
+    enum-told-2
+    returns
     capacity-requires
     mul-cells
     slice-aggregate-prefix-count
     prefix-count-requires
-    returns
+    returns-2
     slice-aggregate-prefix-lengths
     prefix-lengths-requires
-    returns-2
     same-length
     returns-3)

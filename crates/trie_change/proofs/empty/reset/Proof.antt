@@ -3,10 +3,10 @@ use mathlib.Core.Path.{refl}
 use Prim.Native.Nat.{_-_}
 use native.Mathlib.Omega.{arith}
 use lib.ListN.{length, length-set}
-use Rattle.trie_char.proofs.Freshness.{Cleared, cleared-more, cleared-all}
+use Rattle.trie_change.proofs.Cleared.{Cleared, cleared-more, cleared-all}
 use borrow.Author.Needs.{needs}
-use Rattle.trie_char.proofs.change.reset.Statement.{statement}
-use Rattle.trie_char.proofs.change.reset.Tie as tie
+use Rattle.trie_change.proofs.empty.reset.Statement.{statement}
+use Rattle.trie_change.proofs.empty.reset.Tie as tie
 
 abbrev Inv-loop : tie.InvT-loop
 Inv-loop cells₀ k₀ cells k = Cleared cells₀ cells k
