@@ -1,4 +1,5 @@
 // Plain cutting, after newmm.rs: the loop over candidates. For our own crates.
+use cells::clear_from;
 use cells::narrow;
 use newmm_bfs::bfs_paths_graph;
 use newmm_edges::Progress;
@@ -48,18 +49,6 @@ fn put_token(text: &[u32], pool: &[u32], row: &mut [u32], m: usize, b: usize, en
     row[5 * m + e] = 1;
     row[ends] = narrow(e);
     e
-}
-
-// Sets every cell from k on to 0.
-fn clear(row: &mut [u32], k: usize)
-    requires { ⌜ k ≤ length (now row) ⌝ }
-    ensures { λ _. ⌜ now (row .exit) ≡ take k (now (row .entry)) ++ replicate (length (now (row .entry)) - k) 0 ⌝ }
-{
-    let mut i = k;
-    while i < row.len() {
-        row[i] = 0;
-        i += 1;
-    }
 }
 
 // The cut, in rows of just the cells that it takes.
@@ -114,7 +103,7 @@ fn cut_rows(text: &[u32], pool: &[u32], row: &mut [u32]) -> Ends
             total,
         };
     }
-    clear(row, ends);
+    clear_from(row, ends);
     Ends {
         ends,
         edges: p.total,

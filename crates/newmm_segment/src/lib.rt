@@ -1,5 +1,5 @@
 // Cutting in parts, after `segment_single` of newmm.rs. For our own crates.
-use cells::clear;
+use cells::clear_first;
 use cells::shift;
 use cells::wide;
 use char_string::Found;
@@ -69,7 +69,7 @@ fn cut_at(rest: &[u32], pool: &[u32], row: &mut [u32], by: usize) -> PartEnd
             let r = one_cut(sample, pool, row);
             let k = r.ends;
             let at = TEXT_SCAN_BEGIN + longest_start(&row[..k]);
-            clear(row, k);
+            clear_first(row, k);
             PartEnd { at, edges: r.edges }
         }
     }

@@ -14,8 +14,8 @@ capacity-requires c κs = search needs
 mul-cells : tie.Need-mul-cells
 mul-cells c = search needs
 
-clear-requires : tie.Need-clear-requires
-clear-requires c κs = search needs
+clear-first-requires : tie.Need-clear-first-requires
+clear-first-requires c κs = search needs
 
 slice-aggregate-segment-single : tie.Need-slice-aggregate-segment-single
 slice-aggregate-segment-single c =
@@ -30,17 +30,17 @@ segment-single-requires c κs =
     let c11 = c6 .before .before .before .before .before in
     lent-ready (c11 .args .mode) (c11 .args .text .now) (c11 .args .pool .now) (length (c11 .args .scratch .now))
     (c11 .pre) (c6 .capacity .result) (c6 .capacity .ensures)
-    (cleared-all (c11 .args .scratch .now) (c4 .clear .ensures))
+    (cleared-all (c11 .args .scratch .now) (c4 .clear-first .ensures))
 
-clear-requires-2 : tie.Need-clear-requires-2
-clear-requires-2 c κs =
+clear-first-requires-2 : tie.Need-clear-first-requires-2
+clear-first-requires-2 c κs =
     let c4 = c .before .before .before .before in
     let c9 = c4 .before .before .before .before .before in
     let c11 = c9 .before .before in
     let c16 = c11 .before .before .before .before .before in
     ends-fit (c16 .args .mode) (c16 .args .text .now) (c16 .args .pool .now) (length (c16 .args .scratch .now))
     (c16 .pre) (c11 .capacity .result) (c11 .capacity .ensures)
-    (cleared-all (c16 .args .scratch .now) (c9 .clear .ensures)) (c4 .segment-single .ensures)
+    (cleared-all (c16 .args .scratch .now) (c9 .clear-first .ensures)) (c4 .segment-single .ensures)
 
 same-length : tie.Need-same-length
 same-length c = search needs
@@ -55,16 +55,16 @@ returns c =
     let c19 = c14 .before .before .before .before .before in (
       short-answer (c19 .args .mode) (c19 .args .text .now) (c19 .args .pool .now) (length (c19 .args .scratch .now))
           (c19 .pre) (c14 .capacity .result) (c14 .capacity .ensures)
-          (cleared-all (c19 .args .scratch .now) (c12 .clear .ensures)) (c7 .segment-single .ensures) _ (c4 .if1 .taken),
+          (cleared-all (c19 .args .scratch .now) (c12 .clear-first .ensures)) (c7 .segment-single .ensures) _ (c4 .if1 .taken),
       (
         short-out (c19 .args .mode) (c19 .args .text .now) (c19 .args .pool .now) (length (c19 .args .scratch .now))
             (c19 .pre) (c14 .capacity .result) (c14 .capacity .ensures)
-            (cleared-all (c19 .args .scratch .now) (c12 .clear .ensures)) (c7 .segment-single .ensures) _
+            (cleared-all (c19 .args .scratch .now) (c12 .clear-first .ensures)) (c7 .segment-single .ensures) _
             (c4 .if1 .taken),
         all-zero (c19 .args .mode) (c19 .args .text .now) (c19 .args .pool .now)
             (length (c19 .args .scratch .now)) (c19 .pre) (c14 .capacity .result) (c14 .capacity .ensures)
-            (cleared-all (c19 .args .scratch .now) (c12 .clear .ensures)) (c7 .segment-single .ensures) _
-            (c2 .clear2 .ensures),
+            (cleared-all (c19 .args .scratch .now) (c12 .clear-first .ensures)) (c7 .segment-single .ensures) _
+            (c2 .clear-first2 .ensures),
       ),
     )
 
@@ -76,7 +76,7 @@ slice-reshare-prefix-copy c =
     let c15 = c10 .before .before .before .before .before in
     ends-fit (c15 .args .mode) (c15 .args .text .now) (c15 .args .pool .now) (length (c15 .args .scratch .now))
     (c15 .pre) (c10 .capacity .result) (c10 .capacity .ensures)
-    (cleared-all (c15 .args .scratch .now) (c8 .clear .ensures)) (c3 .segment-single .ensures)
+    (cleared-all (c15 .args .scratch .now) (c8 .clear-first .ensures)) (c3 .segment-single .ensures)
 
 slice-aggregate-copy : tie.Need-slice-aggregate-copy
 slice-aggregate-copy c =
@@ -86,7 +86,7 @@ slice-aggregate-copy c =
     let c16 = c11 .before .before .before .before .before in
     sym (ends-lent (c16 .args .mode) (c16 .args .text .now) (c16 .args .pool .now) (length (c16 .args .scratch .now))
     (c16 .pre) (c11 .capacity .result) (c11 .capacity .ensures)
-    (cleared-all (c16 .args .scratch .now) (c9 .clear .ensures)) (c4 .segment-single .ensures))
+    (cleared-all (c16 .args .scratch .now) (c9 .clear-first .ensures)) (c4 .segment-single .ensures))
 
 copy-requires : tie.Need-copy-requires
 copy-requires c κs =
@@ -99,20 +99,20 @@ copy-requires c κs =
         arith,
         ends-lent (c17 .args .mode) (c17 .args .text .now) (c17 .args .pool .now)
             (length (c17 .args .scratch .now)) (c17 .pre) (c12 .capacity .result) (c12 .capacity .ensures)
-            (cleared-all (c17 .args .scratch .now) (c10 .clear .ensures)) (c5 .segment-single .ensures),
+            (cleared-all (c17 .args .scratch .now) (c10 .clear-first .ensures)) (c5 .segment-single .ensures),
       ),
       c2 .if1 .left,
     )
 
-clear-requires-3 : tie.Need-clear-requires-3
-clear-requires-3 c κs =
+clear-first-requires-3 : tie.Need-clear-first-requires-3
+clear-first-requires-3 c κs =
     let c9 = c .before .before .before .before .before .before .before .before .before in
     let c14 = c9 .before .before .before .before .before in
     let c16 = c14 .before .before in
     let c21 = c16 .before .before .before .before .before in
     ends-fit (c21 .args .mode) (c21 .args .text .now) (c21 .args .pool .now) (length (c21 .args .scratch .now))
     (c21 .pre) (c16 .capacity .result) (c16 .capacity .ensures)
-    (cleared-all (c21 .args .scratch .now) (c14 .clear .ensures)) (c9 .segment-single .ensures)
+    (cleared-all (c21 .args .scratch .now) (c14 .clear-first .ensures)) (c9 .segment-single .ensures)
 
 same-length-2 : tie.Need-same-length-2
 same-length-2 c = search needs
@@ -131,16 +131,16 @@ returns-2 c =
     let c24 = c19 .before .before .before .before .before in (
       done-answer (c24 .args .mode) (c24 .args .text .now) (c24 .args .pool .now) (length (c24 .args .scratch .now))
           (c24 .pre) (c19 .capacity .result) (c19 .capacity .ensures)
-          (cleared-all (c24 .args .scratch .now) (c17 .clear .ensures)) (c12 .segment-single .ensures) _ (c9 .if1 .left),
+          (cleared-all (c24 .args .scratch .now) (c17 .clear-first .ensures)) (c12 .segment-single .ensures) _ (c9 .if1 .left),
       (
         done-out (c24 .args .mode) (c24 .args .text .now) (c24 .args .pool .now) (length (c24 .args .scratch .now))
             (c24 .pre) (c19 .capacity .result) (c19 .capacity .ensures)
-            (cleared-all (c24 .args .scratch .now) (c17 .clear .ensures)) (c12 .segment-single .ensures) _ _ (c9 .if1 .left)
+            (cleared-all (c24 .args .scratch .now) (c17 .clear-first .ensures)) (c12 .segment-single .ensures) _ _ (c9 .if1 .left)
             (c6 .copy .ensures),
         all-zero (c24 .args .mode) (c24 .args .text .now) (c24 .args .pool .now)
             (length (c24 .args .scratch .now)) (c24 .pre) (c19 .capacity .result) (c19 .capacity .ensures)
-            (cleared-all (c24 .args .scratch .now) (c17 .clear .ensures)) (c12 .segment-single .ensures) _
-            (c2 .clear3 .ensures),
+            (cleared-all (c24 .args .scratch .now) (c17 .clear-first .ensures)) (c12 .segment-single .ensures) _
+            (c2 .clear-first3 .ensures),
       ),
     )
 
@@ -150,16 +150,16 @@ cut-checked-spec =
     (tie.spec
     capacity-requires
     mul-cells
-    clear-requires
+    clear-first-requires
     slice-aggregate-segment-single
     segment-single-requires
-    clear-requires-2
+    clear-first-requires-2
     same-length
     returns
     slice-reshare-prefix-copy
     slice-aggregate-copy
     copy-requires
-    clear-requires-3
+    clear-first-requires-3
     same-length-2
     same-length-3
     returns-2)

@@ -76,8 +76,8 @@ add-at c =
           (plain-right (holds (c13 .args .pool .now))) _ (c .longest-start .ensures),
     )
 
-clear-requires : tie.Need-clear-requires
-clear-requires c κs =
+clear-first-requires : tie.Need-clear-first-requires
+clear-first-requires c κs =
     let c5 = c .before .before .before .before .before in
     let c14 = c5 .before .before .before .before .before .before .before .before .before in
     sample-fits (c14 .pre .0) (c14 .pre .1) (c14 .args .by) _ (written (c5 .one-cut .ensures))
@@ -108,7 +108,7 @@ returns-2 c =
       no-space (c17 .pre .0) (c17 .pre .1) (c17 .args .by) _ w right _
           (sym (c12 .rfind-space-char-index .ensures) ∙ c10 .enum-told .given .1) (c4 .longest-start .ensures),
       row-back
-          (c17 .pre .0) (c17 .pre .1) (c17 .args .by) _ w right _ (c2 .clear .ensures),
+          (c17 .pre .0) (c17 .pre .1) (c17 .args .by) _ w right _ (c2 .clear-first .ensures),
     )
 
 pub cut-at-spec : {M : Type 1} → statement M
@@ -127,7 +127,7 @@ cut-at-spec =
     slice-aggregate-longest-start
     longest-start-requires
     add-at
-    clear-requires
+    clear-first-requires
     returns
     same-length
     returns-2)
