@@ -6,8 +6,8 @@ use Rattle.newmm_rules.proofs.Spans.{token-spans}
 use Rattle.newmm_word_step.specs.inner.Walks.{givenBy}
 use Rattle.newmm_one_cut.proofs.Rounds.{Round, b-inside, ends-few, committed-low, here, token-asks, token-round, start-one, round-one, round-more, still-sized}
 use Rattle.newmm_one_cut.proofs.Bounds.{ends-fit, done, first-round, size₁, part-long}
-use Rattle.newmm_one_cut.proofs.cut_rows.Statement.{statement}
-use Rattle.newmm_one_cut.proofs.cut_rows.Tie as tie
+use Rattle.newmm_one_cut.proofs.cut_strips.Statement.{statement}
+use Rattle.newmm_one_cut.proofs.cut_strips.Tie as tie
 
 abbrev Inv-loop : tie.InvT-loop
 Inv-loop text pool row₀ n m flags flags-end b₀ committed₀ ends₀ p₀ row b committed ends p = Round text pool row m b committed ends p
@@ -176,8 +176,8 @@ returns c =
     done (c5 .loop .inv) (c4 .loop-test .left) _ _ (c13 .pre) (c5 .loop .inv .exact ∙ sym (c13 .pre .size))
     (c2 .clear-from .ensures)
 
-pub cut-rows-spec : {M : Type 1} → statement M
-cut-rows-spec =
+pub cut-strips-spec : {M : Type 1} → statement M
+cut-strips-spec =
     tie.close
     (tie.spec
     Inv-loop
