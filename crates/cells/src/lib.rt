@@ -26,7 +26,8 @@ pub fn narrow(x: usize) -> u32
 // Adds `by` to each of the first k cells.
 pub fn shift(row: &mut [u32], k: usize, by: usize)
     requires { ⌜ (k ≤ length (now row)) × ((i : ℕ) → i < k → getD (now row) i 0 + by ≤ 65535) ⌝ }
-    ensures { λ _. ⌜ now (row .exit) ≡ map (λ (e : ℕ). by + e) (take k (now (row .entry))) ++ drop k (now (row .entry)) ⌝ }
+    ensures { λ _. ⌜ now (row .exit)
+        ≡ map (λ (e : ℕ). by + e) (take k (now (row .entry))) ++ drop k (now (row .entry)) ⌝ }
 {
     let mut i = 0;
     while i < k {

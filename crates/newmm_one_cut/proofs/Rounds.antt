@@ -17,14 +17,14 @@ use Rattle.newmm_rules.specs.Search.{pathTo}
 use Rattle.newmm_rules.specs.Cutting.{State, begin, graphOf, commit, settled, takenOut, turn, turns}
 use Rattle.newmm_rules.proofs.Positions.{In, Rises, none, next, at-least, member-in, in-member, not-in}
 use Rattle.newmm_rules.proofs.Spans.{word-spans, token-spans}
-use Rattle.newmm_rules.proofs.Search.{path-some}
 use Rattle.newmm_rules.proofs.Edges.{graph-in, few-stand}
 use Rattle.newmm_rules.proofs.Tokens.{few-tokens}
 use Rattle.newmm_rules.proofs.Recording.{Placing}
 use Rattle.newmm_rules.proofs.Turns.{Between, Turned, afterWords, At, turn-at}
-use Rattle.newmm_bfs.specs.inner.Strips.{Sized, graphIn, before, Edges, Start, Path}
-use Rattle.newmm_bfs.proofs.Strips.{above-same, drop-same}
+use Rattle.newmm_bfs.specs.inner.Strips.{Sized, graphIn, before, Edges, Leads, Start, Path}
+use Rattle.newmm_bfs.proofs.Strips.{above-same, drop-same, graph-length, graph-cell}
 use Rattle.newmm_bfs.proofs.Same.{path-same}
+use Rattle.newmm_bfs.proofs.Found.{led}
 use Rattle.tcc.specs.Flags.{endFlags}
 use Rattle.trie_pool.specs.inner.Sound.{Readable}
 use Rattle.newmm_word_step.specs.inner.Walks.{givenBy}
@@ -80,15 +80,6 @@ cell-in : (l : List ℕ) (j : ℕ) → j < length l → In (getD l j 0) l
 cell-in [] j h = absurd (omega arith)
 cell-in (x ∷ l) zero h = List·Memᴰ·head refl
 cell-in (x ∷ l) (suc j) h = List·Memᴰ·tail (cell-in l j (omega arith))
-
-module _ (row : List ℕ) (m v : ℕ) where
-  graph-length : 7 * m + getD row (3 * m + v) 0 + getD row (4 * m + v) 0 ≤ length row → length (graphIn row m v) ≡ getD row (4 * m + v) 0
-  unfolding graphIn
-  graph-length h = length-take-le (getD row (4 * m + v) 0) (drop (7 * m + getD row (3 * m + v) 0) row) (omega (arith, length-drop (7 * m + getD row (3 * m + v) 0) row))
-
-  graph-cell : (j : ℕ) → j < getD row (4 * m + v) 0 → getD (graphIn row m v) j 0 ≡ getD row (7 * m + getD row (3 * m + v) 0 + j) 0
-  unfolding graphIn
-  graph-cell j h = getD-take (getD row (4 * m + v) 0) (drop (7 * m + getD row (3 * m + v) 0) row) j 0 h ∙ getD-drop (7 * m + getD row (3 * m + v) 0) row j 0
 
 module _ {text pool row : List ℕ} {m b committed ends : ℕ} {p : Progress} (r : Round text pool row m b committed ends p) where
   abbrev g : Given
@@ -450,11 +441,17 @@ module _ {text pool row : List ℕ} {m b committed ends : ℕ} {p : Progress} (r
               start-before
               ∙ ap (λ (x : ℕ). pathTo (graphOf (s₁ .edges)) x c₁) (r .committed-is ∙ sym same-committed)
 
-          -- the search can't fail: edges lead from the committed end to the candidate
-          way-there : path₂ ≡ [] → ⊥
-          way-there =
-              path-some (λ x y i. let sp = spans-edge x y i in (omega (arith, sp .0, sp .1), sp .2)) (omega (arith, start-before, r .committed-is, same-committed))
-              (placing₁ .handled .reach c₁ first-in)
+          -- edges lead from the committed end to the candidate, so the search can't fail
+          leads : Leads (graphIn row′ m) committed c₁ c₁
+          leads =
+              let fi = first-inside in
+              subst (λ (a : ℕ). Leads (graphIn row′ m) a c₁ c₁) (same-committed ∙ sym (r .committed-is))
+              (led (graphOf (s₁ .edges)) (graphIn row′ m) (s₁ .committed) c₁
+              (λ v y i.
+              let sp = spans-edge v y i in
+              let h : v < c₁ = omega (arith, sp .1, sp .2) in
+              (h, subst (λ (l : List ℕ). In y l) (sym (graph-all v (sp .0) (omega arith))) i))
+              (placing₁ .handled .reach c₁ first-in))
 
           start-at : Start row′ m committed c₁
           start-at =
@@ -464,7 +461,7 @@ module _ {text pool row : List ℕ} {m b committed ends : ℕ} {p : Progress} (r
                 inside = first-inside;
                 edges = edges-of;
                 fresh = unmarked′;
-                some-way = λ e. way-there (sym same-path ∙ e);
+                way = leads;
               }
 
           abbrev s₂ : State

@@ -3,6 +3,7 @@ use Prim.Native.Nat.{ℕ, _+_, _*_, _-_, _<_}
 use native.Mathlib.Omega.{arith}
 use mathlib.Core.Path.{_∙_, ap}
 use Rattle.newmm_bfs.proofs.Searching.{Agree, agree-same, agree-on, Searching, Reading, begun, front, taken, index, spans, hit, next, closed, keeps, waits}
+use Rattle.newmm_bfs.proofs.Found.{some-way}
 use borrow.Author.Needs.{needs}
 use Rattle.newmm_bfs.proofs.search.Statement.{statement}
 use Rattle.newmm_bfs.proofs.search.Tie as tie
@@ -29,7 +30,7 @@ loop-holds c =
     let c2 = c .before .before in
     let c5 = c2 .before .before .before in
     let b = begun _ _ _ _ (c5 .pre) _ _ (c2 .queue-up .ensures .0) (c2 .queue-up .ensures .1) in
-    (b .0, agree-same _ _, waits (b .0) (b .1) (c5 .pre .some-way))
+    (b .0, agree-same _ _, waits (b .0) (b .1) (some-way (c5 .pre)))
 
 add-wide : tie.Need-add-wide Inv-loop2 μ-loop2 Inv-loop μ-loop
 add-wide c = let g = c .loop .inv .0 .good in omega (arith, c .loop .inv .2, g .sized .small, g .room, g .inside)
@@ -218,7 +219,7 @@ loop-again c =
     let b = begun _ _ _ _ (c14 .pre) _ _ (c11 .queue-up .ensures .0) (c11 .queue-up .ensures .1) .1 in
     let s = closed (c1 .loop2 .inv .0) (c .loop2-test .left) in
     let a = agree-on (c8 .loop .inv .1) (c1 .loop2 .inv .1) in
-    (s, a, waits s (agree-on b a) (c14 .pre .some-way))
+    (s, a, waits s (agree-on b a) (some-way (c14 .pre)))
 
 pub search-spec : {M : Type 1} → statement M
 search-spec =

@@ -1,10 +1,10 @@
 -- The scratch for m positions is a row of strips, one behind the other: ends, queue, predecessors,
--- first edges, numbers of edges, candidates and cluster ends with m cells each; then the ends of the
--- edges, at most m + 50.
+-- first edges, numbers of edges, candidates and cluster ends with m cells each; then the ends of
+-- the edges, at most m + 50.
 use Prim.Native.Nat.{ℕ, suc, _+_, _*_, _-_, _≤_, _<_}
 use mathlib.Core.Path.{_≡_}
 use mathlib.Core.Bool.{Bool, cond}
-use mathlib.Core.List.{List, [], _∷_, _++_}
+use mathlib.Core.List.{List, [], _∷_, _++_, List·Memᴰ}
 use lib.ListN.{length, getD, set, take, drop}
 use lib.Dec.{eqb}
 use Rattle.newmm_rules.specs.Limits.{maxGraphSize}
@@ -92,15 +92,20 @@ pub record Edges (row : List ℕ) (m goal v : ℕ) : Type 0 where
   pub fits : edgeCell m (firstOf row m v) + countOf row m v ≤ length row
   pub on : (j : ℕ) → j < countOf row m v → (v < endOf row m v j) × (endOf row m v j ≤ goal)
 
+-- edges from vertices below the goal lead from a to x
+pub data Leads (graph : Graph) (a goal : ℕ) : ℕ → Type 0 where
+  at-start : Leads graph a goal a
+  by-edge : {v x : ℕ} → Leads graph a goal v → v < goal → List·Memᴰ x (graph v) → Leads graph a goal x
+
 -- what a search asks: the start lies before the goal, edges between them are in order, nothing from
--- the start on is marked, and edges lead from the start to the goal, so that there is a way to find
+-- the start on is marked, and edges lead from the start to the goal, so that a way is found
 pub record Start (row : List ℕ) (m start goal : ℕ) : Type 0 where
   pub sized : Sized row m
   pub order : start < goal
   pub inside : goal < m
   pub edges : (v : ℕ) → start ≤ v → v < goal → Edges row m goal v
   pub fresh : (x : ℕ) → start ≤ x → x < m → before row m x ≡ 0
-  pub some-way : pathTo (graphIn row m) start goal ≡ [] → ⊥
+  pub way : Leads (graphIn row m) start goal goal
 
 -- what a search leaves as it was: the ends, and all behind the predecessors; and nothing from the
 -- goal on is marked

@@ -33,7 +33,8 @@ progressAfter row m e p =
 -- what recording an edge asks of the numbers: there is room for it, and the counts stay small
 abbrev pub Room : ℕ → ℕ → ℕ → ℕ → Progress → Type 0
 Room m b e first p =
-    (b < m) × (e < m) × (first ≤ p .edges) × (p .edges < m + maxGraphSize) × (p .left ≤ 8589934592) × (p .total ≤ 8589934592)
+    (b < m) × (e < m) × (first ≤ p .edges) × (p .edges < m + maxGraphSize)
+    × (p .left ≤ 8589934592) × (p .total ≤ 8589934592)
 
 -- the strips stand for a state: the candidates that were ever there, and the edges of the places
 -- from the committed end up to, and without, top
@@ -60,8 +61,8 @@ pub record Here (text pool row : List ℕ) (m b : ℕ) (p : Progress) : Type 0 w
   pub total-few : p .total ≤ 4294967296
   pub none : countOf row m b ≡ 0
 
--- what it leaves alone: all before the first edges, first edges and numbers of other places, and the
--- cluster ends
+-- what it leaves alone: all before the first edges, first edges and numbers of other places, and
+-- the cluster ends
 pub record Alone (row row′ : List ℕ) (m b : ℕ) : Type 0 where
   pub low : searchStrips row′ m ≡ searchStrips row m
   pub others : (i : ℕ) → 3 * m ≤ i → i < 5 * m → (i ≡ firstCell m b → ⊥) → (i ≡ countCell m b → ⊥)
