@@ -14,8 +14,9 @@ pub record Edge : Type 0 where
   pub from : ℕ
   pub to : ℕ
 
--- The candidates left, rising, and all that ever were candidates; the committed end; the edges since the last clearing, in recorded order; the
--- token ends so far; and how many edges were recorded in the whole call.
+-- The candidates left, rising, and all that ever were candidates; the committed end; the edges
+-- since the last clearing, in recorded order; the token ends so far; and how many edges were
+-- recorded in the whole call.
 pub record State : Type 0 where
   pub candidates : List ℕ
   pub known : List ℕ
@@ -40,22 +41,33 @@ recorded b e s =
       count = suc (s .count);
     }
 
--- For each word, shortest first; stop after this edge if more than 50 edges stand since the last clearing.
+-- For each word, shortest first; stop after this edge if more than 50 edges stand since the last
+-- clearing.
 unfoldable pub recordedAll : ℕ → List ℕ → State → State
 recordedAll b [] s = s
-recordedAll b (e ∷ es) s = cond (ltb maxGraphSize (length (recorded b e s .edges))) (recorded b e s) (recordedAll b es (recorded b e s))
+recordedAll b (e ∷ es) s =
+    cond (ltb maxGraphSize (length (recorded b e s .edges))) (recorded b e s) (recordedAll b es (recorded b e s))
 
 -- the ends of the edges from v, in recorded order
 unfoldable pub graphOf : List Edge → Graph
 graphOf [] v = []
 graphOf (e ∷ es) v = cond (eqb (e .from) v) (e .to ∷ graphOf es v) (graphOf es v)
 
--- The token ends so far get new ones, the last of them e. It is committed and the sole candidate; edges are cleared.
+-- The token ends so far get new ones, the last of them e. It is committed and the sole candidate;
+-- edges are cleared.
 abbrev pub commit : List ℕ → ℕ → State → State
-commit path e s = record { candidates = e ∷ []; known = e ∷ s .known; committed = e; edges = []; ends = s .ends ++ path; count = s .count }
+commit path e s =
+    record {
+      candidates = e ∷ [];
+      known = e ∷ s .known;
+      committed = e;
+      edges = [];
+      ends = s .ends ++ path;
+      count = s .count;
+    }
 
--- Step 2, exactly one candidate left: search breadth first from the committed end to it. Step 3, none left: one token from b, by the
--- non-dictionary rule. Step 4: otherwise go on.
+-- Step 2, exactly one candidate left: search breadth first from the committed end to it. Step 3,
+-- none left: one token from b, by the non-dictionary rule. Step 4: otherwise go on.
 unfoldable pub settled : Given → ℕ → List ℕ → State → State
 settled g b [] s = commit (tokenEnd g b ∷ []) (tokenEnd g b) s
 settled g b (c ∷ []) s = commit (pathTo (graphOf (s .edges)) (s .committed) c) c s
@@ -66,7 +78,15 @@ settle g b s = settled g b (s .candidates) s
 
 -- b is taken out, and cs are left
 abbrev pub takenOut : List ℕ → State → State
-takenOut cs s = record { candidates = cs; known = s .known; committed = s .committed; edges = s .edges; ends = s .ends; count = s .count }
+takenOut cs s =
+    record {
+      candidates = cs;
+      known = s .known;
+      committed = s .committed;
+      edges = s .edges;
+      ends = s .ends;
+      count = s .count;
+    }
 
 -- While the least candidate is below n, take it out as b.
 unfoldable pub turn : Given → List ℕ → State → State

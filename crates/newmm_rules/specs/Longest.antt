@@ -13,7 +13,8 @@ unfoldable pub longest : List ℕ → ℕ
 longest [] = 0
 longest (l ∷ ls) = max l (longest ls)
 
--- The lengths of the tokens before the longest one, the last of equals: a token stands before that one where a later token is as long or longer.
+-- The lengths of the tokens before the longest one, the last of equals: a token stands before that
+-- one where a later token is as long or longer.
 unfoldable pub beforeLongest : List ℕ → ℕ
 beforeLongest [] = 0
 beforeLongest (l ∷ ls) = cond (leb l (longest ls)) (l + beforeLongest ls) 0

@@ -13,7 +13,8 @@ use Rattle.newmm_rules.specs.Parts.{Cutter, Runs, runsOf}
 abbrev pub shifted : ℕ → List ℕ → List ℕ
 shifted by ends = map (λ (e : ℕ). by + e) ends
 
--- Every part is then cut plainly by itself. Each part's ends are written straight behind those of the part before, shifted to the whole text.
+-- Every part is then cut plainly by itself. Each part's ends are written straight behind those of
+-- the part before, shifted to the whole text.
 unfoldable pub partEnds : Cutter → ℕ → List (List ℕ) → List ℕ
 partEnds plain start [] = []
 partEnds plain start (part ∷ parts) = shifted start (plain part .ends) ++ partEnds plain (start + length part) parts

@@ -23,7 +23,8 @@ isConsonant x = holds consonant x
 abbrev pub isShort : List ℕ → Bool
 isShort word = leb (length word) 2 && eqb (leading isConsonant word) (length word)
 
--- a dictionary word starts at p whose end is a cluster end and which isn't one or two characters U+0E01..0E2E
+-- a dictionary word starts at p whose end is a cluster end and which isn't one or two characters
+-- U+0E01..0E2E
 abbrev pub startsWord : Given → ℕ → Bool
 startsWord g p = any (λ (e : ℕ). not (isShort (span g p e))) (wordEnds g p)
 
@@ -35,6 +36,7 @@ stopsAt g p = g .isEnd p && (startsWord g p || ltb 0 (nonThaiAt g p))
 unfoldable pub skipEnd : Given → ℕ → ℕ
 skipEnd g b = firstOr (size g) (stopsAt g) (upFrom (size g - suc b) (suc b))
 
--- If the text at b starts with a match of NON_THAI_PATTERN, the token is that match; else the skip decides.
+-- If the text at b starts with a match of NON_THAI_PATTERN, the token is that match; else the skip
+-- decides.
 unfoldable pub tokenEnd : Given → ℕ → ℕ
 tokenEnd g b = cond (eqb (nonThaiAt g b) 0) (skipEnd g b) (b + nonThaiAt g b)

@@ -1,5 +1,6 @@
--- NON_THAI_PATTERN: each of its five alternatives as the length of what it matches at the text's start, 0 where it doesn't match. None matches
--- nothing, so 0 is free. The choice is leftmost-first: the first alternative that matches, each repetition as long as it can be.
+-- NON_THAI_PATTERN: each of its five alternatives as the length of what it matches at the text's
+-- start, 0 where it doesn't match. None matches nothing, so 0 is free. The choice is
+-- leftmost-first: the first alternative that matches, each repetition as long as it can be.
 use Prim.Native.Nat.{ℕ, zero, suc, _+_}
 use mathlib.Core.Bool.{Bool, cond, _&&_, _||_}
 use mathlib.Core.List.{List, [], _∷_}
@@ -27,7 +28,8 @@ isPoint x = eqb x 0x2C || eqb x 0x2E
 abbrev pub isBlank : ℕ → Bool
 isBlank x = eqb x 0x20 || eqb x 0x9
 
--- one turn of ([,\.][d]+)*: a comma or point, and the digits behind it; nothing where no digit follows, so that the comma or point is given back
+-- one turn of ([,\.][d]+)*: a comma or point, and the digits behind it; nothing where no digit
+-- follows, so that the comma or point is given back
 abbrev pub groupOf : (ℕ → Bool) → List ℕ → ℕ
 groupOf digit [] = 0
 groupOf digit (x ∷ s) = cond (isPoint x) (cond (eqb (leading digit s) 0) 0 (suc (leading digit s))) 0
@@ -53,4 +55,6 @@ firstMatch [] = 0
 firstMatch (m ∷ ms) = cond (eqb m 0) (firstMatch ms) m
 
 unfoldable pub nonThai : List ℕ → ℕ
-nonThai s = firstMatch (leading isLetter s ∷ number isDigit s ∷ number isThaiDigit s ∷ leading isBlank s ∷ lineEnd s ∷ [])
+nonThai s =
+    firstMatch
+    (leading isLetter s ∷ number isDigit s ∷ number isThaiDigit s ∷ leading isBlank s ∷ lineEnd s ∷ [])

@@ -19,8 +19,9 @@ Cutter = List ℕ → Cut
 abbrev pub sampleOf : List ℕ → List ℕ
 sampleOf rest = take (textScanEnd - textScanBegin) (drop textScanBegin rest)
 
--- If it holds U+0020, cut the remaining text where the mode says for the index of the last one in the sample. Else cut the sample plainly; the cut is
--- 100 plus the lengths of the tokens before the longest one, the last of equals.
+-- If it holds U+0020, cut the remaining text where the mode says for the index of the last one in
+-- the sample. Else cut the sample plainly; the cut is 100 plus the lengths of the tokens before the
+-- longest one, the last of equals.
 abbrev pub cutFor : (ℕ → ℕ) → Cutter → List ℕ → Found → ℕ
 cutFor spaceCut plain sample (At i) = spaceCut i
 cutFor spaceCut plain sample Nothing = textScanBegin + beforeLongest (lengths 0 (plain sample .ends))
@@ -49,7 +50,8 @@ onePart rest = record { samples = []; parts = lastPart rest }
 abbrev pub first : List (List ℕ) → List ℕ → Runs → Runs
 first sample part r = record { samples = sample ++ r .samples; parts = part ∷ r .parts }
 
--- While the remaining text has 140 or more. Each part has a character or more, so as many rounds are enough as there are characters.
+-- While the remaining text has 140 or more. Each part has a character or more, so as many rounds
+-- are enough as there are characters.
 unfoldable pub runsOf : ℕ → (ℕ → ℕ) → Cutter → List ℕ → Runs
 runsOf zero spaceCut plain rest = onePart rest
 runsOf (suc k) spaceCut plain rest =

@@ -1,4 +1,5 @@
--- The breadth-first search of step 2, over a graph that gives the ends of the edges from a vertex, in recorded order.
+-- The breadth-first search of step 2, over a graph that gives the ends of the edges from a vertex,
+-- in recorded order.
 use Prim.Native.Nat.{ℕ, zero, suc, _-_}
 use mathlib.Core.Bool.{Bool, cond}
 use mathlib.Core.List.{List, [], _∷_, _++_}
@@ -44,9 +45,11 @@ unfoldable pub searched : ℕ → Graph → ℕ → List Way → List ℕ → Li
 searched zero graph goal ways seen = []
 searched (suc k) graph goal [] seen = []
 searched (suc k) graph goal (w ∷ ways) seen =
-    after (passed goal w (graph (w .tip)) (record { ways = ways; seen = seen })) (λ (q : Queue). searched k graph goal (q .ways) (q .seen))
+    after (passed goal w (graph (w .tip)) (record { ways = ways; seen = seen }))
+    (λ (q : Queue). searched k graph goal (q .ways) (q .seen))
 
--- The vertices after the first on the way that the search finds. Vertices lie between the start and the goal and each is queued once, so
--- as many turns are enough as there are positions between them.
+-- The vertices after the first on the way that the search finds. Vertices lie between the start and
+-- the goal and each is queued once, so as many turns are enough as there are positions between
+-- them.
 unfoldable pub pathTo : Graph → ℕ → ℕ → List ℕ
 pathTo graph start goal = searched (goal - start) graph goal (record { tip = start; ends = [] } ∷ []) (start ∷ [])

@@ -6,7 +6,8 @@ use lib.ListN.{length, take, drop}
 use Rattle.newmm_rules.specs.Limits.{maxWord}
 use Rattle.newmm_rules.specs.Positions.{upFrom, those}
 
--- What is cut: the text, which positions are its cluster ends, and which words the dictionary holds.
+-- What is cut: the text, which positions are its cluster ends, and which words the dictionary
+-- holds.
 pub record Given : Type 0 where
   pub text : List ℕ
   pub isEnd : ℕ → Bool
