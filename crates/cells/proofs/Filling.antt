@@ -3,7 +3,7 @@ use Prim.Native.Nat.{ℕ, zero, suc, _+_, _≤_, _<_}
 use native.Mathlib.Omega.{arith}
 use mathlib.Core.Path.{_≡_, refl, sym, _∙_, ap}
 use mathlib.Core.List.{List, [], _∷_, _++_, map}
-use lib.ListN.{length, getD, set, take, drop, replicate, length-set, length-append, length-drop, length-replicate, getD-replicate}
+use lib.ListN.{length, getD, set, take, drop, length-set, length-append, length-drop}
 use lib.Seq.{length-take-le, take-nil, getD-drop, getD-append-add}
 use Rattle.lists.proofs.Rows.{store}
 
@@ -62,8 +62,3 @@ pub map-at : (f : ℕ → ℕ) (l : List ℕ) (i : ℕ) → i < length l → get
 map-at f [] i h = absurd (omega arith)
 map-at f (x ∷ l) zero h = refl
 map-at f (x ∷ l) (suc i) h = map-at f l i (omega arith)
-
-pub zeros-take : (k n : ℕ) → k ≤ n → take k (replicate {A = ℕ} n 0) ≡ replicate {A = ℕ} k 0
-zeros-take zero n h = refl
-zeros-take (suc k) zero h = absurd (omega arith)
-zeros-take (suc k) (suc n) h = ap (λ (t : List ℕ). 0 ∷ t) (zeros-take k n (omega arith))

@@ -1,7 +1,11 @@
-// Rows of cells that are lent to be filled, moved or cleared. For our own crates.
+// Rows of cells that are lent, for our own crates:
+//   wide, narrow              a cell as a number, and a number as a cell
+//   shift                     adds a number to the first cells
+//   clear_from, clear_first   sets the cells from a place on to 0, or those before it
+//   copy                      the first cells of one row at the front of another
 ghost use mathlib.Core.Path.{_≡_};
 ghost use mathlib.Core.List.{_++_, map};
-ghost use Prim.Native.Nat.{ℕ, _+_, _≤_, _<_};
+ghost use Prim.Native.Nat.{ℕ, _+_, _-_, _≤_, _<_};
 ghost use lib.ListN.{length, getD, take, drop, replicate};
 
 // A cell as a number.
@@ -22,7 +26,8 @@ pub fn narrow(x: usize) -> u32
 // Adds `by` to each of the first k cells.
 pub fn shift(row: &mut [u32], k: usize, by: usize)
     requires { ⌜ (k ≤ length (now row)) × ((i : ℕ) → i < k → getD (now row) i 0 + by ≤ 65535) ⌝ }
-    ensures { λ _. ⌜ now (row .exit) ≡ map (λ (e : ℕ). by + e) (take k (now (row .entry))) ++ drop k (now (row .entry)) ⌝ }
+    ensures { λ _. ⌜ now (row .exit)
+        ≡ map (λ (e : ℕ). by + e) (take k (now (row .entry))) ++ drop k (now (row .entry)) ⌝ }
 {
     let mut i = 0;
     while i < k {
@@ -32,16 +37,24 @@ pub fn shift(row: &mut [u32], k: usize, by: usize)
     }
 }
 
-// Sets the first k cells to 0.
-pub fn clear(row: &mut [u32], k: usize)
+// Sets every cell from k on to 0.
+pub fn clear_from(row: &mut [u32], k: usize)
     requires { ⌜ k ≤ length (now row) ⌝ }
-    ensures { λ _. ⌜ now (row .exit) ≡ replicate k 0 ++ drop k (now (row .entry)) ⌝ }
+    ensures { λ _. ⌜ now (row .exit) ≡ take k (now (row .entry)) ++ replicate (length (now (row .entry)) - k) 0 ⌝ }
 {
-    let mut i = 0;
-    while i < k {
+    let mut i = k;
+    while i < row.len() {
         row[i] = 0;
         i += 1;
     }
+}
+
+// Sets the first k cells to 0.
+pub fn clear_first(row: &mut [u32], k: usize)
+    requires { ⌜ k ≤ length (now row) ⌝ }
+    ensures { λ _. ⌜ now (row .exit) ≡ replicate k 0 ++ drop k (now (row .entry)) ⌝ }
+{
+    clear_from(&mut row[..k], 0);
 }
 
 // Copies the first k cells of one row to the front of another, which keeps its other cells.

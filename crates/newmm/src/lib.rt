@@ -1,5 +1,5 @@
 // Cutting a text into words, after newmm.rs: the call that a host makes.
-use cells::clear;
+use cells::clear_first;
 use cells::copy;
 use newmm_answers::CutAnswer;
 use newmm_answers::scratch_for;
@@ -47,15 +47,15 @@ fn cut_checked(
 {
     let cells = 8 * capacity(pool.len());
     let all = scratch.len();
-    clear(scratch, all);
+    clear_first(scratch, all);
     let r = segment_single(text, &pool[..cells], scratch, mode);
     let n = r.ends;
     if out.len() < n {
-        clear(scratch, n);
+        clear_first(scratch, n);
         return CutAnswer::Refused(Refusal::OutputTooShort(n));
     }
     copy(&scratch[..n], out, n);
-    clear(scratch, n);
+    clear_first(scratch, n);
     CutAnswer::Ends(n, r.edges)
 }
 

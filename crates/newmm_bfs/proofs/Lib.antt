@@ -2,3 +2,4 @@ pub mod Strips
 pub mod Searching
 pub mod Tracing
 pub mod Same
+pub mod Found

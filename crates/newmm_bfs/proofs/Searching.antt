@@ -2,6 +2,7 @@
 use Prim.Native.Nat.{ℕ, zero, suc, _+_, _*_, _-_, _≤_, _<_}
 use native.Mathlib.Omega.{arith}
 use native.Mathlib.Numerals.{add-one}
+use native.Mathlib.Decide.{decLt}
 use mathlib.Core.Path.{_≡_, refl, sym, _∙_, ap, subst}
 use mathlib.Core.Bool.{Bool, true, false, not}
 use mathlib.Core.List.{List, [], _∷_, _++_}
@@ -438,6 +439,10 @@ module _ {row : List ℕ} {m a goal head tail v first count j : ℕ} (r : Readin
 pub keeps : {m a goal tail : ℕ} {row row′ : List ℕ} → Good row′ m a goal tail → Agree m row row′ → Kept m goal row row′
 keeps g a = record { low = a .low; high = a .high; later = g .later }
 
--- no way to the goal, told of the row as it was
-pub nowhere : {m a goal head tail : ℕ} {row row′ : List ℕ} (s : Searching row′ m a goal head tail) → tail ≤ head → Agree m row row′ → pathTo (graphIn row m) a goal ≡ []
-nowhere {m} {a} {goal} {row = row} {row′ = row′} s h g = ap (λ (G : Graph). pathTo G a goal) (sym (λ i u. graph-same row row′ m (g .high) u i)) ∙ exhausted s h
+-- where there is a way to find, some vertex waits until the goal is reached
+pub waits : {m a goal head tail : ℕ} {row row′ : List ℕ} (s : Searching row′ m a goal head tail) → Agree m row row′ → (pathTo (graphIn row m) a goal ≡ [] → ⊥) → head < tail
+waits {m} {a} {goal} {head} {tail} {row} {row′} s g way =
+    elim (decLt head tail) [
+      | yes l ↦ l
+      | no n ↦ absurd (way (ap (λ (G : Graph). pathTo G a goal) (sym (λ i u. graph-same row row′ m (g .high) u i)) ∙ exhausted s (omega arith)))
+    ]

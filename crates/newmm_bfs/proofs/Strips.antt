@@ -3,13 +3,24 @@ use Prim.Native.Nat.{ℕ, suc, _+_, _*_, _-_, _≤_, _<_}
 use native.Mathlib.Omega.{arith}
 use mathlib.Core.Path.{_≡_, sym, _∙_, ap}
 use mathlib.Core.List.{List}
-use lib.ListN.{length, getD, set, take, drop, length-set}
-use lib.Seq.{getD-set-same, getD-set-other, getD-drop, drop-drop, take-set-le, drop-set-lt}
+use lib.ListN.{length, getD, set, take, drop, length-set, length-drop}
+use lib.Seq.{getD-set-same, getD-set-other, getD-drop, getD-take, length-take-le, drop-drop, take-set-le, drop-set-lt}
 use lib.Dec.{eqb}
 use borrow.Author.Tests.{eq-eqb, ne-eqb}
 use Rattle.newmm_rules.specs.Positions.{howMany}
 use Rattle.newmm_rules.proofs.Counting.{one-fewer}
 use Rattle.newmm_bfs.specs.inner.Strips.{Sized, graphIn, before, unmarked, tailAfter, rowAfter}
+
+-- ---- the edges of a place, cell by cell
+
+module _ (row : List ℕ) (m v : ℕ) where
+  pub graph-length : 7 * m + getD row (3 * m + v) 0 + getD row (4 * m + v) 0 ≤ length row → length (graphIn row m v) ≡ getD row (4 * m + v) 0
+  unfolding graphIn
+  graph-length h = length-take-le (getD row (4 * m + v) 0) (drop (7 * m + getD row (3 * m + v) 0) row) (omega (arith, length-drop (7 * m + getD row (3 * m + v) 0) row))
+
+  pub graph-cell : (j : ℕ) → j < getD row (4 * m + v) 0 → getD (graphIn row m v) j 0 ≡ getD row (7 * m + getD row (3 * m + v) 0 + j) 0
+  unfolding graphIn
+  graph-cell j h = getD-take (getD row (4 * m + v) 0) (drop (7 * m + getD row (3 * m + v) 0) row) j 0 h ∙ getD-drop (7 * m + getD row (3 * m + v) 0) row j 0
 
 -- ---- rows that agree behind the predecessors
 

@@ -8,9 +8,7 @@ use lib.ListN.{length, getD, set, take, drop, length-append, length-drop, take-a
 use lib.Seq.{append-snoc, take-suc, set-at, take-at, drop-at, length-take-le, getD-append-add, getD-drop, take-suc-set, drop-drop, getD-set-other, drop-set-lt, take-take}
 use Rattle.newmm_rules.specs.Search.{pathTo}
 use Rattle.newmm_bfs.specs.inner.Strips.{Sized, graphIn, before, Start, Kept, Path}
-use Rattle.newmm_bfs.specs.inner.Ways.{Trace, home, step, Traced, TracedBy, Reaches, FoundIs}
-use Rattle.newmm_bfs.specs.declared.Found.{Found}
-use Rattle.newmm_bfs.specs.declared.Found.the-variants.{Last, Nowhere}
+use Rattle.newmm_bfs.specs.inner.Ways.{Trace, home, step, Traced, TracedBy, Reaches}
 
 -- a way is no longer than its span, so it has come home where it has no vertex left
 pub short : {f : ℕ → ℕ} {a x : ℕ} {es : List ℕ} → Trace f a x es → a + length es ≤ x
@@ -246,24 +244,7 @@ module _ {row row₁ row₂ : List ℕ} {m start goal v count k : ℕ} (room : g
           ∙ ap (drop (3 * m - (count + k))) (ap (drop (count + k)) put-flat ∙ drop-at (take count row₁ ++ r .ends) (drop (count + k) row₁) (count + k) front-size)
           ∙ drop-drop (3 * m - (count + k)) (count + k) row₁ ∙ ap (λ (j : ℕ). drop j row₁) q
 
--- with nothing found, nothing is written
-pub path-none : {row row′ : List ℕ} {m start goal count : ℕ} → Kept m goal row row′ → count ≤ start → start < goal → goal < m → pathTo (graphIn row m) start goal ≡ [] → Path row row′ m start goal count count
-path-none {row} {row′} {m} {start} {goal} {count} k h o i e =
-    record {
-      number = omega (arith, ap length e);
-      ends = sym (take-take count m row′ (omega arith)) ∙ ap (take count) (k .low) ∙ take-take count m row (omega arith) ∙ sym (append-nil (take count row)) ∙ ap (λ (l : List ℕ). take count row ++ l) (sym e);
-      few = omega arith;
-      high = k .high;
-      later = k .later;
-    }
-
 -- ---- what the search found
-
-pub found : {row row₁ : List ℕ} {m start goal v : ℕ} (r : Found) → r ≡ Last v → FoundIs r row row₁ m start goal → Reaches row row₁ m start goal v
-found {row} {row₁} {m} {start} {goal} r e h = subst (λ (x : Found). FoundIs x row row₁ m start goal) e h
-
-pub missing : (row row₁ : List ℕ) (m start goal : ℕ) (r : Found) → r ≡ Nowhere → FoundIs r row row₁ m start goal → pathTo (graphIn row m) start goal ≡ []
-missing row row₁ m start goal r e h = subst (λ (x : Found). FoundIs x row row₁ m start goal) e h
 
 module _ {row row₁ : List ℕ} {m start goal v : ℕ} (s : Start row m start goal) (size : length row₁ ≡ length row) (r : Reaches row row₁ m start goal v) where
   still-sized : Sized row₁ m

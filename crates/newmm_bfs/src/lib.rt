@@ -1,19 +1,35 @@
-// The breadth-first search of plain cutting, in rows of one lent slice. An edge between the start and the goal is read once, and cells of
-// other places are not touched, so nothing has to be cleared between two searches.
+// The strips of the scratch, and the breadth-first search of plain cutting in them. An edge between
+// the start and the goal is read once, and cells of other places are not touched, so nothing has to
+// be cleared between two searches. For our own crates.
 use cells::narrow;
 use cells::wide;
 ghost use mathlib.Core.Path.{_≡_};
-ghost use Prim.Native.Nat.{ℕ, _<_, _≤_, _+_, _*_};
-ghost use mathlib.Core.List.{List, _++_};
-ghost use lib.ListN.{length, take, drop};
-ghost use Rattle.newmm_bfs.specs.inner.Strips.{Sized, before, tailAfter, rowAfter, Start, Kept, Path};
-ghost use Rattle.newmm_bfs.specs.inner.Ways.{Trace, Traced, TracedBy, FoundIs};
+ghost use Prim.Native.Nat.{_<_, _≤_, _+_};
+ghost use Rattle.newmm_bfs.specs.inner.Strips.{Sized, tailAfter, rowAfter, Start, Kept, Path};
+ghost use Rattle.newmm_bfs.specs.inner.Ways.{Traced, TracedBy, Reaches, LengthIs, PutIs};
 
-// What a search finds: the vertex from which an edge reaches the goal, or nothing.
-pub enum Found {
-    Last(usize),
-    Nowhere,
-}
+// The scratch for m positions is a row of strips, one behind the other, with m cells each; the last
+// has more. The ends stand at its front and the queue behind them, from m on; each strip below
+// stands behind so many others.
+pub const PREDECESSORS: usize = 2;
+
+// where the edges of a place start among the ends of all edges
+pub const FIRST_EDGES: usize = 3;
+
+// how many edges a place has
+pub const EDGE_COUNTS: usize = 4;
+
+// 1 for a place that ever was a candidate
+pub const CANDIDATES: usize = 5;
+
+// 1 for a cluster end
+pub const CLUSTER_ENDS: usize = 6;
+
+// the ends of all edges, in recorded order
+pub const EDGE_ENDS: usize = 7;
+
+// the number of strips
+pub const STRIPS: usize = 8;
 
 // Queues x from v, unless it was queued before; the number of vertices queued then.
 fn queue_up(row: &mut [u32], m: usize, tail: usize, v: usize, x: usize) -> usize
@@ -22,7 +38,7 @@ fn queue_up(row: &mut [u32], m: usize, tail: usize, v: usize, x: usize) -> usize
     ensures { λ r. ⌜ r ≡ tailAfter (now (row .entry)) m tail x ⌝ }
     ensures { λ _. ⌜ now (row .exit) ≡ rowAfter (now (row .entry)) m tail v x ⌝ }
 {
-    let at = 2 * m + x;
+    let at = PREDECESSORS * m + x;
     if row[at] != 0 {
         return tail;
     }
@@ -31,30 +47,30 @@ fn queue_up(row: &mut [u32], m: usize, tail: usize, v: usize, x: usize) -> usize
     tail + 1
 }
 
-// Takes the edges of each vertex in recorded order, the first queued vertex first.
-fn search(row: &mut [u32], m: usize, start: usize, goal: usize) -> Found
+// The vertex from which the search reaches the goal. It takes the edges of each vertex in recorded
+// order, the first queued vertex first.
+fn search(row: &mut [u32], m: usize, start: usize, goal: usize) -> usize
     requires { ⌜ Start (now row) m start goal ⌝ }
-    ensures { λ r. ⌜ FoundIs r (now (row .entry)) (now (row .exit)) m start goal ⌝ }
+    ensures { λ r. ⌜ Reaches (now (row .entry)) (now (row .exit)) m start goal r ⌝ }
     ensures { λ _. ⌜ Kept m goal (now (row .entry)) (now (row .exit)) ⌝ }
 {
     let mut tail = queue_up(row, m, 0, start, start);
     let mut head = 0;
-    while head < tail {
+    loop {
         let v = wide(row[m + head]);
-        let first = 7 * m + wide(row[3 * m + v]);
-        let count = wide(row[4 * m + v]);
+        let first = EDGE_ENDS * m + wide(row[FIRST_EDGES * m + v]);
+        let count = wide(row[EDGE_COUNTS * m + v]);
         let mut j = 0;
         while j < count {
             let x = wide(row[first + j]);
             if x == goal {
-                return Found::Last(v);
+                return v;
             }
             tail = queue_up(row, m, tail, v, x);
             j += 1;
         }
         head += 1;
     }
-    Found::Nowhere
 }
 
 // How many vertices stand after the start on the way to v.
@@ -62,12 +78,12 @@ fn way_length(row: &[u32], m: usize, start: usize, v: usize) -> usize
     requires { ⌜ Sized (now row) m ⌝ }
     requires { ⌜ v < m ⌝ }
     requires { ⌜ Traced (now row) m start v ⌝ }
-    ensures { λ r. ⌜ ((ends : List ℕ) → Trace (before (now (row .entry)) m) start v ends → r ≡ length ends) ⌝ }
+    ensures { λ r. ⌜ LengthIs (now (row .entry)) m start v r ⌝ }
 {
     let mut k = 0;
     let mut x = v;
     while x != start {
-        x = wide(row[2 * m + x]) - 1;
+        x = wide(row[PREDECESSORS * m + x]) - 1;
         k += 1;
     }
     k
@@ -78,30 +94,27 @@ fn put_way(row: &mut [u32], m: usize, v: usize, count: usize, k: usize)
     requires { ⌜ Sized (now row) m ⌝ }
     requires { ⌜ (v < m) × (count + k < m) ⌝ }
     requires { ⌜ TracedBy (now row) m v k ⌝ }
-    ensures { λ _. ⌜ ((start : ℕ) (ends : List ℕ) → Trace (before (now (row .entry)) m) start v ends → k ≡ length ends → now (row .exit) ≡ take count (now (row .entry)) ++ (ends ++ drop (count + k) (now (row .entry)))) ⌝ }
+    ensures { λ _. ⌜ PutIs (now (row .entry)) (now (row .exit)) m v count k ⌝ }
 {
     let mut i = count + k;
     let mut x = v;
     while count < i {
         i -= 1;
         row[i] = narrow(x);
-        x = wide(row[2 * m + x]) - 1;
+        x = wide(row[PREDECESSORS * m + x]) - 1;
     }
 }
 
-// Writes the ends of the way that the search finds behind the first ends, and gives the number of ends then.
+// Writes the ends of the way that the search finds behind the first ends, and gives the number of
+// ends then.
 pub fn bfs_paths_graph(row: &mut [u32], m: usize, start: usize, goal: usize, count: usize) -> usize
     requires { ⌜ Start (now row) m start goal ⌝ }
     requires { ⌜ count ≤ start ⌝ }
     ensures { λ r. ⌜ Path (now (row .entry)) (now (row .exit)) m start goal count r ⌝ }
 {
-    match search(row, m, start, goal) {
-        Found::Last(v) => {
-            let k = way_length(row, m, start, v);
-            put_way(row, m, v, count, k);
-            row[count + k] = narrow(goal);
-            count + k + 1
-        }
-        Found::Nowhere => count,
-    }
+    let v = search(row, m, start, goal);
+    let k = way_length(row, m, start, v);
+    put_way(row, m, v, count, k);
+    row[count + k] = narrow(goal);
+    count + k + 1
 }

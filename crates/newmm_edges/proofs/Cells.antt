@@ -1,4 +1,4 @@
--- The cells of the rows when an edge is recorded. Assumes nothing.
+-- The cells of the row when an edge is recorded. Assumes nothing.
 use Prim.Native.Nat.{ℕ, _+_, _*_, _-_, _≤_, _<_}
 use native.Mathlib.Omega.{arith}
 use native.Mathlib.Numerals.{add-one}

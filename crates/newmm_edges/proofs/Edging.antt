@@ -1,4 +1,4 @@
--- What recording comes to, whatever state the rows stand for. Assumes nothing.
+-- What recording comes to, whatever state the strips stand for. Assumes nothing.
 use Prim.Native.Nat.{ℕ, suc, _+_, _*_, _-_, _≤_, _<_}
 use native.Mathlib.Omega.{arith}
 use native.Mathlib.Decide.{decLt}
@@ -15,26 +15,26 @@ use Rattle.newmm_rules.proofs.Positions.{not-in, put-only, put-size}
 use Rattle.newmm_rules.proofs.Edges.{graph-more, one-more, one-counted}
 use Rattle.newmm_bfs.specs.inner.Strips.{Sized, graphIn}
 use Rattle.newmm_edges.specs.declared.Progress.{Progress}
-use Rattle.newmm_edges.specs.inner.Recording.{rowAfter, progressAfter, Rows, Counts, Alone}
+use Rattle.newmm_edges.specs.inner.Recording.{rowAfter, progressAfter, StandFor, Counts, Alone}
 use Rattle.newmm_edges.proofs.Cells.{low-same, cell-same, count-new, mark-new, flags-same, graph-other, graph-here}
 
 -- while words at b are recorded, of which the edges start at first
 pub record Mid (row : List ℕ) (m b first k : ℕ) (s : State) : Type 0 where
-  pub rows : Rows row m b k s
+  pub stand : StandFor row m b k s
   pub from : getD row (3 * m + b) 0 ≡ first
   pub many : getD row (4 * m + b) 0 ≡ k - first
   pub upto : first ≤ k
   pub here : graphIn row m b ≡ graphOf (s .edges) b
 
 -- so the edges of b count too
-pub mid-done : {row : List ℕ} {m b first k : ℕ} {s : State} → Mid row m b first k s → Rows row m (b + 1) k s
+pub mid-done : {row : List ℕ} {m b first k : ℕ} {s : State} → Mid row m b first k s → StandFor row m (b + 1) k s
 mid-done {row} {m} {b} {first} {k} {s} d =
     record {
-      marks = d .rows .marks;
-      graph = λ v l h. by v h (λ i. d .rows .graph v l i) (λ e. ap (graphIn row m) e ∙ d .here ∙ ap (graphOf (s .edges)) (sym e));
-      fits = λ v l h. by v h (λ i. d .rows .fits v l i) (λ e. let f : getD row (3 * m + v) 0 ≡ first = ap (λ (u : ℕ). getD row (3 * m + u) 0) e ∙ d .from in
+      marks = d .stand .marks;
+      graph = λ v l h. by v h (λ i. d .stand .graph v l i) (λ e. ap (graphIn row m) e ∙ d .here ∙ ap (graphOf (s .edges)) (sym e));
+      fits = λ v l h. by v h (λ i. d .stand .fits v l i) (λ e. let f : getD row (3 * m + v) 0 ≡ first = ap (λ (u : ℕ). getD row (3 * m + u) 0) e ∙ d .from in
           let c : getD row (4 * m + v) 0 ≡ k - first = ap (λ (u : ℕ). getD row (4 * m + u) 0) e ∙ d .many in omega (arith, d .upto));
-      shown = d .rows .shown;
+      shown = d .stand .shown;
     }
   where
     by : {P : Type 0} (v : ℕ) → v < b + 1 → (v < b → P) → (v ≡ b → P) → P
@@ -56,7 +56,7 @@ module _ (row : List ℕ) (m b e first k : ℕ) (s : State) (sized : Sized row m
           simp (q, ne-eqb (getD row′ (5 * m + x) 0) 0 (λ w. omega arith))
       go false q =
           let n = eqb-false x e q in
-          simp q (d .rows .marks x h ∙ ap (λ (u : ℕ). not (eqb u 0)) (sym (cell-same row m b e first k sized hb he hk (5 * m + x) (λ w. omega arith) (λ w. omega arith) (λ w. n (omega arith)))))
+          simp q (d .stand .marks x h ∙ ap (λ (u : ℕ). not (eqb u 0)) (sym (cell-same row m b e first k sized hb he hk (5 * m + x) (λ w. omega arith) (λ w. omega arith) (λ w. n (omega arith)))))
 
   other-edges : (v : ℕ) → (v ≡ b → ⊥) → graphOf (recorded b e s .edges) v ≡ graphOf (s .edges) v
   unfolding recorded
@@ -75,20 +75,20 @@ module _ (row : List ℕ) (m b e first k : ℕ) (s : State) (sized : Sized row m
   new-shown x h = go (member e (s .known)) h
     where
       go : (t : Bool) → In x (cond t (s .candidates) (inserted e (s .candidates))) → In x (e ∷ s .known)
-      go true l = List·Memᴰ·tail (d .rows .shown x l)
-      go false l = ⊎-elim (λ q. List·Memᴰ·head q) (λ n. List·Memᴰ·tail (d .rows .shown x n)) (put-only e x (s .candidates) l)
+      go true l = List·Memᴰ·tail (d .stand .shown x l)
+      go false l = ⊎-elim (λ q. List·Memᴰ·head q) (λ n. List·Memᴰ·tail (d .stand .shown x n)) (put-only e x (s .candidates) l)
 
   pub mid-more : Mid row′ m b first (k + 1) (recorded b e s)
   mid-more =
       record {
-        rows = record {
+        stand = record {
           marks = new-marks;
           graph = λ v l h.
-              graph-other row m b e first k sized hb he hk v (omega arith) (λ q. omega arith) (d .rows .fits v (low v l) h) ∙ d .rows .graph v (low v l) h ∙ sym (other-edges v (λ q. omega arith));
+              graph-other row m b e first k sized hb he hk v (omega arith) (λ q. omega arith) (d .stand .fits v (low v l) h) ∙ d .stand .graph v (low v l) h ∙ sym (other-edges v (λ q. omega arith));
           fits = λ v l h.
               let f = cell-same row m b e first k sized hb he hk (3 * m + v) (λ q. omega arith) (λ q. omega arith) (λ q. omega arith) in
               let c = cell-same row m b e first k sized hb he hk (4 * m + v) (λ q. omega arith) (λ q. omega arith) (λ q. omega arith) in
-              omega (arith, d .rows .fits v (low v l) h);
+              omega (arith, d .stand .fits v (low v l) h);
           shown = new-shown;
         };
         from = cell-same row m b e first k sized hb he hk (3 * m + b) (λ q. omega arith) (λ q. omega arith) (λ q. omega arith) ∙ d .from;
@@ -102,11 +102,11 @@ module _ (row : List ℕ) (m b e first k : ℕ) (s : State) (sized : Sized row m
 
   new-left : (p : Progress) → Counts p s → progressAfter row m e p .left ≡ length (recorded b e s .candidates)
   unfolding recorded progressAfter
-  new-left p c = go (eqb (getD row (5 * m + e) 0) 0) (member e (s .known)) refl (d .rows .marks e he)
+  new-left p c = go (eqb (getD row (5 * m + e) 0) 0) (member e (s .known)) refl (d .stand .marks e he)
     where
       go : (t u : Bool) → member e (s .known) ≡ u → u ≡ not t → cond t (p .left + 1) (p .left) ≡ length (cond u (s .candidates) (inserted e (s .candidates)))
       go true true x y = absurd (let z : _≡_ {A = ℕ} 0 1 = cc in omega arith)
-      go true false x y = omega (arith, c .left, put-size e (s .candidates) (λ i. not-in e (s .known) x (d .rows .shown e i)))
+      go true false x y = omega (arith, c .left, put-size e (s .candidates) (λ i. not-in e (s .known) x (d .stand .shown e i)))
       go false true x y = c .left
       go false false x y = absurd (let z : _≡_ {A = ℕ} 0 1 = cc in omega arith)
 

@@ -19,7 +19,7 @@ use Rattle.newmm_word_step.specs.declared.Step.the-variants.{Nothing, Word, Par
 use Rattle.newmm_word_step.specs.inner.Walks.{givenBy, Walked, Asks, Next, StepIs}
 use Rattle.newmm_word_step.proofs.Steps.{start-walk}
 use Rattle.newmm_edges.specs.declared.Progress.{Progress}
-use Rattle.newmm_edges.specs.inner.Recording.{rowAfter, progressAfter, Rows, Counts, Here, Alone, After, RecordsAll}
+use Rattle.newmm_edges.specs.inner.Recording.{rowAfter, progressAfter, StandFor, Counts, Here, Alone, After, RecordsAll}
 use Rattle.newmm_edges.proofs.Cells.{size-same}
 use Rattle.newmm_edges.proofs.Edging.{Mid, mid-done, mid-more, counts-more, alone-more}
 
@@ -113,11 +113,11 @@ module _ (text pool row : List ℕ) (m b : ℕ) (p : Progress) (h : Here text po
   unfolding graphIn
   no-edges = ap (λ (c : ℕ). take c (drop (7 * m + getD row₁ (3 * m + b) 0) row₁)) no-count
 
-  pub mid-first : (s : State) → Rows row m b (p .edges) s → graphOf (s .edges) b ≡ [] → Mid row₁ m b (p .edges) (p .edges) s
+  pub mid-first : (s : State) → StandFor row m b (p .edges) s → graphOf (s .edges) b ≡ [] → Mid row₁ m b (p .edges) (p .edges) s
   mid-first s r e =
       let l = below in
       record {
-        rows = record {
+        stand = record {
           marks = λ x k. r .marks x k ∙ ap (λ (i : ℕ). not (eqb i 0)) (sym (getD-set-other row (3 * m + b) (5 * m + x) (p .edges) 0 (λ q. omega arith)));
           graph = λ v a k. other-graph v k ∙ r .graph v a k;
           fits = λ v a k.
@@ -164,7 +164,7 @@ module _ {text pool row₀ row : List ℕ} {m b limit first : ℕ} {p q : Progre
   finish z s d c =
       let o = i .all s d c in
       subst (λ (t : State). After row m b q t) (sym (o .rest ∙ ap (λ (l : List ℕ). recordedAll b l (o .s)) z ∙ none-after (o .s)))
-      (record { rows = mid-done (o .mid); counts = o .counts })
+      (record { stand = mid-done (o .mid); counts = o .counts })
 
   pub finish-end : limit ≤ e → (s : State) → Mid row₀ m b first (p .edges) s → Counts p s → After row m b q (recordedAll b (wordEnds g b) s)
   finish-end h = finish (behind-end g b limit e h)
@@ -235,7 +235,7 @@ module _ {text pool row₀ row : List ℕ} {m b limit first : ℕ} {p q : Progre
             let w = one-on (o .s) (o .mid) (o .counts) in
             subst (λ (t : State). After row′ m b q′ t)
             (sym (o .rest ∙ ap (λ (l : List ℕ). recordedAll b l (o .s)) (behind-word g b limit e more (n-word .tells)) ∙ stop-at (o .s) (behind g b limit (e + 1)) (omega (arith, w .1 .edges))))
-            (record { rows = mid-done (w .0); counts = w .1 })
+            (record { stand = mid-done (w .0); counts = w .1 })
 
         pub loop-word : q′ .edges ≤ 50 → Looping text pool row₀ row′ m b limit first p q′ (e + 1) k
         loop-word h =

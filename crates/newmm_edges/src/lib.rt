@@ -1,18 +1,21 @@
-// Step 1 of plain cutting: the words at a place become edges and candidates, in rows of the scratch. For our own crates.
+// Step 1 of plain cutting: the words at a place become edges and candidates, in strips of the
+// scratch. For our own crates.
 use cells::narrow;
+use newmm_bfs::CANDIDATES;
+use newmm_bfs::CLUSTER_ENDS;
+use newmm_bfs::EDGE_COUNTS;
+use newmm_bfs::EDGE_ENDS;
+use newmm_bfs::FIRST_EDGES;
+use newmm_rules::MAX_GRAPH_SIZE;
 use newmm_word_step::Step;
 use newmm_word_step::word_limit;
 use newmm_word_step::word_step;
 ghost use mathlib.Core.Path.{_≡_};
-ghost use Prim.Native.Nat.{ℕ, _+_, _≤_, _<_};
-ghost use lib.ListN.{length};
 ghost use Rattle.newmm_bfs.specs.inner.Strips.{Sized};
-ghost use Rattle.newmm_edges.specs.inner.Recording.{rowAfter, progressAfter, Here, Alone, RecordsAll};
+ghost use Rattle.newmm_edges.specs.inner.Recording.{rowAfter, progressAfter, Room, Here, Alone, RecordsAll};
 
-// The most edges that stand before a place stops recording.
-const MAX_GRAPH_SIZE: usize = 50;
-
-// The numbers of a cutting call: the edges since the last clearing, the candidates left, and the edges recorded in the whole call.
+// The numbers of a cutting call: the edges since the last clearing, the candidates left, and the
+// edges recorded in the whole call.
 pub struct Progress {
     pub edges: usize,
     pub left: usize,
@@ -22,15 +25,15 @@ pub struct Progress {
 // Records an edge from b to e, and e as a candidate if it never was one.
 fn record_edge(row: &mut [u32], m: usize, b: usize, e: usize, first: usize, p: Progress) -> Progress
     requires { ⌜ Sized (now row) m ⌝ }
-    requires { ⌜ (b < m) × (e < m) × (first ≤ p .edges) × (p .edges < m + 50) × (p .left ≤ 8589934592) × (p .total ≤ 8589934592) ⌝ }
+    requires { ⌜ Room m b e first p ⌝ }
     ensures { λ r. ⌜ r ≡ progressAfter (now (row .entry)) m e p ⌝ }
     ensures { λ _. ⌜ now (row .exit) ≡ rowAfter (now (row .entry)) m b e first (p .edges) ⌝ }
 {
     let k = p.edges;
-    let at = 5 * m + e;
+    let at = CANDIDATES * m + e;
     let known = row[at];
-    row[7 * m + k] = narrow(e);
-    row[4 * m + b] = narrow(k + 1 - first);
+    row[EDGE_ENDS * m + k] = narrow(e);
+    row[EDGE_COUNTS * m + b] = narrow(k + 1 - first);
     row[at] = 1;
     if known == 0 {
         return Progress {
@@ -46,7 +49,8 @@ fn record_edge(row: &mut [u32], m: usize, b: usize, e: usize, first: usize, p: P
     }
 }
 
-// Records the words at b, shortest first, and stops behind an edge where more than 50 stand.
+// Records the words at b, shortest first, and stops behind an edge where more than 50 stand since
+// the last clearing.
 pub fn record_words(
     text: &[u32],
     pool: &[u32],
@@ -60,10 +64,10 @@ pub fn record_words(
     ensures { λ _. ⌜ Alone (now (row .entry)) (now (row .exit)) m b ⌝ }
 {
     let limit = word_limit(text.len(), b);
-    let flags = 6 * m;
-    let flags_end = 7 * m;
+    let flags = CLUSTER_ENDS * m;
+    let flags_end = EDGE_ENDS * m;
     let first = p.edges;
-    row[3 * m + b] = narrow(first);
+    row[FIRST_EDGES * m + b] = narrow(first);
     let mut q = p;
     let mut e = b;
     let mut node = 0;

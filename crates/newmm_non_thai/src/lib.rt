@@ -1,4 +1,5 @@
-// NON_THAI_PATTERN, as an ordered matcher at the start of a part of a text. Each character is read once.
+// NON_THAI_PATTERN, as an ordered matcher at the start of a part of a text. Each character is read
+// once.
 ghost use mathlib.Core.Path.{_≡_};
 ghost use Prim.Native.Nat.{_+_, _≤_};
 ghost use mathlib.Core.Bool.{Bool};
@@ -154,7 +155,8 @@ fn line_end(s: &[u32]) -> usize
     0
 }
 
-// The length of the match at the part's start, 0 for none. The first character tells which alternative can match.
+// The length of the match at the part's start, 0 for none. The first character tells which
+// alternative can match.
 pub fn non_thai_length(s: &[u32]) -> usize
     ensures { λ r. ⌜ r ≡ nonThai (now (s .entry)) ⌝ }
 {

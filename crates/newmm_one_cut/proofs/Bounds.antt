@@ -1,4 +1,4 @@
--- The rows before the first round and behind the last. Assumes nothing.
+-- The strips before the first round and behind the last. Assumes nothing.
 use Prim.Native.Nat.{ℕ, zero, suc, _+_, _*_, _-_, _≤_, _<_}
 use native.Mathlib.Omega.{arith}
 use mathlib.Core.Path.{_≡_, refl, sym, _∙_, ap}
@@ -122,7 +122,7 @@ module _ (text pool row : List ℕ) (m : ℕ) (f : Fresh text pool row) (size-is
         rest = refl;
         b-is = head-eq-of-cons-eq (b .is);
         committed-is = refl;
-        rows = record { marks = marks-first; graph = λ v l h. absurd (omega arith); fits = λ v l h. absurd (omega arith); shown = λ x i. i };
+        stand = record { marks = marks-first; graph = λ v l h. absurd (omega arith); fits = λ v l h. absurd (omega arith); shown = λ x i. i };
         edges-is = refl;
         left-is = ap length (tail-eq-of-cons-eq (b .is));
         total-is = refl;

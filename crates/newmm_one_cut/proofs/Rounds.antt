@@ -21,17 +21,18 @@ use Rattle.newmm_rules.proofs.Edges.{graph-in, few-stand}
 use Rattle.newmm_rules.proofs.Tokens.{few-tokens}
 use Rattle.newmm_rules.proofs.Recording.{Placing}
 use Rattle.newmm_rules.proofs.Turns.{Between, Turned, At, turn-at}
-use Rattle.newmm_bfs.specs.inner.Strips.{Sized, graphIn, before, Edges, Start, Path}
-use Rattle.newmm_bfs.proofs.Strips.{above-same, drop-same}
+use Rattle.newmm_bfs.specs.inner.Strips.{Sized, graphIn, before, Edges, Leads, Start, Path}
+use Rattle.newmm_bfs.proofs.Strips.{above-same, drop-same, graph-length, graph-cell}
 use Rattle.newmm_bfs.proofs.Same.{path-same}
+use Rattle.newmm_bfs.proofs.Found.{led}
 use Rattle.tcc.specs.Flags.{endFlags}
 use Rattle.trie_pool.specs.inner.Sound.{Readable}
 use Rattle.newmm_word_step.specs.inner.Walks.{givenBy}
 use Rattle.newmm_edges.specs.declared.Progress.{Progress}
-use Rattle.newmm_edges.specs.inner.Recording.{Rows, Counts, Here, Alone, After, RecordsAll}
+use Rattle.newmm_edges.specs.inner.Recording.{StandFor, Counts, Here, Alone, After, RecordsAll}
 use Rattle.newmm_one_cut.specs.inner.Strips.{NextIs, TokenAt}
 
--- the rows stand for the state s of the definition, whose least candidate is b
+-- the strips stand for the state s of the definition, whose least candidate is b
 pub record Round (text pool row : List ℕ) (m b committed ends : ℕ) (p : Progress) : Type 0 where
   pub size-is : m ≡ length text + 1
   pub sized : Sized row m
@@ -45,7 +46,7 @@ pub record Round (text pool row : List ℕ) (m b committed ends : ℕ) (p : Prog
   pub rest : turns (length text) (givenBy text pool) begin ≡ turns k (givenBy text pool) s
   pub b-is : b ≡ between .least
   pub committed-is : committed ≡ s .committed
-  pub rows : Rows row m b (p .edges) s
+  pub stand : StandFor row m b (p .edges) s
   pub edges-is : p .edges ≡ length (s .edges)
   pub left-is : p .left ≡ length (between .rest)
   pub total-is : p .total ≡ s .count
@@ -79,15 +80,6 @@ cell-in : (l : List ℕ) (j : ℕ) → j < length l → In (getD l j 0) l
 cell-in [] j h = absurd (omega arith)
 cell-in (x ∷ l) zero h = List·Memᴰ·head refl
 cell-in (x ∷ l) (suc j) h = List·Memᴰ·tail (cell-in l j (omega arith))
-
-module _ (row : List ℕ) (m v : ℕ) where
-  graph-length : 7 * m + getD row (3 * m + v) 0 + getD row (4 * m + v) 0 ≤ length row → length (graphIn row m v) ≡ getD row (4 * m + v) 0
-  unfolding graphIn
-  graph-length h = length-take-le (getD row (4 * m + v) 0) (drop (7 * m + getD row (3 * m + v) 0) row) (omega (arith, length-drop (7 * m + getD row (3 * m + v) 0) row))
-
-  graph-cell : (j : ℕ) → j < getD row (4 * m + v) 0 → getD (graphIn row m v) j 0 ≡ getD row (7 * m + getD row (3 * m + v) 0 + j) 0
-  unfolding graphIn
-  graph-cell j h = getD-take (getD row (4 * m + v) 0) (drop (7 * m + getD row (3 * m + v) 0) row) j 0 h ∙ getD-drop (7 * m + getD row (3 * m + v) 0) row j 0
 
 module _ {text pool row : List ℕ} {m b committed ends : ℕ} {p : Progress} (r : Round text pool row m b committed ends p) where
   abbrev g : Given
@@ -141,13 +133,13 @@ module _ {text pool row : List ℕ} {m b committed ends : ℕ} {p : Progress} (r
         let st = at-b .handled .edges b y (graph-in b y (r .s .edges) (subst (λ (k : List ℕ). In y k) e (List·Memᴰ·head refl))) in
         absurd (omega (arith, st .before))
 
-    rows₀ : Rows row m b (p .edges) (takenOut cs (r .s))
-    rows₀ =
+    stand₀ : StandFor row m b (p .edges) (takenOut cs (r .s))
+    stand₀ =
         record {
-          marks = r .rows .marks;
-          graph = r .rows .graph;
-          fits = r .rows .fits;
-          shown = λ x i. r .rows .shown x (subst (λ (l : List ℕ). In x l) (sym (at-b .is)) (List·Memᴰ·tail i));
+          marks = r .stand .marks;
+          graph = r .stand .graph;
+          fits = r .stand .fits;
+          shown = λ x i. r .stand .shown x (subst (λ (l : List ℕ). In x l) (sym (at-b .is)) (List·Memᴰ·tail i));
         }
 
     counts₀ : Counts p (takenOut cs (r .s))
@@ -156,7 +148,7 @@ module _ {text pool row : List ℕ} {m b committed ends : ℕ} {p : Progress} (r
     -- the words at b are recorded
     module _ {row′ : List ℕ} {q : Progress} (all : RecordsAll text pool row row′ m b p q) (alone : Alone row row′ m b) (same-size : length row′ ≡ length row) where
       after : After row′ m b q s₁
-      after = all (takenOut cs (r .s)) rows₀ counts₀ (no-edge (graphOf (r .s .edges) b) refl)
+      after = all (takenOut cs (r .s)) stand₀ counts₀ (no-edge (graphOf (r .s .edges) b) refl)
 
       sized′ : Sized row′ m
       sized′ = record { small = r .sized .small; long = omega (arith, r .sized .long) }
@@ -253,7 +245,7 @@ module _ {text pool row : List ℕ} {m b committed ends : ℕ} {p : Progress} (r
                 simp (e, ne-eqb (getD row₃ (5 * m + x) 0) 0 (λ w. omega arith))
             go false e =
                 let n = eqb-false x t e in
-                simp e (after .rows .marks x h ∙ ap (λ (y : ℕ). not (eqb y 0)) (sym (cell₃ (5 * m + x) (omega arith) (λ w. n (omega arith)))))
+                simp e (after .stand .marks x h ∙ ap (λ (y : ℕ). not (eqb y 0)) (sym (cell₃ (5 * m + x) (omega arith) (λ w. n (omega arith)))))
 
         head₃ : t ≡ turned₃ .between .least
         head₃ = head-eq-of-cons-eq (turned₃ .between .is)
@@ -277,7 +269,7 @@ module _ {text pool row : List ℕ} {m b committed ends : ℕ} {p : Progress} (r
               rest = turned-rest s₃ (at-b .turn-is ∙ settled₃);
               b-is = head₃;
               committed-is = refl;
-              rows = record {
+              stand = record {
                 marks = marks₃;
                 graph = λ v l h. absurd (omega arith);
                 fits = λ v l h. absurd (omega arith);
@@ -315,16 +307,16 @@ module _ {text pool row : List ℕ} {m b committed ends : ℕ} {p : Progress} (r
         first-inside = omega (arith, placing₁ .handled .inside c₁ first-in, r .size-is)
 
         marked-known : (x : ℕ) → x < m → (getD row′ (5 * m + x) 0 ≡ 0 → ⊥) → In x (s₁ .known)
-        marked-known x h n = member-in x (s₁ .known) (after .rows .marks x h ∙ ap not (ne-eqb (getD row′ (5 * m + x) 0) 0 n))
+        marked-known x h n = member-in x (s₁ .known) (after .stand .marks x h ∙ ap not (ne-eqb (getD row′ (5 * m + x) 0) 0 n))
 
         known-marked : (x : ℕ) → x < m → In x (s₁ .known) → getD row′ (5 * m + x) 0 ≡ 0 → ⊥
         known-marked x h i z =
             let e : not (eqb (getD row′ (5 * m + x) 0) 0) ≡ false = ap not (eq-eqb (getD row′ (5 * m + x) 0) 0 z) in
-            not-in x (s₁ .known) (after .rows .marks x h ∙ e) i
+            not-in x (s₁ .known) (after .stand .marks x h ∙ e) i
 
         no-later : c ≤ c₁
         no-later =
-            elim (decLt c₁ c) [ yes l ↦ absurd (known-marked c₁ first-inside (after .rows .shown c₁ first-in) (nx .none c₁ first-above l)) | no n ↦ omega arith ]
+            elim (decLt c₁ c) [ yes l ↦ absurd (known-marked c₁ first-inside (after .stand .shown c₁ first-in) (nx .none c₁ first-above l)) | no n ↦ omega arith ]
 
         least-is : c ≡ c₁
         least-is =
@@ -349,11 +341,11 @@ module _ {text pool row : List ℕ} {m b committed ends : ℕ} {p : Progress} (r
 
         graph-all : (v : ℕ) → s₁ .committed ≤ v → v < m → graphIn row′ m v ≡ graphOf (s₁ .edges) v
         graph-all v l h =
-            elim (decLt b v) [ yes o ↦ graph-past v o h ∙ sym (no-edges-past v o) | no n ↦ after .rows .graph v l (omega arith) ]
+            elim (decLt b v) [ yes o ↦ graph-past v o h ∙ sym (no-edges-past v o) | no n ↦ after .stand .graph v l (omega arith) ]
 
         fits-all : (v : ℕ) → s₁ .committed ≤ v → v < m → getD row′ (3 * m + v) 0 + getD row′ (4 * m + v) 0 ≤ q .edges
         fits-all v l h =
-            elim (decLt b v) [ yes o ↦ omega (arith, firsts′ v o h, counts′ v o h) | no n ↦ after .rows .fits v l (omega arith) ]
+            elim (decLt b v) [ yes o ↦ omega (arith, firsts′ v o h, counts′ v o h) | no n ↦ after .stand .fits v l (omega arith) ]
 
         -- step 4: otherwise go on
         module _ {d : ℕ} {ds : List ℕ} (two : cs₁ ≡ d ∷ ds) where
@@ -380,7 +372,7 @@ module _ {text pool row : List ℕ} {m b committed ends : ℕ} {p : Progress} (r
                 rest = turned-rest s₁ (at-b .turn-is ∙ settled₄);
                 b-is = head-eq-of-cons-eq (sym are ∙ turned₄ .between .is);
                 committed-is = r .committed-is ∙ sym same-committed;
-                rows = record { marks = after .rows .marks; graph = λ v l h. graph-all v l (omega arith); fits = λ v l h. fits-all v l (omega arith); shown = after .rows .shown };
+                stand = record { marks = after .stand .marks; graph = λ v l h. graph-all v l (omega arith); fits = λ v l h. fits-all v l (omega arith); shown = after .stand .shown };
                 edges-is = after .counts .edges;
                 left-is = omega (arith, after .counts .left, ap length are, ap length (tail-eq-of-cons-eq (sym are ∙ turned₄ .between .is)));
                 total-is = after .counts .total;
@@ -433,15 +425,8 @@ module _ {text pool row : List ℕ} {m b committed ends : ℕ} {p : Progress} (r
               graph-at : (v j : ℕ) → j < getD row′ (4 * m + v) 0 → getD (graphIn row′ m v) j 0 ≡ getD row′ (7 * m + getD row′ (3 * m + v) 0 + j) 0
               graph-at v j k = graph-cell row′ m v j k
 
-          start-at : Start row′ m committed c₁
-          start-at =
-              record {
-                sized = sized′;
-                order = (let l = committed-low in let f = first-above in omega arith);
-                inside = first-inside;
-                edges = edges-of;
-                fresh = unmarked′;
-              }
+          start-before : committed < c₁
+          start-before = let l = committed-low in let f = first-above in omega arith
 
           abbrev path₂ : List ℕ
           path₂ = pathTo (graphOf (s₁ .edges)) (s₁ .committed) c₁
@@ -453,8 +438,31 @@ module _ {text pool row : List ℕ} {m b committed ends : ℕ} {p : Progress} (r
               (λ v y l h i.
               let sp = spans-edge v y (subst (λ (k : List ℕ). In y k) (graph-all v (omega (arith, r .committed-is, same-committed)) (omega arith)) i) in
               (omega (arith, sp .1), sp .2))
-              (start-at .order)
+              start-before
               ∙ ap (λ (x : ℕ). pathTo (graphOf (s₁ .edges)) x c₁) (r .committed-is ∙ sym same-committed)
+
+          -- edges lead from the committed end to the candidate, so the search can't fail
+          leads : Leads (graphIn row′ m) committed c₁ c₁
+          leads =
+              let fi = first-inside in
+              subst (λ (a : ℕ). Leads (graphIn row′ m) a c₁ c₁) (same-committed ∙ sym (r .committed-is))
+              (led (graphOf (s₁ .edges)) (graphIn row′ m) (s₁ .committed) c₁
+              (λ v y i.
+              let sp = spans-edge v y i in
+              let h : v < c₁ = omega (arith, sp .1, sp .2) in
+              (h, subst (λ (l : List ℕ). In y l) (sym (graph-all v (sp .0) (omega arith))) i))
+              (placing₁ .handled .reach c₁ first-in))
+
+          start-at : Start row′ m committed c₁
+          start-at =
+              record {
+                sized = sized′;
+                order = start-before;
+                inside = first-inside;
+                edges = edges-of;
+                fresh = unmarked′;
+                way = leads;
+              }
 
           abbrev s₂ : State
           s₂ = commit path₂ c₁ s₁
@@ -482,7 +490,7 @@ module _ {text pool row : List ℕ} {m b committed ends : ℕ} {p : Progress} (r
                 rest = turned-rest s₂ (at-b .turn-is ∙ settled₂);
                 b-is = head-eq-of-cons-eq (turned₂ .between .is);
                 committed-is = refl;
-                rows = record {
+                stand = record {
                   marks = λ x h. marks₂ x h ∙ ap (λ (y : ℕ). not (eqb y 0)) (sym (above-same row′ row″ m (pa .high) (5 * m + x) (omega arith)));
                   graph = λ v l h. absurd (omega arith);
                   fits = λ v l h. absurd (omega arith);
@@ -499,7 +507,7 @@ module _ {text pool row : List ℕ} {m b committed ends : ℕ} {p : Progress} (r
               }
             where
               marks₂ : (x : ℕ) → x < m → member x (c₁ ∷ s₁ .known) ≡ not (eqb (getD row′ (5 * m + x) 0) 0)
-              marks₂ x h = member-again x c₁ (s₁ .known) (after .rows .shown c₁ first-in) ∙ after .rows .marks x h
+              marks₂ x h = member-again x c₁ (s₁ .known) (after .stand .shown c₁ first-in) ∙ after .stand .marks x h
 
       -- ---- by the number of candidates left
 

@@ -9,17 +9,18 @@ use lib.Seq.{getD-take, length-take-le, drop-append-le}
 use Rattle.newmm_rules.specs.Words.{size}
 use Rattle.newmm_rules.specs.Cutting.{cut}
 use Rattle.newmm_rules.proofs.Result.{ends-most}
+use Rattle.newmm_bfs.specs.inner.Strips.{cellsFor}
 use Rattle.newmm_word_step.specs.inner.Walks.{givenBy}
 use Rattle.newmm_one_cut.specs.declared.Ends.{Ends}
 use Rattle.newmm_one_cut.specs.inner.Strips.{Fresh, Lent, Done}
 
 -- 9n + 128 CELLS ARE ALWAYS ENOUGH.
-pub enough : (n cells : ℕ) → 9 * n + 128 ≤ cells → 8 * n + 58 ≤ cells
+pub enough : (n cells : ℕ) → 9 * n + 128 ≤ cells → cellsFor (n + 1) ≤ cells
 enough n cells h = omega arith
 
 module _ {text pool row : List ℕ} (l : Lent text pool row) where
   abbrev e : ℕ
-  e = 8 * length text + 58
+  e = cellsFor (length text + 1)
 
   part-size : length (take e row) ≡ e
   part-size = length-take-le e row (l .room)
@@ -29,7 +30,7 @@ module _ {text pool row : List ℕ} (l : Lent text pool row) where
       record {
         short = l .short;
         root-is = l .root-is;
-        size = part-size ∙ omega arith;
+        size = part-size;
         blank = λ k. elim (decLt k e) [ yes h ↦ getD-take e row k 0 h ∙ l .blank k h | no n ↦ List·getD-eq-default (take e row) 0 {n = k} (omega (arith, part-size)) ];
       }
 

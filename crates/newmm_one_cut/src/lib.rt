@@ -1,16 +1,21 @@
 // Plain cutting, after newmm.rs: the loop over candidates. For our own crates.
+use cells::clear_from;
 use cells::narrow;
+use newmm_bfs::CANDIDATES;
+use newmm_bfs::CLUSTER_ENDS;
+use newmm_bfs::EDGE_ENDS;
+use newmm_bfs::STRIPS;
 use newmm_bfs::bfs_paths_graph;
 use newmm_edges::Progress;
 use newmm_edges::record_words;
+use newmm_rules::MAX_GRAPH_SIZE;
 use newmm_skip::token_end;
 use tcc::tcc_flags;
 ghost use mathlib.Core.Path.{_≡_};
-ghost use Prim.Native.Nat.{ℕ, _+_, _*_, _-_, _≤_, _<_};
-ghost use mathlib.Core.List.{_++_};
-ghost use lib.ListN.{length, take, set, getD, replicate};
+ghost use Prim.Native.Nat.{_<_};
+ghost use lib.ListN.{set};
 ghost use Rattle.newmm_rules.specs.NonDictionary.{tokenEnd};
-ghost use Rattle.newmm_bfs.specs.inner.Strips.{Sized};
+ghost use Rattle.newmm_bfs.specs.inner.Strips.{Sized, candidateCell};
 ghost use Rattle.newmm_word_step.specs.inner.Walks.{givenBy};
 ghost use Rattle.newmm_one_cut.specs.inner.Strips.{NextIs, TokenAt, Fresh, Lent, Done};
 
@@ -28,7 +33,7 @@ fn next_candidate(row: &[u32], m: usize, b: usize) -> usize
 {
     let mut c = b + 1;
     while c < m {
-        if row[5 * m + c] != 0 {
+        if row[CANDIDATES * m + c] != 0 {
             return c;
         }
         c += 1;
@@ -40,39 +45,27 @@ fn next_candidate(row: &[u32], m: usize, b: usize) -> usize
 fn put_token(text: &[u32], pool: &[u32], row: &mut [u32], m: usize, b: usize, ends: usize) -> usize
     requires { ⌜ TokenAt (now text) (now pool) (now row) m b ends ⌝ }
     ensures { λ r. ⌜ r ≡ tokenEnd (givenBy (now (text .entry)) (now (pool .entry))) b ⌝ }
-    ensures { λ r. ⌜ now (row .exit) ≡ set (set (now (row .entry)) (5 * m + r) 1) ends r ⌝ }
+    ensures { λ r. ⌜ now (row .exit) ≡ set (set (now (row .entry)) (candidateCell m r) 1) ends r ⌝ }
 {
-    let flags = 6 * m;
-    let flags_end = 7 * m;
+    let flags = CLUSTER_ENDS * m;
+    let flags_end = EDGE_ENDS * m;
     let e = token_end(text, pool, &row[flags..flags_end], b);
-    row[5 * m + e] = 1;
+    row[CANDIDATES * m + e] = 1;
     row[ends] = narrow(e);
     e
 }
 
-// Sets every cell from k on to 0.
-fn clear(row: &mut [u32], k: usize)
-    requires { ⌜ k ≤ length (now row) ⌝ }
-    ensures { λ _. ⌜ now (row .exit) ≡ take k (now (row .entry)) ++ replicate (length (now (row .entry)) - k) 0 ⌝ }
-{
-    let mut i = k;
-    while i < row.len() {
-        row[i] = 0;
-        i += 1;
-    }
-}
-
-// The cut, in rows of just the cells that it takes.
-fn cut_rows(text: &[u32], pool: &[u32], row: &mut [u32]) -> Ends
+// The cut, in a row of just the cells that it takes.
+fn cut_strips(text: &[u32], pool: &[u32], row: &mut [u32]) -> Ends
     requires { ⌜ Fresh (now text) (now pool) (now row) ⌝ }
     ensures { λ r. ⌜ Done (givenBy (now (text .entry)) (now (pool .entry))) (now (row .entry)) (now (row .exit)) r ⌝ }
 {
     let n = text.len();
     let m = n + 1;
-    let flags = 6 * m;
-    let flags_end = 7 * m;
+    let flags = CLUSTER_ENDS * m;
+    let flags_end = EDGE_ENDS * m;
     tcc_flags(text, &mut row[flags..flags_end]);
-    row[5 * m] = 1;
+    row[CANDIDATES * m] = 1;
     let mut b = 0;
     let mut committed = 0;
     let mut ends = 0;
@@ -114,19 +107,20 @@ fn cut_rows(text: &[u32], pool: &[u32], row: &mut [u32]) -> Ends
             total,
         };
     }
-    clear(row, ends);
+    clear_from(row, ends);
     Ends {
         ends,
         edges: p.total,
     }
 }
 
-// The plain cut of a text: its ends stand at the front of the row then, and the rest of it is as it was. The row's first 8n + 58 cells are 0;
-// 9n + 128 cells are always enough.
+// The plain cut of a text: its ends stand at the front of the row then, and the rest of it is as it
+// was. The cells that its strips take are 0; 9n + 128 cells are always enough.
 pub fn one_cut(text: &[u32], pool: &[u32], row: &mut [u32]) -> Ends
     requires { ⌜ Lent (now text) (now pool) (now row) ⌝ }
     ensures { λ r. ⌜ Done (givenBy (now (text .entry)) (now (pool .entry))) (now (row .entry)) (now (row .exit)) r ⌝ }
 {
-    let cells = 8 * text.len() + 58;
-    cut_rows(text, pool, &mut row[..cells])
+    let m = text.len() + 1;
+    let cells = STRIPS * m + MAX_GRAPH_SIZE;
+    cut_strips(text, pool, &mut row[..cells])
 }

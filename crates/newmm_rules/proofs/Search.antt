@@ -229,3 +229,10 @@ path-found {graph} {a} {goal} fits h reach =
   where
     first : (w : Way) → w ≡ record { tip = a; ends = [] } → Chain graph a (w .ends) (w .tip)
     first w e = subst (λ (v : Way). Chain graph a (v .ends) (v .tip)) (sym e) stay
+
+empty-chain : {graph : Graph} {a z : ℕ} → Chain graph a [] z → a ≡ z
+empty-chain stay = refl
+
+-- That way isn't empty.
+pub path-some : {graph : Graph} {a goal : ℕ} → Within graph a goal → a < goal → Reach graph a goal → pathTo graph a goal ≡ [] → ⊥
+path-some {graph} {a} {goal} fits h reach e = let q = empty-chain (subst (λ (l : List ℕ). Chain graph a l goal) e (path-found fits h reach)) in omega arith

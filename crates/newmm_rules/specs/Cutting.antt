@@ -4,6 +4,7 @@ use mathlib.Core.Bool.{Bool, cond}
 use mathlib.Core.List.{List, [], _∷_, _++_}
 use lib.ListN.{length}
 use lib.Dec.{ltb, eqb}
+use Rattle.newmm_rules.specs.Limits.{maxGraphSize}
 use Rattle.newmm_rules.specs.Positions.{member, inserted}
 use Rattle.newmm_rules.specs.Words.{Given, size, wordEnds}
 use Rattle.newmm_rules.specs.Search.{Graph, pathTo}
@@ -45,7 +46,7 @@ recorded b e s =
 unfoldable pub recordedAll : ℕ → List ℕ → State → State
 recordedAll b [] s = s
 recordedAll b (e ∷ es) s =
-    cond (ltb 50 (length (recorded b e s .edges))) (recorded b e s) (recordedAll b es (recorded b e s))
+    cond (ltb maxGraphSize (length (recorded b e s .edges))) (recorded b e s) (recordedAll b es (recorded b e s))
 
 -- the ends of the edges from v, in recorded order
 unfoldable pub graphOf : List Edge → Graph

@@ -1,5 +1,6 @@
 -- In 01's order: rows of positions, words, the steps of plain cutting, the search of step 2, the
--- non-dictionary rule of step 3, tokens, safe mode.
+-- non-dictionary rule of step 3, tokens, safe mode. Before them the numbers.
+pub mod Limits
 pub mod Positions
 pub mod Words
 pub mod Cutting

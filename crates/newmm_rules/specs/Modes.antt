@@ -4,6 +4,7 @@ use mathlib.Core.Bool.{Bool, cond}
 use mathlib.Core.List.{List, [], _∷_, _++_, map}
 use lib.ListN.{length}
 use lib.Dec.{ltb}
+use Rattle.newmm_rules.specs.Limits.{textScanEnd}
 use Rattle.newmm_rules.specs.Cutting.{Cut}
 use Rattle.newmm_rules.specs.declared.Mode.{Mode}
 use Rattle.newmm_rules.specs.declared.Mode.the-variants.{Plain, Safe}
@@ -29,7 +30,7 @@ joined plain r = record { ends = partEnds plain 0 (r .parts); edges = edgesOf pl
 -- Below 140 characters: plain.
 unfoldable pub inParts : (ℕ → ℕ) → Cutter → List ℕ → Cut
 inParts spaceCut plain text =
-    cond (ltb (length text) 140) (plain text) (joined plain (runsOf (length text) spaceCut plain text))
+    cond (ltb (length text) textScanEnd) (plain text) (joined plain (runsOf (length text) spaceCut plain text))
 
 -- Safe mode cuts at (index of the last space in the sample) + 1. The index isn't shifted by 100.
 abbrev pub unshifted : ℕ → ℕ

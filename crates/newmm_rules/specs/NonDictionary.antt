@@ -4,7 +4,9 @@ use mathlib.Core.Bool.{Bool, cond, not, _&&_, _||_}
 use mathlib.Core.List.{List}
 use lib.ListN.{length, drop}
 use lib.Dec.{leb, ltb, eqb}
-use Rattle.lists.specs.Scans.{within, leading}
+use Rattle.lists.specs.Scans.{leading}
+use Rattle.tcc_rules.specs.Patterns.{holds}
+use Rattle.tcc_rules.specs.Rules.{consonant}
 use Rattle.newmm_rules.specs.Positions.{upFrom, firstOr, any}
 use Rattle.newmm_rules.specs.NonThai.{nonThai}
 use Rattle.newmm_rules.specs.Words.{Given, size, span, wordEnds}
@@ -15,7 +17,7 @@ nonThaiAt g p = nonThai (drop p (g .text))
 
 -- U+0E01..0E2E
 abbrev pub isConsonant : ℕ → Bool
-isConsonant x = within 0xE01 0xE2E x
+isConsonant x = holds consonant x
 
 -- one or two characters U+0E01..0E2E
 abbrev pub isShort : List ℕ → Bool

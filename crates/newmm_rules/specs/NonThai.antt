@@ -56,4 +56,5 @@ firstMatch (m ∷ ms) = cond (eqb m 0) (firstMatch ms) m
 
 unfoldable pub nonThai : List ℕ → ℕ
 nonThai s =
-    firstMatch (leading isLetter s ∷ number isDigit s ∷ number isThaiDigit s ∷ leading isBlank s ∷ lineEnd s ∷ [])
+    firstMatch
+    (leading isLetter s ∷ number isDigit s ∷ number isThaiDigit s ∷ leading isBlank s ∷ lineEnd s ∷ [])

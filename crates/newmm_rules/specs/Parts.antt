@@ -1,5 +1,5 @@
 -- 01, "Safe mode": the parts of a text.
-use Prim.Native.Nat.{ℕ, zero, suc, _+_}
+use Prim.Native.Nat.{ℕ, zero, suc, _+_, _-_}
 use mathlib.Core.Bool.{Bool, cond}
 use mathlib.Core.List.{List, [], _∷_, _++_}
 use lib.ListN.{length, take, drop}
@@ -7,6 +7,7 @@ use lib.Dec.{ltb}
 use Rattle.char_string.specs.declared.blanks.Found.{Found}
 use Rattle.char_string.specs.declared.blanks.Found.the-variants.{At, Nothing}
 use Rattle.char_string.specs.Blanks.{lastSpace}
+use Rattle.newmm_rules.specs.Limits.{textScanBegin, textScanEnd}
 use Rattle.newmm_rules.specs.Cutting.{Cut}
 use Rattle.newmm_rules.specs.Longest.{lengths, beforeLongest}
 
@@ -16,14 +17,14 @@ Cutter = List ℕ → Cut
 
 -- Take its characters 100 to 139 as a sample.
 abbrev pub sampleOf : List ℕ → List ℕ
-sampleOf rest = take 40 (drop 100 rest)
+sampleOf rest = take (textScanEnd - textScanBegin) (drop textScanBegin rest)
 
 -- If it holds U+0020, cut the remaining text where the mode says for the index of the last one in
 -- the sample. Else cut the sample plainly; the cut is 100 plus the lengths of the tokens before the
 -- longest one, the last of equals.
 abbrev pub cutFor : (ℕ → ℕ) → Cutter → List ℕ → Found → ℕ
 cutFor spaceCut plain sample (At i) = spaceCut i
-cutFor spaceCut plain sample Nothing = 100 + beforeLongest (lengths 0 (plain sample .ends))
+cutFor spaceCut plain sample Nothing = textScanBegin + beforeLongest (lengths 0 (plain sample .ends))
 
 unfoldable pub cutAt : (ℕ → ℕ) → Cutter → List ℕ → ℕ
 cutAt spaceCut plain rest = cutFor spaceCut plain (sampleOf rest) (lastSpace (sampleOf rest))
@@ -54,8 +55,7 @@ first sample part r = record { samples = sample ++ r .samples; parts = part ∷ 
 unfoldable pub runsOf : ℕ → (ℕ → ℕ) → Cutter → List ℕ → Runs
 runsOf zero spaceCut plain rest = onePart rest
 runsOf (suc k) spaceCut plain rest =
-    cond (ltb (length rest) 140) (onePart rest)
-    (first
-    (sampled (sampleOf rest) (lastSpace (sampleOf rest)))
+    cond (ltb (length rest) textScanEnd) (onePart rest)
+    (first (sampled (sampleOf rest) (lastSpace (sampleOf rest)))
     (take (cutAt spaceCut plain rest) rest)
     (runsOf k spaceCut plain (drop (cutAt spaceCut plain rest) rest)))

@@ -45,8 +45,7 @@ unfoldable pub searched : ℕ → Graph → ℕ → List Way → List ℕ → Li
 searched zero graph goal ways seen = []
 searched (suc k) graph goal [] seen = []
 searched (suc k) graph goal (w ∷ ways) seen =
-    after
-    (passed goal w (graph (w .tip)) (record { ways = ways; seen = seen }))
+    after (passed goal w (graph (w .tip)) (record { ways = ways; seen = seen }))
     (λ (q : Queue). searched k graph goal (q .ways) (q .seen))
 
 -- The vertices after the first on the way that the search finds. Vertices lie between the start and

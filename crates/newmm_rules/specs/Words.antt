@@ -3,6 +3,7 @@ use Prim.Native.Nat.{ℕ, suc, _-_, min}
 use mathlib.Core.Bool.{Bool, _&&_}
 use mathlib.Core.List.{List}
 use lib.ListN.{length, take, drop}
+use Rattle.newmm_rules.specs.Limits.{maxWord}
 use Rattle.newmm_rules.specs.Positions.{upFrom, those}
 
 -- What is cut: the text, which positions are its cluster ends, and which words the dictionary
@@ -26,4 +27,4 @@ isWord g b e = g .held (span g b e) && g .isEnd e
 
 -- The ends of those words, shortest first. Words are 1 to 255 characters long.
 unfoldable pub wordEnds : Given → ℕ → List ℕ
-wordEnds g b = those (isWord g b) (upFrom (min 255 (size g - b)) (suc b))
+wordEnds g b = those (isWord g b) (upFrom (min maxWord (size g - b)) (suc b))

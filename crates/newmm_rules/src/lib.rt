@@ -1,4 +1,8 @@
-// The rules of cutting, after newmm.rs: they stand in specs/ in 01's order, what follows from them in proofs/.
+// The rules of cutting, after newmm.rs: they stand in specs/ in 01's order, what follows from them
+// in proofs/.
+
+// A place stops recording behind the edge that makes them more.
+pub const MAX_GRAPH_SIZE: usize = 50;
 
 // A text of fewer characters is one part. A longer one has a sample between these two positions.
 pub const TEXT_SCAN_BEGIN: usize = 100;

@@ -4,21 +4,13 @@ use newmm_non_thai::starts_non_thai;
 use newmm_word_step::Step;
 use newmm_word_step::word_limit;
 use newmm_word_step::word_step;
+use tcc_match::is_consonant;
 ghost use mathlib.Core.Path.{_≡_};
 ghost use Prim.Native.Nat.{_<_};
 ghost use lib.ListN.{length};
-ghost use Rattle.newmm_rules.specs.NonDictionary.{isConsonant, isShort, skipEnd, tokenEnd};
+ghost use Rattle.newmm_rules.specs.NonDictionary.{isShort, skipEnd, tokenEnd};
 ghost use Rattle.newmm_word_step.specs.inner.Walks.{givenBy};
 ghost use Rattle.newmm_skip.specs.inner.Places.{Place};
-
-fn is_consonant(x: u32) -> bool
-    ensures { λ r. ⌜ r ≡ isConsonant x ⌝ }
-{
-    if x < 0xE01 {
-        return false;
-    }
-    x <= 0xE2E
-}
 
 // Whether the word is one or two consonants.
 fn is_short(word: &[u32]) -> bool
@@ -37,8 +29,8 @@ fn is_short(word: &[u32]) -> bool
     true
 }
 
-// The first cluster end behind b at which the search for a token's end stops, or the text's end. It is left at once, out of both walks: over
-// places, and over word lengths.
+// The first cluster end behind b at which the search for a token's end stops, or the text's end.
+// It is left at once, out of both walks: over places, and over word lengths.
 fn skip_end(text: &[u32], pool: &[u32], flags: &[u32], b: usize) -> usize
     requires { ⌜ Place (now text) (now pool) (now flags) b ⌝ }
     ensures { λ r. ⌜ r ≡ skipEnd (givenBy (now (text .entry)) (now (pool .entry))) b ⌝ }

@@ -1,5 +1,5 @@
 -- A step of a walk, over plain values. Assumes nothing.
-use Prim.Native.Nat.{ℕ, zero, suc, _+_, _-_, _*_, _≤_, _<_}
+use Prim.Native.Nat.{ℕ, suc, _+_, _-_, _≤_, _<_}
 use native.Mathlib.Omega.{arith}
 use native.Mathlib.Nat.{sub-self}
 use mathlib.Core.Path.{_≡_, refl, sym, _∙_, ap}
@@ -78,14 +78,6 @@ module _ {text pool flags : List ℕ} {e node : ℕ} (a : Asks text pool flags e
         let n = a .node-is in
         record { nodes = n .nodes; inside = omega (arith, within pool (n .nodes) (n .shaped) node (n .inside), f .high); shaped = n .shaped; fits = n .fits; rising = n .rising }
 
-    unmarked-no : (m : ℕ) → m ≡ 0 → marked m ≡ false
-    unmarked-no zero e = refl
-    unmarked-no (suc m) e = absurd (omega arith)
-
-    marked-yes : (m : ℕ) → (m ≡ 0 → ⊥) → marked m ≡ true
-    marked-yes zero n = absurd (n refl)
-    marked-yes (suc m) n = refl
-
     pub flag-index : e + 1 < length flags
     flag-index = omega (arith, ap length (a .flags-are), ends-long text, a .inside)
 
@@ -96,14 +88,12 @@ module _ {text pool flags : List ℕ} {e node : ℕ} (a : Asks text pool flags e
     next-of : {b : ℕ} {t : Bool} (w : Walked text pool b e node) → isWord (givenBy text pool) b (e + 1) ≡ t → Next text pool b e r t
     next-of w n = record { walked = record { order = omega (arith, w .order); leads = leads-to w c q }; node-is = found-node; tells = n }
 
-    pub unmarked-part : getD pool (8 * r + 3) 0 ≡ 0 → (b : ℕ) → Walked text pool b e node → Next text pool b e r false
-    unfolding markAt
-    unmarked-part z b w = next-of w (tells-of w c q false (isEnd text (e + 1)) (unmarked-no (getD pool (8 * r + 3) 0) z) refl)
+    pub unmarked-part : marked (markAt pool r) ≡ false → (b : ℕ) → Walked text pool b e node → Next text pool b e r false
+    unmarked-part z b w = next-of w (tells-of w c q false (isEnd text (e + 1)) z refl)
 
     pub unended-part : getD flags (e + 1) 0 ≡ 0 → (b : ℕ) → Walked text pool b e node → Next text pool b e r false
     unended-part z b w =
         next-of w (tells-of w c q (marked (markAt pool r)) false refl (end-no text (a .flags-are) (omega (arith, a .inside)) z) ∙ and-false (marked (markAt pool r)))
 
-    pub whole-word : (getD pool (8 * r + 3) 0 ≡ 0 → ⊥) → (getD flags (e + 1) 0 ≡ 0 → ⊥) → (b : ℕ) → Walked text pool b e node → Next text pool b e r true
-    unfolding markAt
-    whole-word m f b w = next-of w (tells-of w c q true true (marked-yes (getD pool (8 * r + 3) 0) m) (end-yes text (a .flags-are) (omega (arith, a .inside)) f))
+    pub whole-word : marked (markAt pool r) ≡ true → (getD flags (e + 1) 0 ≡ 0 → ⊥) → (b : ℕ) → Walked text pool b e node → Next text pool b e r true
+    whole-word m f b w = next-of w (tells-of w c q true true m (end-yes text (a .flags-are) (omega (arith, a .inside)) f))

@@ -1,5 +1,5 @@
 // Thai character clusters, after tcc_tokenizer.rs: where the clusters of a text end.
-use cells::clear;
+use cells::clear_first;
 use char_string::check_text;
 use refusal::Answer;
 use refusal::Refusal;
@@ -84,6 +84,6 @@ pub fn tcc_flags(text: &[u32], row: &mut [u32])
     ensures { λ _. ⌜ now (row .exit) ≡
         endFlags (now (text .entry)) ++ drop (length (now (text .entry)) + 1) (now (row .entry)) ⌝ }
 {
-    clear(row, text.len() + 1);
+    clear_first(row, text.len() + 1);
     mark_ends(text, row);
 }

@@ -115,14 +115,13 @@ fn from_e_two_ii(text: &[u32], p: usize) -> usize
     ensures { λ r. ⌜ r ≡ clusterEnd (now (text .entry)) p ⌝ }
 {
     let q = skip_tone(text, p + 4);
-    let open = p + 2;
     if at(text, q) != YO_YAK {
         return p + 2;
     }
     if at(text, q + 1) == SARA_A {
         return group_k(text, q + 2);
     }
-    open
+    p + 2
 }
 
 // เcิ

@@ -6,4 +6,5 @@ mod group;
 mod letters;
 mod matcher;
 
+pub use letters::is_consonant;
 pub use matcher::cluster_end;

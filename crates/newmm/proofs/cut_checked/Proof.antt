@@ -9,13 +9,13 @@ use Rattle.newmm.proofs.cut_checked.Statement.{statement}
 use Rattle.newmm.proofs.cut_checked.Tie as tie
 
 -- what is lent on, and what stands in scratch after the cut
-lent : (c : tie.After-clear)
+lent : (c : tie.After-clear-first)
     → let c7 = c .before .before .before .before .before .before .before in
-    Lent (c7 .args .text .now) (c7 .args .pool .now) (c .clear .last .0) (length (c7 .args .scratch .now)) (c .before .before .capacity .result)
+    Lent (c7 .args .text .now) (c7 .args .pool .now) (c .clear-first .last .0) (length (c7 .args .scratch .now)) (c .before .before .capacity .result)
 lent c =
     let c2 = c .before .before in
     let c7 = c2 .before .before .before .before .before in
-    record { passes = c7 .pre; nodes = c2 .capacity .ensures; blank = cleared-all (c7 .args .scratch .now) (c .clear .ensures) }
+    record { passes = c7 .pre; nodes = c2 .capacity .ensures; blank = cleared-all (c7 .args .scratch .now) (c .clear-first .ensures) }
 
 ended : (c : tie.After-segment-single)
     → let c12 = c .before .before .before .before .before .before .before .before .before .before .before .before in
@@ -28,8 +28,8 @@ capacity-requires c κs = search needs
 mul-cells : tie.Need-mul-cells
 mul-cells c = search needs
 
-clear-requires : tie.Need-clear-requires
-clear-requires c κs = search needs
+clear-first-requires : tie.Need-clear-first-requires
+clear-first-requires c κs = search needs
 
 slice-aggregate-segment-single : tie.Need-slice-aggregate-segment-single
 slice-aggregate-segment-single c =
@@ -40,8 +40,8 @@ slice-aggregate-segment-single c =
 segment-single-requires : tie.Need-segment-single-requires
 segment-single-requires c κs = ready (lent (c .before .before .before .before))
 
-clear-requires-2 : tie.Need-clear-requires-2
-clear-requires-2 c κs = omega (arith, ends-fit (ended (c .before .before .before .before)))
+clear-first-requires-2 : tie.Need-clear-first-requires-2
+clear-first-requires-2 c κs = omega (arith, ends-fit (ended (c .before .before .before .before)))
 
 same-length : tie.Need-same-length
 same-length c = search needs
@@ -52,7 +52,7 @@ returns c =
     let c4 = c2 .before .before in
     let c7 = c4 .before .before .before in
     let c19 = c7 .before .before .before .before .before .before .before .before .before .before .before .before in
-    short-cuts (c19 .args .scratch .now) (c19 .args .out .now) (ended c7) (c4 .if1 .taken) (c2 .clear2 .ensures)
+    short-cuts (c19 .args .scratch .now) (c19 .args .out .now) (ended c7) (c4 .if1 .taken) (c2 .clear-first2 .ensures)
 
 slice-reshare-prefix-copy : tie.Need-slice-reshare-prefix-copy
 slice-reshare-prefix-copy c = ends-fit (ended (c .before .before .before))
@@ -65,8 +65,8 @@ copy-requires c κs =
     let c2 = c .before .before in
     (omega (arith, ends-lent (ended (c2 .before .before .before))), c2 .if1 .left)
 
-clear-requires-3 : tie.Need-clear-requires-3
-clear-requires-3 c κs = omega (arith, ends-fit (ended (c .before .before .before .before .before .before .before .before .before)))
+clear-first-requires-3 : tie.Need-clear-first-requires-3
+clear-first-requires-3 c κs = omega (arith, ends-fit (ended (c .before .before .before .before .before .before .before .before .before)))
 
 same-length-2 : tie.Need-same-length-2
 same-length-2 c = search needs
@@ -81,7 +81,7 @@ returns-2 c =
     let c9 = c6 .before .before .before in
     let c12 = c9 .before .before .before in
     let c24 = c12 .before .before .before .before .before .before .before .before .before .before .before .before in
-    done-cuts (c24 .args .scratch .now) (c24 .args .out .now) (ended c12) (c9 .if1 .left) (c6 .copy .ensures) (c2 .clear3 .ensures)
+    done-cuts (c24 .args .scratch .now) (c24 .args .out .now) (ended c12) (c9 .if1 .left) (c6 .copy .ensures) (c2 .clear-first3 .ensures)
 
 pub cut-checked-spec : {M : Type 1} → statement M
 cut-checked-spec =
@@ -89,16 +89,16 @@ cut-checked-spec =
     (tie.spec
     capacity-requires
     mul-cells
-    clear-requires
+    clear-first-requires
     slice-aggregate-segment-single
     segment-single-requires
-    clear-requires-2
+    clear-first-requires-2
     same-length
     returns
     slice-reshare-prefix-copy
     slice-aggregate-copy
     copy-requires
-    clear-requires-3
+    clear-first-requires-3
     same-length-2
     same-length-3
     returns-2)

@@ -1,17 +1,16 @@
--- Ways in the rows, by predecessors.
+-- Ways in the strips, by predecessors.
 use Prim.Native.Nat.{ℕ, suc, _+_, _*_, _-_, _≤_, _<_}
 use mathlib.Core.Path.{_≡_}
 use mathlib.Core.List.{List, [], _∷_, _++_}
-use lib.ListN.{length, getD}
+use lib.ListN.{length, take, drop}
 use Rattle.newmm_rules.specs.Search.{pathTo}
 use Rattle.newmm_bfs.specs.inner.Strips.{graphIn, before}
-use Rattle.newmm_bfs.specs.declared.Found.{Found}
-use Rattle.newmm_bfs.specs.declared.Found.the-variants.{Last, Nowhere}
 
 -- the vertices after a on the way to x, by the predecessors
 pub data Trace (pred : ℕ → ℕ) (a : ℕ) : ℕ → List ℕ → Type 0 where
   home : Trace pred a a []
-  step : {v x : ℕ} {es ds : List ℕ} → v < x → pred x ≡ v + 1 → ds ≡ es ++ (x ∷ []) → Trace pred a v es → Trace pred a x ds
+  step : {v x : ℕ} {es ds : List ℕ} → v < x → pred x ≡ v + 1 → ds ≡ es ++ (x ∷ []) → Trace pred a v es
+      → Trace pred a x ds
 
 pub record Traced (row : List ℕ) (m start v : ℕ) : Type 0 where
   pub ends : List ℕ
@@ -31,7 +30,12 @@ pub record Reaches (row row′ : List ℕ) (m start goal v : ℕ) : Type 0 where
   pub below : v < goal
   pub is : pathTo (graphIn row m) start goal ≡ ends ++ (goal ∷ [])
 
--- what a search finds: the vertex from which an edge reaches the goal, or nothing
-abbrev pub FoundIs : Found → List ℕ → List ℕ → ℕ → ℕ → ℕ → Type 0
-FoundIs (Last v) row row′ m start goal = Reaches row row′ m start goal v
-FoundIs Nowhere row row′ m start goal = pathTo (graphIn row m) start goal ≡ []
+-- r is how many vertices stand after the start on the way to v
+abbrev pub LengthIs : List ℕ → ℕ → ℕ → ℕ → ℕ → Type 0
+LengthIs row m start v r = (ends : List ℕ) → Trace (before row m) start v ends → r ≡ length ends
+
+-- the k vertices of the way to v are written behind the first ends
+abbrev pub PutIs : List ℕ → List ℕ → ℕ → ℕ → ℕ → ℕ → Type 0
+PutIs row row′ m v count k =
+    (start : ℕ) (ends : List ℕ) → Trace (before row m) start v ends → k ≡ length ends
+    → row′ ≡ take count row ++ (ends ++ drop (count + k) row)

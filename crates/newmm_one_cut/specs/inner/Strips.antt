@@ -1,11 +1,11 @@
--- What plain cutting asks of the rows that it is lent, and what it gives.
+-- What plain cutting asks of the row that it is lent, and what it gives.
 use Prim.Native.Nat.{ℕ, suc, _+_, _*_, _-_, _≤_, _<_}
 use mathlib.Core.Path.{_≡_}
 use mathlib.Core.List.{List, _++_}
 use lib.ListN.{length, getD, take, drop, replicate}
 use Rattle.newmm_rules.specs.Words.{Given}
 use Rattle.newmm_rules.specs.Cutting.{Cut, cut}
-use Rattle.newmm_bfs.specs.inner.Strips.{Sized}
+use Rattle.newmm_bfs.specs.inner.Strips.{Sized, cellsFor, candidateOf, flagsIn}
 use Rattle.tcc.specs.Flags.{endFlags}
 use Rattle.trie_pool.specs.inner.Sound.{Readable}
 use Rattle.newmm_one_cut.specs.declared.Ends.{Ends}
@@ -14,8 +14,8 @@ use Rattle.newmm_one_cut.specs.declared.Ends.{Ends}
 pub record NextIs (row : List ℕ) (m b r : ℕ) : Type 0 where
   pub above : b < r
   pub upto : r ≤ m
-  pub none : (x : ℕ) → b < x → x < r → getD row (5 * m + x) 0 ≡ 0
-  pub found : r < m → getD row (5 * m + r) 0 ≡ 0 → ⊥
+  pub none : (x : ℕ) → b < x → x < r → candidateOf row m x ≡ 0
+  pub found : r < m → candidateOf row m r ≡ 0 → ⊥
 
 -- what one token from b asks
 pub record TokenAt (text pool row : List ℕ) (m b ends : ℕ) : Type 0 where
@@ -23,22 +23,22 @@ pub record TokenAt (text pool row : List ℕ) (m b ends : ℕ) : Type 0 where
   pub size : m ≡ length text + 1
   pub inside : b < length text
   pub root-is : Readable pool 0
-  pub flags-are : take (7 * m - 6 * m) (drop (6 * m) row) ≡ endFlags text
+  pub flags-are : flagsIn row m ≡ endFlags text
   pub room : ends < m
 
 -- a text, the cells of a dictionary, and as many cells as a text of that length takes, all 0
 pub record Fresh (text pool row : List ℕ) : Type 0 where
   pub short : length text ≤ 65535
   pub root-is : Readable pool 0
-  pub size : length row ≡ 8 * (length text + 1) + 50
+  pub size : length row ≡ cellsFor (length text + 1)
   pub blank : (k : ℕ) → getD row k 0 ≡ 0
 
 -- the same, at the front of a row that may be longer
 pub record Lent (text pool row : List ℕ) : Type 0 where
   pub short : length text ≤ 65535
   pub root-is : Readable pool 0
-  pub room : 8 * length text + 58 ≤ length row
-  pub blank : (k : ℕ) → k < 8 * length text + 58 → getD row k 0 ≡ 0
+  pub room : cellsFor (length text + 1) ≤ length row
+  pub blank : (k : ℕ) → k < cellsFor (length text + 1) → getD row k 0 ≡ 0
 
 -- the ends stand at the front, and the rest is as it was
 pub record Done (g : Given) (row row′ : List ℕ) (r : Ends) : Type 0 where

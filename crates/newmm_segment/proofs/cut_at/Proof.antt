@@ -48,7 +48,7 @@ slice-reshare-prefix-longest-start : tie.Need-slice-reshare-prefix-longest-start
 slice-reshare-prefix-longest-start c =
     let c2 = c .before .before in
     let c11 = c2 .before .before .before .before .before .before .before .before .before in
-    sample-fits (c11 .pre .0) (c11 .pre .1) (c11 .args .by) _ (written (c2 .one-cut .ensures))
+    sample-fits (c11 .pre .0) (c11 .pre .1) (c11 .args .space-cut) _ (written (c2 .one-cut .ensures))
     (plain-right (holds (c11 .args .pool .now)))
 
 slice-aggregate-longest-start : tie.Need-slice-aggregate-longest-start
@@ -56,14 +56,14 @@ slice-aggregate-longest-start c =
     let c3 = c .before .before .before in
     let c12 = c3 .before .before .before .before .before .before .before .before .before in
     sym (length-take-le _ _
-    (sample-fits (c12 .pre .0) (c12 .pre .1) (c12 .args .by) _ (written (c3 .one-cut .ensures))
+    (sample-fits (c12 .pre .0) (c12 .pre .1) (c12 .args .space-cut) _ (written (c3 .one-cut .ensures))
     (plain-right (holds (c12 .args .pool .now)))))
 
 longest-start-requires : tie.Need-longest-start-requires
 longest-start-requires c κs =
     let c3 = c .before .before .before in
     let c12 = c3 .before .before .before .before .before .before .before .before .before in
-    sample-rising (c12 .pre .0) (c12 .pre .1) (c12 .args .by) _ (written (c3 .one-cut .ensures))
+    sample-rising (c12 .pre .0) (c12 .pre .1) (c12 .args .space-cut) _ (written (c3 .one-cut .ensures))
     (plain-right (holds (c12 .args .pool .now)))
 
 add-at : tie.Need-add-at
@@ -72,22 +72,22 @@ add-at c =
     let c13 = c4 .before .before .before .before .before .before .before .before .before in
     omega (
       arith,
-      start-small (c13 .pre .0) (c13 .pre .1) (c13 .args .by) _ (written (c4 .one-cut .ensures))
+      start-small (c13 .pre .0) (c13 .pre .1) (c13 .args .space-cut) _ (written (c4 .one-cut .ensures))
           (plain-right (holds (c13 .args .pool .now))) _ (c .longest-start .ensures),
     )
 
-clear-requires : tie.Need-clear-requires
-clear-requires c κs =
+clear-first-requires : tie.Need-clear-first-requires
+clear-first-requires c κs =
     let c5 = c .before .before .before .before .before in
     let c14 = c5 .before .before .before .before .before .before .before .before .before in
-    sample-fits (c14 .pre .0) (c14 .pre .1) (c14 .args .by) _ (written (c5 .one-cut .ensures))
+    sample-fits (c14 .pre .0) (c14 .pre .1) (c14 .args .space-cut) _ (written (c5 .one-cut .ensures))
     (plain-right (holds (c14 .args .pool .now)))
 
 returns : tie.Need-returns
 returns c =
     let c3 = c .before .before .before in
     let c8 = c3 .before .before .before .before .before in (
-      at-space (c8 .pre .0) (c8 .pre .1) (c8 .args .by) _
+      at-space (c8 .pre .0) (c8 .pre .1) (c8 .args .space-cut) _
           (sym (c3 .rfind-space-char-index .ensures) ∙ c .before .space .given .1),
       refl,
     )
@@ -105,10 +105,10 @@ returns-2 c =
     let c17 = c12 .before .before .before .before .before in
     let w = written (c8 .one-cut .ensures) in
     let right = plain-right (holds (c17 .args .pool .now)) in (
-      no-space (c17 .pre .0) (c17 .pre .1) (c17 .args .by) _ w right _
+      no-space (c17 .pre .0) (c17 .pre .1) (c17 .args .space-cut) _ w right _
           (sym (c12 .rfind-space-char-index .ensures) ∙ c10 .enum-told .given .1) (c4 .longest-start .ensures),
       row-back
-          (c17 .pre .0) (c17 .pre .1) (c17 .args .by) _ w right _ (c2 .clear .ensures),
+          (c17 .pre .0) (c17 .pre .1) (c17 .args .space-cut) _ w right _ (c2 .clear-first .ensures),
     )
 
 pub cut-at-spec : {M : Type 1} → statement M
@@ -127,7 +127,7 @@ cut-at-spec =
     slice-aggregate-longest-start
     longest-start-requires
     add-at
-    clear-requires
+    clear-first-requires
     returns
     same-length
     returns-2)

@@ -20,7 +20,7 @@ slice-aggregate-cut-part : tie.Need-slice-aggregate-cut-part
 slice-aggregate-cut-part c =
     let c3 = c .before .before .before in
     let c8 = c3 .before .before .before .before .before in
-    sym (part-size (c8 .pre .0) (c8 .pre .1) (c8 .args .by) (c8 .pre .2) (c8 .pre .3)
+    sym (part-size (c8 .pre .0) (c8 .pre .1) (c8 .args .space-cut) (c8 .pre .2) (c8 .pre .3)
     (plain-right (holds (c8 .args .pool .now))) (c3 .cut-at .ensures .0))
 
 cut-part-requires : tie.Need-cut-part-requires
@@ -30,12 +30,12 @@ cut-part-requires c κs =
     let right = plain-right (holds (c9 .args .pool .now)) in (
       subst (λ (row : List ℕ). Ready (take (c4 .cut-at .result .at) (c9 .args .rest .now)) (c9 .args .pool .now) row)
           (sym (c4 .cut-at .ensures .1))
-          (part-ready (c9 .pre .0) (c9 .pre .1) (c9 .args .by) (c9 .pre .2) (c9 .pre .3) right (c4 .cut-at .ensures .0)),
+          (part-ready (c9 .pre .0) (c9 .pre .1) (c9 .args .space-cut) (c9 .pre .2) (c9 .pre .3) right (c4 .cut-at .ensures .0)),
       omega (
         arith,
-        part-size (c9 .pre .0) (c9 .pre .1) (c9 .args .by) (c9 .pre .2) (c9 .pre .3) right
+        part-size (c9 .pre .0) (c9 .pre .1) (c9 .args .space-cut) (c9 .pre .2) (c9 .pre .3) right
             (c4 .cut-at .ensures .0),
-        part-inside (c9 .pre .0) (c9 .pre .1) (c9 .args .by) (c9 .pre .2) (c9 .pre .3) right
+        part-inside (c9 .pre .0) (c9 .pre .1) (c9 .args .space-cut) (c9 .pre .2) (c9 .pre .3) right
             (c4 .cut-at .ensures .0) .1,
         c9 .pre .4,
       ),
@@ -56,9 +56,9 @@ add-t15 c =
       plain-edges
           (holds (c14 .args .pool .now)) (take (c9 .cut-at .result .at) (c14 .args .rest .now)),
       part-size (c14 .pre .0)
-          (c14 .pre .1) (c14 .args .by) (c14 .pre .2) (c14 .pre .3) right (c9 .cut-at .ensures .0),
+          (c14 .pre .1) (c14 .args .space-cut) (c14 .pre .2) (c14 .pre .3) right (c9 .cut-at .ensures .0),
       part-inside
-          (c14 .pre .0) (c14 .pre .1) (c14 .args .by) (c14 .pre .2) (c14 .pre .3) right (c9 .cut-at .ensures .0) .1,
+          (c14 .pre .0) (c14 .pre .1) (c14 .args .space-cut) (c14 .pre .2) (c14 .pre .3) right (c9 .cut-at .ensures .0) .1,
     )
 
 same-length : tie.Need-same-length
@@ -69,7 +69,7 @@ returns c =
     let c4 = c .before .before .before .before in
     let c9 = c4 .before .before .before .before .before in
     let c14 = c9 .before .before .before .before .before in
-    first-is (c14 .pre .0) (c14 .pre .1) (c14 .args .by) (c14 .pre .2) (c14 .pre .3)
+    first-is (c14 .pre .0) (c14 .pre .1) (c14 .args .space-cut) (c14 .pre .2) (c14 .pre .3)
     (plain-right (holds (c14 .args .pool .now))) (c9 .cut-at .ensures .0) (c14 .args .start) (c9 .cut-at .ensures .1)
     (c4 .cut-part .ensures)
 

@@ -14,10 +14,10 @@ use Rattle.newmm_segment.proofs.in_parts.Statement.{statement}
 use Rattle.newmm_segment.proofs.in_parts.Tie as tie
 
 abbrev Inv-loop : tie.InvT-loop
-Inv-loop text pool row₀ by start₀ count₀ edges₀ row start count edges = Until (λ (i : ℕ). i + by) (plainCut (holds pool)) text row₀ row start count edges
+Inv-loop text pool row₀ space-cut start₀ count₀ edges₀ row start count edges = Until (λ (i : ℕ). i + space-cut) (plainCut (holds pool)) text row₀ row start count edges
 
 abbrev μ-loop : tie.MeasureT-loop
-μ-loop text pool row₀ by start₀ count₀ edges₀ row start count edges = length text - start
+μ-loop text pool row₀ space-cut start₀ count₀ edges₀ row start count edges = length text - start
 
 loop-holds : tie.Need-loop-holds Inv-loop μ-loop
 loop-holds c = until-none _ _ _ _
@@ -74,7 +74,7 @@ add-start c =
     let c11 = c7 .before .before .before .before in
     omega (
       arith,
-      part-most _ _ (by-fits (c11 .args .by) (c11 .pre .2) (c11 .pre .3))
+      part-most _ _ (by-fits (c11 .args .space-cut) (c11 .pre .2) (c11 .pre .3))
           (plain-right (holds (c11 .args .pool .now))) (plain-edges (holds (c11 .args .pool .now))) _ _ (c7 .loop .inv)
           (c6 .loop-test .taken) _ _ (c3 .first-part .ensures) .1,
       c11 .pre .0 .short,
@@ -86,7 +86,7 @@ add-count c =
     let c7 = c4 .before .before .before in
     let c8 = c7 .before in
     let c12 = c8 .before .before .before .before in
-    let m = part-most _ _ (by-fits (c12 .args .by) (c12 .pre .2) (c12 .pre .3))
+    let m = part-most _ _ (by-fits (c12 .args .space-cut) (c12 .pre .2) (c12 .pre .3))
     (plain-right (holds (c12 .args .pool .now))) (plain-edges (holds (c12 .args .pool .now))) _ _ (c8 .loop .inv)
     (c7 .loop-test .taken) _ _ (c4 .first-part .ensures) in
     omega (arith, m .1, m .2, few-ends (c8 .loop .inv), c12 .pre .0 .short)
@@ -97,7 +97,7 @@ add-edges c =
     let c8 = c5 .before .before .before in
     let c9 = c8 .before in
     let c13 = c9 .before .before .before .before in
-    let m = part-most _ _ (by-fits (c13 .args .by) (c13 .pre .2) (c13 .pre .3))
+    let m = part-most _ _ (by-fits (c13 .args .space-cut) (c13 .pre .2) (c13 .pre .3))
     (plain-right (holds (c13 .args .pool .now))) (plain-edges (holds (c13 .args .pool .now))) _ _ (c9 .loop .inv)
     (c8 .loop-test .taken) _ _ (c5 .first-part .ensures) in
     omega (arith, m .1, m .3, c9 .loop .inv .few-edges, c13 .pre .0 .short)
@@ -108,7 +108,7 @@ loop-less c =
     let c8 = c5 .before .before .before in
     let c9 = c8 .before in
     let c13 = c9 .before .before .before .before in
-    let m = part-most _ _ (by-fits (c13 .args .by) (c13 .pre .2) (c13 .pre .3))
+    let m = part-most _ _ (by-fits (c13 .args .space-cut) (c13 .pre .2) (c13 .pre .3))
     (plain-right (holds (c13 .args .pool .now))) (plain-edges (holds (c13 .args .pool .now))) _ _ (c9 .loop .inv)
     (c8 .loop-test .taken) _ _ (c5 .first-part .ensures) in
     omega (arith, m .0, m .1)
@@ -119,7 +119,7 @@ loop-again c =
     let c8 = c5 .before .before .before in
     let c9 = c8 .before in
     let c13 = c9 .before .before .before .before in
-    until-more _ _ (by-fits (c13 .args .by) (c13 .pre .2) (c13 .pre .3)) (plain-right (holds (c13 .args .pool .now)))
+    until-more _ _ (by-fits (c13 .args .space-cut) (c13 .pre .2) (c13 .pre .3)) (plain-right (holds (c13 .args .pool .now)))
     (plain-edges (holds (c13 .args .pool .now))) _ _ (c9 .loop .inv) (c8 .loop-test .taken) _ _
     (c5 .first-part .ensures)
 
@@ -162,7 +162,7 @@ add-t21 c =
     let c6 = c3 .before .before .before in
     let c7 = c6 .before in
     let c11 = c7 .before .before .before .before in
-    let m = rest-most _ _ (by-fits (c11 .args .by) (c11 .pre .2) (c11 .pre .3))
+    let m = rest-most _ _ (by-fits (c11 .args .space-cut) (c11 .pre .2) (c11 .pre .3))
     (plain-right (holds (c11 .args .pool .now))) (plain-edges (holds (c11 .args .pool .now))) _ _ (c7 .loop .inv)
     (c11 .pre .1) (c6 .loop-test .left) _ _ (c3 .cut-part .ensures) in
     omega (arith, m .0, few-ends (c7 .loop .inv), c7 .loop .inv .inside, c11 .pre .0 .short)
@@ -173,7 +173,7 @@ add-t28 c =
     let c7 = c4 .before .before .before in
     let c8 = c7 .before in
     let c12 = c8 .before .before .before .before in
-    let m = rest-most _ _ (by-fits (c12 .args .by) (c12 .pre .2) (c12 .pre .3))
+    let m = rest-most _ _ (by-fits (c12 .args .space-cut) (c12 .pre .2) (c12 .pre .3))
     (plain-right (holds (c12 .args .pool .now))) (plain-edges (holds (c12 .args .pool .now))) _ _ (c8 .loop .inv)
     (c12 .pre .1) (c7 .loop-test .left) _ _ (c4 .cut-part .ensures) in
     omega (arith, m .1, c8 .loop .inv .few-edges, c8 .loop .inv .inside, c12 .pre .0 .short)
@@ -193,7 +193,7 @@ returns c =
     let c7 = c4 .before .before .before in
     let c8 = c7 .before in
     let c12 = c8 .before .before .before .before in
-    until-all _ _ (by-fits (c12 .args .by) (c12 .pre .2) (c12 .pre .3)) (plain-right (holds (c12 .args .pool .now)))
+    until-all _ _ (by-fits (c12 .args .space-cut) (c12 .pre .2) (c12 .pre .3)) (plain-right (holds (c12 .args .pool .now)))
     (plain-edges (holds (c12 .args .pool .now))) _ _ (c8 .loop .inv) (c12 .pre .1) (c7 .loop-test .left) _ _
     (c4 .cut-part .ensures)
 

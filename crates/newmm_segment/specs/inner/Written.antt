@@ -1,4 +1,4 @@
--- What cutting in parts asks of the rows that it is lent, and what it gives.
+-- What cutting in parts asks of the row that it is lent, and what it gives.
 use Prim.Native.Nat.{ℕ, _+_, _*_, _≤_}
 use mathlib.Core.Path.{_≡_}
 use mathlib.Core.List.{List, _++_}
@@ -44,8 +44,10 @@ abbrev pub firstOf : (ℕ → ℕ) → Cutter → List ℕ → List ℕ
 firstOf spaceCut plain rest = take (cutAt spaceCut plain rest) rest
 
 -- its ends stand at the front of the row, shifted by where it starts
-pub record FirstPart (spaceCut : ℕ → ℕ) (plain : Cutter) (rest : List ℕ) (start : ℕ) (row row′ : List ℕ) (r : Part) : Type 0 where
+pub record FirstPart
+    (spaceCut : ℕ → ℕ) (plain : Cutter) (rest : List ℕ) (start : ℕ) (row row′ : List ℕ) (r : Part) : Type 0 where
   pub size : r .size ≡ cutAt spaceCut plain rest
   pub ends : r .ends ≡ length (plain (firstOf spaceCut plain rest) .ends)
-  pub edges : r .edges ≡ edgesOf plain (sampled (sampleOf rest) (lastSpace (sampleOf rest))) + plain (firstOf spaceCut plain rest) .edges
+  pub edges : r .edges
+      ≡ edgesOf plain (sampled (sampleOf rest) (lastSpace (sampleOf rest))) + plain (firstOf spaceCut plain rest) .edges
   pub is : row′ ≡ shifted start (plain (firstOf spaceCut plain rest) .ends) ++ drop (r .ends) row

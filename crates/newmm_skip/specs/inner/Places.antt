@@ -1,4 +1,5 @@
--- What the functions ask: the cells of a dictionary, the flags of the text's cluster ends, and a place of the text.
+-- What the functions ask: the cells of a dictionary, the flags of the text's cluster ends, and a
+-- place of the text.
 use Prim.Native.Nat.{ℕ, _<_}
 use mathlib.Core.Path.{_≡_}
 use mathlib.Core.List.{List}

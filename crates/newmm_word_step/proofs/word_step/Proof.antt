@@ -1,5 +1,6 @@
 -- Assumes nothing.
-use native.Mathlib.Omega.{arith}
+use mathlib.Core.Path.{sym, _∙_}
+use borrow.Author.Tests.{not-true, not-false}
 use Rattle.newmm_word_step.proofs.Steps.{no-more, found-node, flag-index, unmarked-part, unended-part, whole-word}
 use borrow.Author.Needs.{needs}
 use Rattle.newmm_word_step.proofs.word_step.Statement.{statement}
@@ -20,41 +21,19 @@ enum-told c = search needs
 enum-known-kid : tie.Need-enum-known-kid
 enum-known-kid c = search needs
 
-mul-if1 : tie.Need-mul-if1
-mul-if1 c =
+ends-word-requires : tie.Need-ends-word-requires
+ends-word-requires c κs =
     let c3 = c .before .before .before in
     let c8 = c3 .before .before .before .before .before in
-    let n = found-node (c8 .pre) (c3 .find-child .ensures) (c .before .kid .given .1) in
-    omega (arith, n .inside, n .fits)
-
-add-if1 : tie.Need-add-if1
-add-if1 c =
-    let c3 = c .before .before .before in
-    let c8 = c3 .before .before .before .before .before in
-    let n = found-node (c8 .pre) (c3 .find-child .ensures) (c .before .kid .given .1) in
-    omega (arith, n .inside, n .fits)
-
-mul-if1-2 : tie.Need-mul-if1-2
-mul-if1-2 c =
-    let c3 = c .before .before .before in
-    let c8 = c3 .before .before .before .before .before in
-    let n = found-node (c8 .pre) (c3 .find-child .ensures) (c .before .kid .given .1) in
-    omega (arith, n .inside, n .fits)
-
-shared-slice-read-if1 : tie.Need-shared-slice-read-if1
-shared-slice-read-if1 c =
-    let c2 = c .before .before in
-    let c4 = c2 .before .before in
-    let c9 = c4 .before .before .before .before .before in
-    let n = found-node (c9 .pre) (c4 .find-child .ensures) (c2 .kid .given .1) in
-    omega (arith, n .inside, n .fits)
+    found-node (c8 .pre) (c3 .find-child .ensures) (c .before .kid .given .1)
 
 returns : tie.Need-returns
 returns c =
     let c3 = c .before .before .before in
     let c5 = c3 .before .before in
     let c10 = c5 .before .before .before .before .before in
-    unmarked-part (c10 .pre) (c5 .find-child .ensures) (c3 .kid .given .1) (c .if1 .taken)
+    unmarked-part (c10 .pre) (c5 .find-child .ensures) (c3 .kid .given .1)
+    (sym (c .before .ends-word .ensures) ∙ not-true _ (c .if1 .taken))
 
 add-if2 : tie.Need-add-if2
 add-if2 c = search needs
@@ -88,7 +67,8 @@ returns-4 c =
     let c5 = c2 .before .before .before in
     let c7 = c5 .before .before in
     let c12 = c7 .before .before .before .before .before in
-    whole-word (c12 .pre) (c7 .find-child .ensures) (c5 .kid .given .1) (c2 .if1 .left) (c .if2 .left)
+    whole-word (c12 .pre) (c7 .find-child .ensures) (c5 .kid .given .1)
+    (sym (c2 .before .ends-word .ensures) ∙ not-false _ (c2 .if1 .left)) (c .if2 .left)
 
 pub word-step-spec : {M : Type 1} → statement M
 word-step-spec =
@@ -99,10 +79,7 @@ word-step-spec =
     find-child-requires
     enum-told
     enum-known-kid
-    mul-if1
-    add-if1
-    mul-if1-2
-    shared-slice-read-if1
+    ends-word-requires
     returns
     add-if2
     mul-if2

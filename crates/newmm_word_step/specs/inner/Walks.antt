@@ -11,7 +11,8 @@ use Rattle.trie_pool.specs.inner.Sound.{Readable}
 use Rattle.newmm_word_step.specs.declared.Step.{Step}
 use Rattle.newmm_word_step.specs.declared.Step.the-variants.{Nothing, Word, Part}
 
--- What is cut, by a text and the cells of a dictionary: its cluster ends are those of the text, its words those that the cells hold.
+-- What is cut, by a text and the cells of a dictionary: its cluster ends are those of the text, its
+-- words those that the cells hold.
 abbrev pub givenBy : List ℕ → List ℕ → Given
 givenBy text pool = record { text = text; isEnd = isEnd text; held = holds pool }
 
@@ -31,8 +32,13 @@ pub record Next (text pool : List ℕ) (b e node : ℕ) (word : Bool) : Type 0 w
   pub node-is : Readable pool node
   pub tells : isWord (givenBy text pool) b (e + 1) ≡ word
 
--- what a step tells: no word ends behind e; or whether one ends at e + 1, which is a cluster end, and the node there
+-- what a step tells: no word ends behind e; or whether one ends at e + 1, which is a cluster end,
+-- and the node there
 abbrev pub StepIs : Step → List ℕ → List ℕ → ℕ → ℕ → Type 0
 StepIs Nothing text pool b e = (k : ℕ) → e < k → isWord (givenBy text pool) b k ≡ false
 StepIs (Word node) text pool b e = Next text pool b e node true
 StepIs (Part node) text pool b e = Next text pool b e node false
+
+-- it tells so of every b from which the characters lead to the node
+abbrev pub Steps : List ℕ → List ℕ → ℕ → ℕ → Step → Type 0
+Steps text pool e node r = (b : ℕ) → Walked text pool b e node → StepIs r text pool b e

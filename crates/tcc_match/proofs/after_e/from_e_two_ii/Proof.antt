@@ -16,9 +16,6 @@ add-skip-tone c = omega (arith, c .before .pre .0)
 skip-tone-requires : tie.Need-skip-tone-requires
 skip-tone-requires c κs = search needs
 
-add-open : tie.Need-add-open
-add-open c = omega (arith, c .before .before .pre .0)
-
 at-requires : tie.Need-at-requires
 at-requires c κs = search needs
 
@@ -60,6 +57,9 @@ returns-2 c =
     c .group-k .ensures ∙ e-two-ii (c7 .args .text .now) (c7 .args .p) (c7 .pre) _ (c5 .skip-tone .ensures)
     (sym (c4 .at .ensures) ∙ c3 .if1 .left) (sym (c2 .at2 .ensures) ∙ c .before .if2 .taken)
 
+add-result-2 : tie.Need-add-result-2
+add-result-2 c = omega (arith, c .before .before .before .before .before .before .pre .0)
+
 returns-3 : tie.Need-returns-3
 returns-3 c =
     let c2 = c .before .before in
@@ -75,7 +75,6 @@ from-e-two-ii-spec =
     (tie.spec
     add-skip-tone
     skip-tone-requires
-    add-open
     at-requires
     add-result
     returns
@@ -84,4 +83,5 @@ from-e-two-ii-spec =
     add-group-k
     group-k-requires
     returns-2
+    add-result-2
     returns-3)

@@ -2,10 +2,10 @@
 use Prim.Native.Nat.{_-_}
 use native.Mathlib.Omega.{arith}
 use lib.ListN.{length}
-use Rattle.newmm_one_cut.proofs.Small.{Cleared, clear-first, clear-on, clear-end}
+use Rattle.cells.proofs.Clearing.{Cleared, clear-none, clear-on, clear-end}
 use borrow.Author.Needs.{needs}
-use Rattle.newmm_one_cut.proofs.clear.Statement.{statement}
-use Rattle.newmm_one_cut.proofs.clear.Tie as tie
+use Rattle.cells.proofs.clear_from.Statement.{statement}
+use Rattle.cells.proofs.clear_from.Tie as tie
 
 abbrev Inv-loop : tie.InvT-loop
 Inv-loop row₀ k i₀ row i = Cleared row₀ row k i
@@ -14,7 +14,7 @@ abbrev μ-loop : tie.MeasureT-loop
 μ-loop row₀ k i₀ row i = length row₀ - i
 
 loop-holds : tie.Need-loop-holds Inv-loop μ-loop
-loop-holds c = clear-first _ _
+loop-holds c = clear-none _ _
 
 mul-row : tie.Need-mul-row Inv-loop μ-loop
 mul-row c = search needs
@@ -37,8 +37,8 @@ same-length c = c .before .loop .inv .size
 returns : tie.Need-returns Inv-loop μ-loop
 returns c = clear-end (c .before .loop .inv) (c .before .before .pre) (c .loop-test .left)
 
-pub clear-spec : {M : Type 1} → statement M
-clear-spec =
+pub clear-from-spec : {M : Type 1} → statement M
+clear-from-spec =
     tie.close
     (tie.spec
     Inv-loop

@@ -6,8 +6,8 @@ use Rattle.newmm_rules.proofs.Spans.{token-spans}
 use Rattle.newmm_word_step.specs.inner.Walks.{givenBy}
 use Rattle.newmm_one_cut.proofs.Rounds.{Round, b-inside, ends-few, committed-low, here, token-asks, token-round, start-one, round-one, round-more, still-sized}
 use Rattle.newmm_one_cut.proofs.Bounds.{ends-fit, done, first-round, size₁, part-long}
-use Rattle.newmm_one_cut.proofs.cut_rows.Statement.{statement}
-use Rattle.newmm_one_cut.proofs.cut_rows.Tie as tie
+use Rattle.newmm_one_cut.proofs.cut_strips.Statement.{statement}
+use Rattle.newmm_one_cut.proofs.cut_strips.Tie as tie
 
 abbrev Inv-loop : tie.InvT-loop
 Inv-loop text pool row₀ n m flags flags-end b₀ committed₀ ends₀ p₀ row b committed ends p = Round text pool row m b committed ends p
@@ -157,15 +157,15 @@ loop-again-3 c =
     round-more (c9 .loop .inv) (c8 .loop-test .taken) (c6 .record-words .ensures .0) (c6 .record-words .ensures .1)
     (c6 .record-words .kept .1 .1 .0) (c .before .next-candidate .ensures) (c3 .if1 .left) (c .if2 .left)
 
-clear-requires : tie.Need-clear-requires Inv-loop μ-loop
-clear-requires c κs = ends-fit (c .before .before .loop .inv) (c .before .loop-test .left)
+clear-from-requires : tie.Need-clear-from-requires Inv-loop μ-loop
+clear-from-requires c κs = ends-fit (c .before .before .loop .inv) (c .before .loop-test .left)
 
 same-length : tie.Need-same-length Inv-loop μ-loop
 same-length c =
     let c2 = c .before .before in
     let c5 = c2 .before .before .before in
     let c13 = c5 .before .before .before .before .before .before .before .before in
-    c2 .clear .kept .0 ∙ c5 .loop .inv .exact ∙ sym (c13 .pre .size)
+    c2 .clear-from .kept .0 ∙ c5 .loop .inv .exact ∙ sym (c13 .pre .size)
 
 returns : tie.Need-returns Inv-loop μ-loop
 returns c =
@@ -174,10 +174,10 @@ returns c =
     let c5 = c4 .before in
     let c13 = c5 .before .before .before .before .before .before .before .before in
     done (c5 .loop .inv) (c4 .loop-test .left) _ _ (c13 .pre) (c5 .loop .inv .exact ∙ sym (c13 .pre .size))
-    (c2 .clear .ensures)
+    (c2 .clear-from .ensures)
 
-pub cut-rows-spec : {M : Type 1} → statement M
-cut-rows-spec =
+pub cut-strips-spec : {M : Type 1} → statement M
+cut-strips-spec =
     tie.close
     (tie.spec
     Inv-loop
@@ -206,6 +206,6 @@ cut-rows-spec =
     sub-t32
     loop-less-3
     loop-again-3
-    clear-requires
+    clear-from-requires
     same-length
     returns)
