@@ -9,7 +9,7 @@ use lib.ListN.{length, getD}
 use lib.Dec.{leb, ltb}
 use borrow.Author.Tests.{le-leb, lt-ltb, leb-true, ltb-true}
 use Rattle.newmm_rules.specs.Search.{Graph, pathTo}
-use Rattle.newmm_rules.proofs.Positions.{In}
+use Rattle.newmm_rules.specs.Positions.{In}
 use Rattle.newmm_rules.proofs.Search.{Reach, here, edge, Within, path-some}
 use Rattle.newmm_bfs.specs.inner.Strips.{graphIn, Leads, at-start, by-edge, Start}
 use Rattle.newmm_bfs.proofs.Strips.{graph-length, graph-cell}

@@ -8,4 +8,3 @@ pub mod Cases
 pub mod Grown
 pub mod Orders
 pub mod Counts
-pub mod More

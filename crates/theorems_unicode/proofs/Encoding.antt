@@ -29,9 +29,11 @@ bytes-4 : (v : ℕ) → 0x10000 ≤ v → bytesOf v ≡ (0xF0 + v / 262144) ∷ 
 bytes-4 v h = simp (le-ltb v 0x80 (omega arith), le-ltb v 0x800 (omega arith), le-ltb v 0x10000 h)
 
 scalar-low : (v : ℕ) → v < 0xD800 → isScalar v ≡ true
+unfolding isScalar
 scalar-low v h = simp (lt-ltb _ _ h)
 
 scalar-high : (v : ℕ) → 0xE000 ≤ v → v ≤ 0x10FFFF → isScalar v ≡ true
+unfolding isScalar
 scalar-high v h k = simp (le-ltb v 0xD800 (omega arith), le-leb _ _ h, le-leb _ _ k)
 
 -- a sequence's value is a scalar value, and the sequence is its bytes
@@ -157,6 +159,7 @@ spelled-2 v a e (four r o) h k = let z = fourth-range r in absurd (omega arith)
 
 -- the second byte of three is in its first byte's range, surrogates left out
 third-in : (v a lo hi : ℕ) → a ≡ 0xE0 + v / 4096 → Third a lo hi → 0x800 ≤ v → v < 0x10000 → isScalar v ≡ true → (lo ≤ 0x80 + v / 64 % 64) × (0x80 + v / 64 % 64 ≤ hi)
+unfolding isScalar
 third-in v a lo hi e (e0 x y) h k s = (omega arith, omega arith)
 third-in v a lo hi e (e1 x y) h k s = (omega arith, omega arith)
 third-in v a lo hi e (ed x y) h k s = (omega arith, let z = not-surrogate v s (omega arith) in omega arith)
