@@ -1,4 +1,5 @@
 // The line program, on slices: the bytes of a line, what the line asks, and the text of its reply.
+//   step, last   a run: input of any length, part by part, with rows of the lengths below
 //   feed         takes bytes up to the first line feed, and writes the reply of the line that ends there
 //   finish       writes the reply of a last line without a line feed
 //   line_end     where the first line feed stands
@@ -8,6 +9,7 @@
 //   write_reply  the reply as a line of text
 mod input;
 mod line;
+mod program;
 mod reply;
 mod text;
 
@@ -17,6 +19,8 @@ pub use input::finish;
 pub use line::front;
 pub use line::keep;
 pub use line::line_end;
+pub use program::last;
+pub use program::step;
 pub use reply::Reply;
 pub use reply::answer_line;
 pub use text::write_reply;
