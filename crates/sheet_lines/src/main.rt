@@ -1,5 +1,6 @@
-// The line program: adds and removes words, and cuts texts by them, a reply for each line of standard input.
-// A read or a write that fails stops it at once, and a line on standard error tells which and why.
+// The line program: adds and removes words, and cuts texts by them, a reply for each line of
+// standard input. A read or a write that fails stops it at once, and a line on standard error tells
+// which and why.
 mod io_calls;
 
 use io_calls::Got;
@@ -10,11 +11,11 @@ use sheet_replies::POOL;
 use sheet_replies::REPLY;
 use sheet_replies::SCRATCH;
 use sheet_replies::TEXT;
-use sheet_replies::feed;
-use sheet_replies::finish;
 use sheet_replies::front;
+use sheet_replies::last;
+use sheet_replies::step;
 
-// What became of bytes that were fed: how many of the line that goes on are kept, or a write failed.
+// What became of the input: how many bytes of a line that goes on are kept, or a call failed.
 enum Line {
     Kept(usize),
     Failed,
@@ -39,7 +40,7 @@ fn main() {
     let Line::Kept(kept) = read else {
         return;
     };
-    let n = finish(
+    end_run(
         &line,
         kept,
         &mut pool,
@@ -48,17 +49,31 @@ fn main() {
         &mut scratch,
         &mut out,
     );
-    write_whole(front(&out, n));
 }
 
-// A proved loop has to end, and nothing says that the input does: it has more turns than any run uses up.
+// Writes the reply of a last line without a line feed.
+fn end_run(
+    line: &[u8; LINE],
+    kept: usize,
+    pool: &mut [u32; POOL],
+    scalars: &mut [u32; TEXT],
+    ends: &mut [u32; TEXT],
+    scratch: &mut [u32; SCRATCH],
+    out: &mut [u8; REPLY],
+) {
+    let n = last(line, kept, pool, scalars, ends, scratch, out);
+    write_whole(front(out, n));
+}
+
+// A proved loop has to end, and nothing says that the input does: it has more turns than any run
+// uses up.
 fn read_all(
-    line: &mut [u8],
-    pool: &mut [u32],
-    scalars: &mut [u32],
-    ends: &mut [u32],
-    scratch: &mut [u32],
-    out: &mut [u8],
+    line: &mut [u8; LINE],
+    pool: &mut [u32; POOL],
+    scalars: &mut [u32; TEXT],
+    ends: &mut [u32; TEXT],
+    scratch: &mut [u32; SCRATCH],
+    out: &mut [u8; REPLY],
 ) -> Line {
     let mut buffer = io::large_buffer();
     let mut kept = 0;
@@ -93,18 +108,18 @@ fn read_all(
 // Feeds all of the bytes, and writes the replies of the lines that end in them.
 fn feed_all(
     bytes: &[u8],
-    line: &mut [u8],
+    line: &mut [u8; LINE],
     kept: usize,
-    pool: &mut [u32],
-    scalars: &mut [u32],
-    ends: &mut [u32],
-    scratch: &mut [u32],
-    out: &mut [u8],
+    pool: &mut [u32; POOL],
+    scalars: &mut [u32; TEXT],
+    ends: &mut [u32; TEXT],
+    scratch: &mut [u32; SCRATCH],
+    out: &mut [u8; REPLY],
 ) -> Line {
     let mut n = kept;
     let mut at = 0;
     while at < bytes.len() {
-        let fed = feed(&bytes[at..], line, n, pool, scalars, ends, scratch, out);
+        let fed = step(&bytes[at..], line, n, pool, scalars, ends, scratch, out);
         if !write_whole(front(out, fed.written)) {
             return Line::Failed;
         }

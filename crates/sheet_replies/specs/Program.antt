@@ -1,4 +1,4 @@
--- 01, "Program": a whole run, from all bytes that are read to all bytes that are written. Every sentence of 01 is a definition here.
+-- 01, "Program": a whole run, from all bytes that are read to all bytes that are written.
 use Prim.Native.Nat.{ℕ, suc, _-_}
 use mathlib.Core.Bool.{Bool, true, false, not, cond, _||_}
 use mathlib.Core.Path.{_≡_}
@@ -26,7 +26,8 @@ use Rattle.sheet_replies.specs.Texts.{lineOf}
 
 -- ---- lines
 
--- A last line without a line feed counts like any other; no bytes after the last line feed are no line.
+-- A last line without a line feed counts like any other; no bytes after the last line feed are
+-- no line.
 abbrev pub lastLine : List ℕ → List (List ℕ)
 lastLine [] = []
 lastLine (b ∷ line) = (b ∷ line) ∷ []
@@ -82,7 +83,10 @@ formCauses text = record { refusal = IllFormed (runAll text .taken); holds = not
 -- 8: the pool of 2,048 nodes has too few free nodes; nodes missing.
 abbrev pub roomCauses : List ℕ → List (List ℕ) → List Cause
 roomCauses w words =
-    record { refusal = TooFewNodes (nodes (including w words) - 2048); holds = ltb 2048 (nodes (including w words)) } ∷ []
+    record {
+      refusal = TooFewNodes (nodes (including w words) - 2048);
+      holds = ltb 2048 (nodes (including w words));
+    } ∷ []
 
 -- the word of a text: its scalars, trimmed
 abbrev pub wordOf : List ℕ → List ℕ
@@ -154,19 +158,22 @@ run bytes = left [] [] bytes
 
 -- ---- a run in parts
 
--- What the rows hold between two calls: the first bytes of the line that has begun, and the pool of the words. 1,025 bytes of a line are kept,
--- one more than a line may have.
+-- What the rows hold between two calls: the first bytes of the line that has begun, and the pool
+-- of the words. 1,025 bytes of a line are kept, one more than a line may have.
 pub record Holds (row : List ℕ) (kept : ℕ) (pool begun : List ℕ) (words : List (List ℕ)) : Type 0 where
   pub bytes : take kept row ≡ take 1025 begun
   pub size : kept ≡ length (take 1025 begun)
   pub means : meaning pool ≡ some (among words)
 
--- What a call leaves: rows that hold a line that has begun and words, so that what was to be written is what the call wrote and then what is left.
-pub record Leaves (bytes : List ℕ) (taken : ℕ) (text row : List ℕ) (kept : ℕ) (pool begun : List ℕ) (words : List (List ℕ)) : Type 0 where
+-- What a call leaves: rows that hold a line that has begun and words, so that what was to be
+-- written is what the call wrote and then what is left.
+pub record Leaves (bytes : List ℕ) (taken : ℕ) (text row : List ℕ) (kept : ℕ) (pool begun : List ℕ)
+    (words : List (List ℕ)) : Type 0 where
   pub begun₁ : List ℕ
   pub words₁ : List (List ℕ)
   pub holds : Holds row kept pool begun₁ words₁
-  pub run-on : (more : List ℕ) → left words begun (bytes ++ more) ≡ text ++ left words₁ begun₁ (drop taken bytes ++ more)
+  pub run-on : (more : List ℕ)
+      → left words begun (bytes ++ more) ≡ text ++ left words₁ begun₁ (drop taken bytes ++ more)
 
 abbrev pub Stepped : List ℕ → List ℕ → ℕ → List ℕ → List ℕ → List ℕ → List ℕ → Fed → Type 0
 Stepped bytes row kept pool row₁ pool₁ out r =
@@ -178,10 +185,13 @@ abbrev pub Finished : List ℕ → ℕ → List ℕ → List ℕ → ℕ → Typ
 Finished row kept pool out n =
     (begun : List ℕ) (words : List (List ℕ)) → Holds row kept pool begun words → left words begun [] ≡ take n out
 
--- Calls one behind the other, from rows on, over an input, and all that they write. Each is lent any part of what is left of the input.
+-- Calls one behind the other, from rows on, over an input, and all that they write. Each is lent
+-- any part of what is left of the input.
 pub data Calls : List ℕ → ℕ → List ℕ → List ℕ → List ℕ → Type 0 where
   step : {row pool output : List ℕ} {kept : ℕ} (part more row₁ pool₁ out : List ℕ) (r : Fed)
       → Stepped part row kept pool row₁ pool₁ out r
       → Calls row₁ (r .kept) pool₁ (drop (r .taken) part ++ more) output
       → Calls row kept pool (part ++ more) (take (r .written) out ++ output)
-  last : {row pool : List ℕ} {kept : ℕ} (out : List ℕ) (n : ℕ) → Finished row kept pool out n → Calls row kept pool [] (take n out)
+  last : {row pool : List ℕ} {kept : ℕ} (out : List ℕ) (n : ℕ)
+      → Finished row kept pool out n
+      → Calls row kept pool [] (take n out)

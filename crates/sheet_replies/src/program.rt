@@ -1,4 +1,5 @@
-// The calls of a run: input of any length, part by part, with rows of the lengths that hold every line and every reply.
+// The calls of a run: input of any length, part by part, with rows that hold every line and every
+// reply.
 use crate::LINE;
 use crate::POOL;
 use crate::REPLY;
@@ -7,7 +8,6 @@ use crate::TEXT;
 use crate::input::Fed;
 use crate::input::feed;
 use crate::input::finish;
-ghost use Prim.Native.Nat.{_≤_, _<_};
 ghost use mathlib.Core.Path.{_≡_};
 ghost use mathlib.Core.Bool.{cond};
 ghost use lib.Dec.{eqb};
@@ -35,7 +35,8 @@ pub fn step(
         (length (lineWith (now (bytes .entry)) (now (line .entry)) kept))
         (amount (told (lineWith (now (bytes .entry)) (now (line .entry)) kept) (now (pool .entry))
         (length (now (scalars .entry))) (length (now (scratch .entry))) (now (ends .entry))) (now (out .entry))) ⌝ }
-    ensures { λ _. ⌜ now (line .exit) ≡ laid (lineWith (now (bytes .entry)) (now (line .entry)) kept) (now (line .entry)) ⌝ }
+    ensures { λ _. ⌜ now (line .exit) ≡
+        laid (lineWith (now (bytes .entry)) (now (line .entry)) kept) (now (line .entry)) ⌝ }
     ensures { λ _. ⌜ now (out .exit) ≡ cond (hasEnd (now (bytes .entry)))
         (written (told (lineWith (now (bytes .entry)) (now (line .entry)) kept) (now (pool .entry))
         (length (now (scalars .entry))) (length (now (scratch .entry))) (now (ends .entry))) (now (out .entry)))

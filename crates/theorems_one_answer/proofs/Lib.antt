@@ -8,3 +8,4 @@ pub mod Demand3
 pub mod Hosts
 pub mod Views
 pub mod Two
+pub mod Sheets

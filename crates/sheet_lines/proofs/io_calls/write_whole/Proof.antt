@@ -6,13 +6,6 @@ use lib.ListN.{length}
 use borrow.Author.Needs.{needs}
 use Rattle.sheet_lines.proofs.io_calls.write_whole.Statement.{statement}
 use Rattle.sheet_lines.proofs.io_calls.write_whole.Tie as tie
-use Rattle.sheet_lines.proofs.io_calls.write_whole.Reads as reads
-use Rattle.sheet_lines.proofs.io_calls.write_whole.Lts as lts
-use Rattle.io.proofs.count.Reads as count-reads
-use Rattle.io.proofs.write_all.Reads as write-all-reads
-use Rattle.libc.proofs.write.Reads as write-reads
-use Rattle.os.proofs.fail.Reads as fail-reads
-use Rattle.sheet_lines.proofs.io_calls.again.Reads as again-reads
 
 abbrev Inv-loop : tie.InvT-loop
 Inv-loop text at₀ turns₀ t6 t7 at turns = (at ≤ length text)
@@ -20,79 +13,60 @@ Inv-loop text at₀ turns₀ t6 t7 at turns = (at ≤ length text)
 abbrev μ-loop : tie.MeasureT-loop
 μ-loop text at₀ turns₀ t6 t7 at turns = turns
 
--- src/io_calls.rt:36:5
 loop-holds : tie.Need-loop-holds Inv-loop μ-loop
 loop-holds c = omega arith
 
--- src/io_calls.rt:38:13
 returns : tie.Need-returns Inv-loop μ-loop
 returns c = search needs
 
--- src/io_calls.rt:40:20
 sub-rest : tie.Need-sub-rest Inv-loop μ-loop
 sub-rest c = search needs
 
--- src/io_calls.rt:40:20
 part-rest-start : tie.Need-part-rest-start Inv-loop μ-loop
 part-rest-start c = search needs
 
--- src/io_calls.rt:40:20
 part-rest-end : tie.Need-part-rest-end Inv-loop μ-loop
 part-rest-end c = search needs
 
--- src/io_calls.rt:41:13
 write-requires : tie.Need-write-requires Inv-loop μ-loop
 write-requires c κs = search needs
 
--- src/io_calls.rt:45:17
 slice-aggregate-write-all : tie.Need-slice-aggregate-write-all Inv-loop μ-loop
 slice-aggregate-write-all c = search needs
 
--- src/io_calls.rt:43:13
 write-all-requires : tie.Need-write-all-requires Inv-loop μ-loop
 write-all-requires c κs = search needs
 
--- src/io_calls.rt:47:13
 returns-2 : tie.Need-returns-2 Inv-loop μ-loop
 returns-2 c = search needs
 
--- src/io_calls.rt:50:17
 again-requires : tie.Need-again-requires Inv-loop μ-loop
 again-requires c κs = search needs
 
--- src/io_calls.rt:51:26
 slice-aggregate-fail : tie.Need-slice-aggregate-fail Inv-loop μ-loop
 slice-aggregate-fail c = search needs
 
--- src/io_calls.rt:51:17
 fail-requires : tie.Need-fail-requires Inv-loop μ-loop
 fail-requires c κs = search needs
 
--- src/io_calls.rt:52:17
 returns-3 : tie.Need-returns-3 Inv-loop μ-loop
 returns-3 c = search needs
 
--- src/io_calls.rt:55:15
 count-requires : tie.Need-count-requires Inv-loop μ-loop
 count-requires c κs = search needs
 
--- src/io_calls.rt:55:9
 add-at : tie.Need-add-at Inv-loop μ-loop
 add-at c = search needs
 
--- src/io_calls.rt:56:9
 sub-turns : tie.Need-sub-turns Inv-loop μ-loop
 sub-turns c = search needs
 
--- src/io_calls.rt:36:5
 loop-less : tie.Need-loop-less Inv-loop μ-loop
 loop-less c = omega arith
 
--- src/io_calls.rt:36:5
 loop-again : tie.Need-loop-again Inv-loop μ-loop
 loop-again c = search needs
 
--- src/io_calls.rt:33:1
 returns-4 : tie.Need-returns-4 Inv-loop μ-loop
 returns-4 c = search needs
 
