@@ -20,6 +20,8 @@ TRIMMED = b"\t\n\v\f\r "
 
 MAX_LINE = 1024
 
+LONGEST_REPLY = 4008
+
 PARTS = (1, 2, 3, 7, 1023, 1024, 1025, 4096)
 
 
@@ -32,6 +34,13 @@ def letters(op, n):
     else:
         answer = b"! 7 %d" % (n - 1)
     return op + b"a" * (n - 1), answer
+
+
+def alternating(op, n):
+    """A line of n bytes whose text has a letter and a digit by turns: with no words each character is a token of its own, so
+    the ends are all positions. The longest line's reply is the longest reply."""
+    answer = b" ".join(b"%d" % end for end in range(1, n))
+    return op + (b"a1" * n)[:n - 1], answer
 
 
 def framing():
@@ -55,6 +64,12 @@ def framing():
     for n in 257, 1023, 1024, 1025, 1026:
         yield [letters(b"+", n), letters(b"-", n), (b"=a", b"1")]
     yield [(b"=" + b"a" * 1023 + b"\r", b"?"), (b"=" + b"\xff" * 1024, b"?"), (b"=" + b"\xff" * 1023, b"! 1 0")]
+    # the longest reply has 4,008 bytes with its line feed
+    for op in b"=", b"~":
+        longest = alternating(op, MAX_LINE)
+        if len(longest[1] + b"\n") != LONGEST_REPLY:
+            raise SystemExit("the longest reply has %d bytes" % len(longest[1] + b"\n"))
+        yield [alternating(op, 12), longest, (b"=a", b"1"), longest]
     yield [(b"?" * 3000, b"?"), (b"+a", b"1"), (b"+b" + b"c" * 5000, b"?"), (b"-b", b"0"), (b"-a", b"1")]
 
 

@@ -7,3 +7,7 @@ pub mod Holding
 pub mod Spacing
 pub mod Feeding
 pub mod Long
+pub mod Counting
+pub mod ByWords
+pub mod Telling
+pub mod Turning

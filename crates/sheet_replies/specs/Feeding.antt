@@ -26,7 +26,8 @@ askedIf false line = Nothing
 
 -- the text that is written for a line; the rows for scalars, scratch and ends are those of the call
 abbrev pub told : List ℕ → List ℕ → ℕ → ℕ → List ℕ → List ℕ
-told line pool room cells ends = lineOf (replyOf line pool room cells (length ends)) (endsAfter (asked line) (textOf line) pool room cells ends)
+told line pool room cells ends =
+    lineOf (replyOf line pool room cells (length ends)) (endsAfter (asked line) (textOf line) pool room cells ends)
 
 -- where a line ends, it is taken with its line feed and answered; else all bytes are taken and kept
 abbrev pub fedWith : Bool → ℕ → ℕ → ℕ → Fed

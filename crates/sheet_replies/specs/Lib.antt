@@ -2,3 +2,4 @@ pub mod Lines
 pub mod Replies
 pub mod Texts
 pub mod Feeding
+pub mod Program

@@ -25,7 +25,9 @@ use Rattle.sheet_replies.specs.declared.reply.Reply.the-variants.{Unknow
 
 -- `+` adds, `-` removes, `=` cuts plainly, `~` safely. Another first byte asks nothing.
 abbrev pub askedBy : ℕ → Asked
-askedBy op = cond (eqb op 43) Add (cond (eqb op 45) Remove (cond (eqb op 61) (Cut Plain) (cond (eqb op 126) (Cut Safe) Nothing)))
+askedBy op =
+    cond (eqb op 43) Add
+    (cond (eqb op 45) Remove (cond (eqb op 61) (Cut Plain) (cond (eqb op 126) (Cut Safe) Nothing)))
 
 -- An empty line, or one of more than 1,024 bytes, asks nothing.
 abbrev pub asked : List ℕ → Asked
@@ -45,7 +47,8 @@ removeText text pool room = next (decoded text room) (removeAnswer (scalarsOf te
 
 -- A cut: accepted with the number of ends.
 abbrev pub cutText : Mode → List ℕ → List ℕ → ℕ → ℕ → ℕ → Answer
-cutText mode text pool room cells places = next (decoded text room) (accepts mode (scalarsOf text) (meaning pool) cells places)
+cutText mode text pool room cells places =
+    next (decoded text room) (accepts mode (scalarsOf text) (meaning pool) cells places)
 
 -- It writes 0 or 1, the ends, or `! number detail`.
 abbrev pub reported : Answer → Reply
@@ -74,7 +77,8 @@ textOf line = drop 1 line
 abbrev pub replyOf : List ℕ → List ℕ → ℕ → ℕ → ℕ → Reply
 replyOf line pool room cells places = replyTo (asked line) (textOf line) pool room cells places
 
--- An addition and a removal change the pool as the dictionary's own calls do; nothing else changes it.
+-- An addition and a removal change the pool as the dictionary's own calls do; nothing else
+-- changes it.
 unfoldable pub PoolAfter : Asked → List ℕ → List ℕ → List ℕ → ℕ → Type 0
 PoolAfter Nothing text old new room = new ≡ old
 PoolAfter Add text old new room = After (addText text old room) old new (added (scalarsOf text) old)
@@ -93,17 +97,21 @@ unfoldable pub endsAfter : Asked → List ℕ → List ℕ → ℕ → ℕ → L
 endsAfter Nothing text pool room cells row = row
 endsAfter Add text pool room cells row = row
 endsAfter Remove text pool room cells row = row
-endsAfter (Cut mode) text pool room cells row = output (cutText mode text pool room cells (length row)) (cutOf mode (held (meaning pool)) (scalarsOf text) .ends) row
+endsAfter (Cut mode) text pool room cells row =
+    output (cutText mode text pool room cells (length row))
+    (cutOf mode (held (meaning pool)) (scalarsOf text) .ends) row
 
 -- Scratch is all zero where there was a cut.
 unfoldable pub scratchAfter : Asked → List ℕ → List ℕ → ℕ → List ℕ → List ℕ
 scratchAfter Nothing text pool room row = row
 scratchAfter Add text pool room row = row
 scratchAfter Remove text pool room row = row
-scratchAfter (Cut mode) text pool room row = cleared (next (decoded text room) (answer (firstCauses (scalarsOf text) (meaning pool) (length row)) 0)) row
+scratchAfter (Cut mode) text pool room row =
+    cleared (next (decoded text room) (answer (firstCauses (scalarsOf text) (meaning pool) (length row)) 0)) row
 
 -- the rows that are lent to a line, before and after
-pub record RowsAfter (what : Asked) (text pool pool₁ scalars scalars₁ ends ends₁ scratch scratch₁ : List ℕ) : Type 0 where
+pub record RowsAfter (what : Asked) (text pool pool₁ scalars scalars₁ ends ends₁ scratch scratch₁ : List ℕ)
+    : Type 0 where
   pub pool-is : PoolAfter what text pool pool₁ (length scalars)
   pub scalars-are : scalars₁ ≡ scalarsAfter what text scalars
   pub ends-are : ends₁ ≡ endsAfter what text pool (length scalars) (length scratch) ends

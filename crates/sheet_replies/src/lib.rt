@@ -1,5 +1,6 @@
 // The line program, on slices: the bytes of a line, what the line asks, and the text of its reply.
-//   feed         takes bytes up to the first line feed, and writes the reply of the line that ends there
+//   step, last   a run: input of any length, part by part, with rows of the lengths below
+//   feed         takes bytes up to the first line feed, and writes that line's reply
 //   finish       writes the reply of a last line without a line feed
 //   line_end     where the first line feed stands
 //   keep         adds bytes to those at the front of a row
@@ -8,6 +9,7 @@
 //   write_reply  the reply as a line of text
 mod input;
 mod line;
+mod program;
 mod reply;
 mod text;
 
@@ -17,11 +19,14 @@ pub use input::finish;
 pub use line::front;
 pub use line::keep;
 pub use line::line_end;
+pub use program::last;
+pub use program::step;
 pub use reply::Reply;
 pub use reply::answer_line;
 pub use text::write_reply;
 
 // The rows of a run are so long: a line, the pool, scalars and ends, scratch, the text of a reply.
+// The contracts of `step` and `last` rest on these lengths.
 
 // One more than the bytes that a line may have, so that a longer line is known by its first bytes.
 pub const LINE: usize = 1025;

@@ -1,6 +1,7 @@
 // The bytes of a line.
 ghost use mathlib.Core.Path.{_≡_};
 ghost use lib.ListN.{length, take};
+ghost use denote.Ref.{ptr};
 ghost use Rattle.sheet_replies.specs.Lines.{lineEnd, kept, laid};
 
 // Where the first line feed stands, or the length where there is none.
@@ -17,7 +18,8 @@ pub fn line_end(bytes: &[u8]) -> usize
     i
 }
 
-// Adds the bytes of a part to the first `used` of a row, as far as there is room. Answers how many there are then.
+// Adds the bytes of a part to the first `used` of a row, as far as there is room. Answers how many
+// there are then.
 pub fn keep(row: &mut [u8], used: usize, part: &[u8]) -> usize
     ensures { λ r. ⌜ r ≡ length (kept (now (row .entry)) used (now (part .entry))) ⌝ }
     ensures { λ _. ⌜ now (row .exit) ≡ laid (kept (now (row .entry)) used (now (part .entry))) (now (row .entry)) ⌝ }
@@ -38,9 +40,10 @@ pub fn keep(row: &mut [u8], used: usize, part: &[u8]) -> usize
     n
 }
 
-// The first n bytes of a row, or all of it where there are fewer.
+// The first n bytes of a row, or all of it where there are fewer: that part of the row itself.
 pub fn front(row: &[u8], n: usize) -> &[u8]
     ensures { λ r. ⌜ now r ≡ take n (now (row .entry)) ⌝ }
+    ensures { λ r. ⌜ ptr r ≡ ptr (row .entry) ⌝ }
 {
     if n < row.len() {
         return &row[..n];

@@ -12,7 +12,9 @@ ghost use Rattle.trie_check.specs.Refusals.{held};
 ghost use Rattle.trie_char.specs.Answers.{added, removed};
 ghost use Rattle.trie_char.specs.Changes.{After};
 ghost use Rattle.newmm_answers.specs.Answers.{cutOf, firstCauses, cleared};
-ghost use Rattle.sheet_replies.specs.Replies.{asked as askedOf, next, addText, removeText, cutText, reported as reportedOf, ended as endedOf, endedBy, textOf, replyOf, RowsAfter};
+ghost use Rattle.sheet_replies.specs.Replies.{asked as askedOf, next, addText, removeText, cutText};
+ghost use Rattle.sheet_replies.specs.Replies.{reported as reportedOf, ended as endedOf, endedBy, textOf, replyOf};
+ghost use Rattle.sheet_replies.specs.Replies.{RowsAfter};
 
 // The most bytes that a line may have, without its line feed.
 const MAX_LINE: usize = 1024;
@@ -82,10 +84,13 @@ fn ended(answer: CutAnswer) -> Reply
 }
 
 fn add(text: &[u8], pool: &mut [u32], scalars: &mut [u32]) -> Reply
-    ensures { λ r. ⌜ r ≡ reportedOf (addText (now (text .entry)) (now (pool .entry)) (length (now (scalars .entry)))) ⌝ }
-    ensures { λ _. ⌜ After (addText (now (text .entry)) (now (pool .entry)) (length (now (scalars .entry)))) (now (pool .entry)) (now (pool .exit))
+    ensures { λ r. ⌜ r ≡ reportedOf
+        (addText (now (text .entry)) (now (pool .entry)) (length (now (scalars .entry)))) ⌝ }
+    ensures { λ _. ⌜ After (addText (now (text .entry)) (now (pool .entry)) (length (now (scalars .entry))))
+        (now (pool .entry)) (now (pool .exit))
         (added (scalarsOf (now (text .entry))) (now (pool .entry))) ⌝ }
-    ensures { λ _. ⌜ now (scalars .exit) ≡ output (decoded (now (text .entry)) (length (now (scalars .entry)))) (scalarsOf (now (text .entry))) (now (scalars .entry)) ⌝ }
+    ensures { λ _. ⌜ now (scalars .exit) ≡ output (decoded (now (text .entry)) (length (now (scalars .entry))))
+        (scalarsOf (now (text .entry))) (now (scalars .entry)) ⌝ }
 {
     let decoded = utf8::decode(text, scalars);
     match decoded {
@@ -95,10 +100,13 @@ fn add(text: &[u8], pool: &mut [u32], scalars: &mut [u32]) -> Reply
 }
 
 fn remove(text: &[u8], pool: &mut [u32], scalars: &mut [u32]) -> Reply
-    ensures { λ r. ⌜ r ≡ reportedOf (removeText (now (text .entry)) (now (pool .entry)) (length (now (scalars .entry)))) ⌝ }
-    ensures { λ _. ⌜ After (removeText (now (text .entry)) (now (pool .entry)) (length (now (scalars .entry)))) (now (pool .entry)) (now (pool .exit))
+    ensures { λ r. ⌜ r ≡ reportedOf
+        (removeText (now (text .entry)) (now (pool .entry)) (length (now (scalars .entry)))) ⌝ }
+    ensures { λ _. ⌜ After (removeText (now (text .entry)) (now (pool .entry)) (length (now (scalars .entry))))
+        (now (pool .entry)) (now (pool .exit))
         (removed (scalarsOf (now (text .entry))) (now (pool .entry))) ⌝ }
-    ensures { λ _. ⌜ now (scalars .exit) ≡ output (decoded (now (text .entry)) (length (now (scalars .entry)))) (scalarsOf (now (text .entry))) (now (scalars .entry)) ⌝ }
+    ensures { λ _. ⌜ now (scalars .exit) ≡ output (decoded (now (text .entry)) (length (now (scalars .entry))))
+        (scalarsOf (now (text .entry))) (now (scalars .entry)) ⌝ }
 {
     let decoded = utf8::decode(text, scalars);
     match decoded {
@@ -115,13 +123,18 @@ fn cut(
     scratch: &mut [u32],
     mode: Mode,
 ) -> Reply
-    ensures { λ r. ⌜ r ≡ endedOf (cutText mode (now (text .entry)) (now (pool .entry)) (length (now (scalars .entry))) (length (now (scratch .entry))) (length (now (ends .entry)))) ⌝ }
-    ensures { λ _. ⌜ now (scalars .exit) ≡ output (decoded (now (text .entry)) (length (now (scalars .entry)))) (scalarsOf (now (text .entry))) (now (scalars .entry)) ⌝ }
+    ensures { λ r. ⌜ r ≡ endedOf (cutText mode (now (text .entry)) (now (pool .entry)) (length (now (scalars .entry)))
+        (length (now (scratch .entry))) (length (now (ends .entry)))) ⌝ }
+    ensures { λ _. ⌜ now (scalars .exit) ≡ output (decoded (now (text .entry)) (length (now (scalars .entry))))
+        (scalarsOf (now (text .entry))) (now (scalars .entry)) ⌝ }
     ensures { λ _. ⌜ now (ends .exit) ≡ output
-        (cutText mode (now (text .entry)) (now (pool .entry)) (length (now (scalars .entry))) (length (now (scratch .entry))) (length (now (ends .entry))))
+        (cutText mode (now (text .entry)) (now (pool .entry)) (length (now (scalars .entry)))
+        (length (now (scratch .entry))) (length (now (ends .entry))))
         (cutOf mode (held (meaning (now (pool .entry)))) (scalarsOf (now (text .entry))) .ends) (now (ends .entry)) ⌝ }
     ensures { λ _. ⌜ now (scratch .exit) ≡ cleared
-        (next (decoded (now (text .entry)) (length (now (scalars .entry)))) (answer (firstCauses (scalarsOf (now (text .entry))) (meaning (now (pool .entry))) (length (now (scratch .entry)))) 0))
+        (next (decoded (now (text .entry)) (length (now (scalars .entry))))
+        (answer (firstCauses (scalarsOf (now (text .entry))) (meaning (now (pool .entry)))
+        (length (now (scratch .entry)))) 0))
         (now (scratch .entry)) ⌝ }
 {
     let decoded = utf8::decode(text, scalars);
@@ -131,8 +144,8 @@ fn cut(
     }
 }
 
-// The reply to a line, of which the bytes behind the first are the text. An addition or a removal changes the pool, a cut
-// leaves its ends at the front of `ends`.
+// The reply to a line, of which the bytes behind the first are the text. An addition or a removal
+// changes the pool, a cut leaves its ends at the front of `ends`.
 pub fn answer_line(
     line: &[u8],
     pool: &mut [u32],
@@ -140,9 +153,11 @@ pub fn answer_line(
     ends: &mut [u32],
     scratch: &mut [u32],
 ) -> Reply
-    ensures { λ r. ⌜ r ≡ replyOf (now (line .entry)) (now (pool .entry)) (length (now (scalars .entry))) (length (now (scratch .entry))) (length (now (ends .entry))) ⌝ }
+    ensures { λ r. ⌜ r ≡ replyOf (now (line .entry)) (now (pool .entry)) (length (now (scalars .entry)))
+        (length (now (scratch .entry))) (length (now (ends .entry))) ⌝ }
     ensures { λ _. ⌜ RowsAfter (askedOf (now (line .entry))) (textOf (now (line .entry)))
-        (now (pool .entry)) (now (pool .exit)) (now (scalars .entry)) (now (scalars .exit)) (now (ends .entry)) (now (ends .exit)) (now (scratch .entry)) (now (scratch .exit)) ⌝ }
+        (now (pool .entry)) (now (pool .exit)) (now (scalars .entry)) (now (scalars .exit))
+        (now (ends .entry)) (now (ends .exit)) (now (scratch .entry)) (now (scratch .exit)) ⌝ }
 {
     let asked = asks(line);
     match asked {

@@ -69,7 +69,8 @@ fn write_text(out: &mut [u8], reply: Reply, ends: &[u32]) -> usize
     }
 }
 
-// Writes the reply with its line feed to the front of `out`, as far as there is room. Answers how many bytes that is.
+// Writes the reply with its line feed to the front of `out`, as far as there is room. Answers how
+// many bytes that is.
 pub fn write_reply(reply: Reply, ends: &[u32], out: &mut [u8]) -> usize
     ensures { λ r. ⌜ r ≡ amount (lineOf reply (now (ends .entry))) (now (out .entry)) ⌝ }
     ensures { λ _. ⌜ now (out .exit) ≡ written (lineOf reply (now (ends .entry))) (now (out .entry)) ⌝ }

@@ -1,4 +1,5 @@
-// Replays the test vectors of the line program: for each line of standard input the bytes that the program writes.
+// Replays the test vectors of the line program: for each line of standard input the bytes that the
+// program writes.
 use sheet_replies::LINE;
 use sheet_replies::POOL;
 use sheet_replies::REPLY;

@@ -7,3 +7,4 @@ pub mod Cut
 pub mod Demand3
 pub mod Hosts
 pub mod Views
+pub mod Sheets

@@ -224,6 +224,7 @@ spelled-4 v a e (four {lo} {hi} r o) h k =
     }
 
 spelled : (v : ℕ) → isScalar v ≡ true → Spelled v (bytesOf v)
+unfolding isScalar
 spelled v s = go (ltb v 0x80) refl (ltb v 0x800) refl (ltb v 0x10000) refl
   where
     largest : (t : Bool) → ltb v 0xD800 ≡ t → (t || within 0xE000 0x10FFFF v) ≡ true → v ≤ 0x10FFFF

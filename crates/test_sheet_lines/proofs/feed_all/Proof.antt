@@ -58,7 +58,7 @@ add-at c =
     let c28 = c26 .before .before in
     let c29 = c28 .before in
     let c38 = c29 .before .before .before .before .before .before .before .before .before in
-    let m = moves (c38 .args .bytes .now) _ (c29 .loop .at) (c38 .args .most) _ _ (c38 .pre) (c26 .front .ensures)
+    let m = moves (c38 .args .bytes .now) _ (c29 .loop .at) (c38 .args .most) _ _ (c38 .pre) (c26 .front .ensures .0)
     (c19 .feed .ensures .0) (c28 .loop-test .taken) in
     let b = c38 .good in
     omega arith
@@ -70,15 +70,16 @@ loop-less c =
     let c28 = c26 .before .before in
     let c29 = c28 .before in
     let c38 = c29 .before .before .before .before .before .before .before .before .before in
-    let m = moves (c38 .args .bytes .now) _ (c29 .loop .at) (c38 .args .most) _ _ (c38 .pre) (c26 .front .ensures)
+    let m = moves (c38 .args .bytes .now) _ (c29 .loop .at) (c38 .args .most) _ _ (c38 .pre) (c26 .front .ensures .0)
     (c19 .feed .ensures .0) (c28 .loop-test .taken) in
     omega arith
 
 loop-again : tie.Need-loop-again Inv-loop μ-loop
 loop-again c =
-    let c29 = c .before .before .before .before .before .before .before .before .before .before .before .before .before .before .before .before .before .before .before .before .before .before .before .before .before .before .before .before .before in
+    let c19 = c .before .before .before .before .before .before .before .before .before .before .before .before .before .before .before .before .before .before .before in
+    let c29 = c19 .before .before .before .before .before .before .before .before .before .before in
     let v = c29 .loop .inv in
-    (search needs, search needs, search needs, search needs, search needs, search needs, search needs)
+    (c19 .feed .kept .1 .0 ∙ v .0, search needs, search needs, search needs, search needs, search needs, search needs)
 
 finish-requires : tie.Need-finish-requires Inv-loop μ-loop
 finish-requires c κs = search needs

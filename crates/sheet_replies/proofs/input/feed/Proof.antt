@@ -92,7 +92,7 @@ returns-2 c =
     let c24 = c21 .before .before .before in
     let c32 = c24 .before .before .before .before .before .before .before .before in (
       end-fed (c32 .args .bytes .now) (c32 .args .line .now) (c32 .args .kept) (c24 .line-end .ensures)
-          (c21 .keep .ensures .0) (c21 .keep .ensures .1) (c18 .if1 .left) (c16 .front .ensures) (c32 .args .pool .now)
+          (c21 .keep .ensures .0) (c21 .keep .ensures .1) (c18 .if1 .left) (c16 .front .ensures .0) (c32 .args .pool .now)
           (c32 .args .scalars .now) (c32 .args .ends .now) (c32 .args .scratch .now) (c32 .args .out .now)
           (c10 .told .ensures .0),
       (
@@ -100,11 +100,11 @@ returns-2 c =
             (c21 .keep .ensures .0) (c21 .keep .ensures .1),
         (
           end-out (c32 .args .bytes .now) (c32 .args .line .now) (c32 .args .kept) (c24 .line-end .ensures)
-              (c21 .keep .ensures .0) (c21 .keep .ensures .1) (c18 .if1 .left) (c16 .front .ensures) (c32 .args .pool .now)
+              (c21 .keep .ensures .0) (c21 .keep .ensures .1) (c18 .if1 .left) (c16 .front .ensures .0) (c32 .args .pool .now)
               (c32 .args .scalars .now) (c32 .args .ends .now) (c32 .args .scratch .now) (c32 .args .out .now)
               (c10 .told .ensures .1 .0),
           end-rows (c32 .args .bytes .now) (c32 .args .line .now) (c32 .args .kept)
-              (c24 .line-end .ensures) (c21 .keep .ensures .0) (c21 .keep .ensures .1) (c18 .if1 .left) (c16 .front .ensures)
+              (c24 .line-end .ensures) (c21 .keep .ensures .0) (c21 .keep .ensures .1) (c18 .if1 .left) (c16 .front .ensures .0)
               (c32 .args .pool .now) (c32 .args .scalars .now) (c32 .args .ends .now) (c32 .args .scratch .now)
               (c32 .args .out .now) (c10 .told .ensures .1 .1),
         ),

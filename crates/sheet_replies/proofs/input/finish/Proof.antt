@@ -52,14 +52,14 @@ returns-2 c =
     let c17 = c16 .before in
     let c24 = c17 .before .before .before .before .before .before .before in (
       last-size (c24 .args .line .now) (c24 .args .kept) (c24 .args .pool .now) (c24 .args .scalars .now)
-          (c24 .args .ends .now) (c24 .args .scratch .now) (c17 .if1 .left) (c16 .front .ensures) (c24 .args .out .now)
+          (c24 .args .ends .now) (c24 .args .scratch .now) (c17 .if1 .left) (c16 .front .ensures .0) (c24 .args .out .now)
           (c10 .told .ensures .0),
       (
         last-out (c24 .args .line .now) (c24 .args .kept) (c24 .args .pool .now) (c24 .args .scalars .now)
-            (c24 .args .ends .now) (c24 .args .scratch .now) (c17 .if1 .left) (c16 .front .ensures) (c24 .args .out .now)
+            (c24 .args .ends .now) (c24 .args .scratch .now) (c17 .if1 .left) (c16 .front .ensures .0) (c24 .args .out .now)
             (c10 .told .ensures .1 .0),
         last-rows (c24 .args .line .now) (c24 .args .kept) (c24 .args .pool .now)
-            (c24 .args .scalars .now) (c24 .args .ends .now) (c24 .args .scratch .now) (c17 .if1 .left) (c16 .front .ensures)
+            (c24 .args .scalars .now) (c24 .args .ends .now) (c24 .args .scratch .now) (c17 .if1 .left) (c16 .front .ensures .0)
             (c10 .told .ensures .1 .1),
       ),
     )
