@@ -30,7 +30,7 @@ use Rattle.trie_char.specs.Refusals.{nodesWith}
 use Rattle.trie_char.specs.Answers.{added, removed, addAnswer, removeAnswer, wordsOf}
 use Rattle.trie_char.specs.Changes.{Became, After}
 use Rattle.newmm_rules.specs.declared.Mode.{Mode}
-use Rattle.newmm_rules.specs.Climbing.{Climbs}
+use Rattle.newmm_rules.specs.inner.Climbing.{Climbs}
 use Rattle.newmm_rules.proofs.Climbing.{few}
 use Rattle.newmm_rules.proofs.Modes.{modes-climb}
 use Rattle.newmm_answers.specs.Answers.{plainCut, cutOf, accepts}

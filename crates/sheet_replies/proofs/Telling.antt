@@ -24,7 +24,7 @@ use Rattle.trie_check.specs.Refusals.{held}
 use Rattle.trie_char.specs.Answers.{added, removed, wordsOf}
 use Rattle.trie_char.specs.Changes.{Became, After}
 use Rattle.newmm_rules.specs.declared.Mode.{Mode}
-use Rattle.newmm_rules.specs.Climbing.{Climbs, there, up}
+use Rattle.newmm_rules.specs.inner.Climbing.{Climbs, there, up}
 use Rattle.newmm_rules.proofs.Climbing.{few, onward}
 use Rattle.newmm_answers.specs.Answers.{cutOf}
 use Rattle.sheet_replies.specs.declared.reply.Asked.{Asked}
