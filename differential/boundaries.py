@@ -39,7 +39,7 @@ def edges():
         yield [KO * k for k in range(1, n + 1)], KO * (n + 1) + NGO + KO
 
 
-def newmm_non_thai():
+def non_thai():
     """Runs of the five alternatives and what ends them: alone, between Thai, and with words that start in them."""
     runs = ["12,5.a", "1,", "1,,2", "1.", "1..2", "1" + DIGIT, DIGIT + "1", ",1", ".", "1,2,", "-", "--", "a-", "-1-", "a1", "1a", "aZ-z"]
     runs += ["\r", "\n", "\r\n", "\r\r\n", "\n\r", "\r\n\r\n", "\t", "\t\t", " \t ", "  ", " \n", "\v", "\f", "\u00a0", "\u0e3f", "\U0001f600", "a\u00e9"]
@@ -82,7 +82,7 @@ def cases():
     """A mode, words and a text, in order; both modes where the text is long enough to be cut in parts."""
     for mode, held, text, _ in DOCUMENT:
         yield mode, held, text
-    for made in edges, newmm_non_thai, skips, lengths:
+    for made in edges, non_thai, skips, lengths:
         for held, text in made():
             yield "plain", held, text
             if len(text) >= 139:
