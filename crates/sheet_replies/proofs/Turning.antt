@@ -1,4 +1,5 @@
--- Calls with the rows of a run: what each takes of the run, and that any parts of the input give the whole run. Assumes nothing.
+-- Calls with the rows of a run: what each takes of the run, and that any parts of the input give
+-- the whole run. Assumes nothing.
 use Prim.Native.Nat.{ℕ, zero, suc, _+_, _≤_, _<_}
 use native.Mathlib.Omega.{arith}
 use native.Mathlib.Numerals.{add-one}
