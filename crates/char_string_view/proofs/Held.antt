@@ -4,8 +4,8 @@
 --     fields                  a view's fields' values
 --     own, own-fields         what a view owns, and what its fields own together
 --     opens                   a view is Copy: it keeps what it owns, beside what its fields own
---     fields-then, behind     what a callee asks that takes the fields and then more; that it is had
---     numbers, Fits, made     what numbers own as arguments side by side, that each fits; that it is had
+--     fields-then, behind     what a callee that takes the fields and then more asks; its proof
+--     numbers, Fits, made     what numbers own as arguments, that each fits, and the proof
 --     says-both               the walk's end, where the contract has two clauses that state facts
 -- `opens`, `behind`, `made` and `says-both` take `Given`. The rest assumes nothing.
 use Prim.Native.Nat.{ℕ, _<_, _^_}

@@ -8,7 +8,7 @@
 //   behind(text, at, mark) -> usize  where the part after that one starts; less text is left
 //   field(line, k) -> &[u8]          the k-th field of a line from 0 on; empty if there is none
 //   is(text, name) -> bool           whether the two are the same bytes
-//   head(text) -> u8,                tail(text)   the first byte, 0 if there is none, and the text without it
+//   head(text) -> u8, tail(text)     the first byte, 0 if there is none, and the text without it
 //   number(text) -> usize            a decimal number; `*` and what is larger give the largest
 //   lent(text, most) -> usize        the length of a lent row: the number, `most` if that is less
 //   read_cells(text, row) -> usize   `E01.20*3`, `-` for none, to row's front; how many cells
