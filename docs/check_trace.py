@@ -5,7 +5,7 @@ its crate, and an op of a test in the first fields of the test's stdin.
 
 It also holds the table of public operations in docs/ASSESSMENT.md to the code: each operation is there and has no
 `requires`, its theorem and its wrong programs are there, and no other function that these crates export goes without a
-`requires`.
+`requires`. A function that C can call has none, and stands in the table or is named on that page.
 """
 import glob
 import os
@@ -140,6 +140,14 @@ def operations():
         for name in exported(crate):
             if (crate, name) not in public and "requires" not in header(crate, name):
                 yield "%s::%s is exported without a requires and is not in the table" % (crate, name)
+    page = text(ROOT, "docs", "ASSESSMENT.md")
+    for file in sorted(glob.glob(os.path.join(CRATES, "*", "src", "*.rt"))):
+        crate = file.split(os.sep)[-3]
+        for name in re.findall(r'(?m)^pub extern "C" fn (\w+)\(', text(file)):
+            if "requires" in header(crate, name):
+                yield "%s::%s can be called from C and has a requires" % (crate, name)
+            if (crate, name) not in public and "`%s`" % name not in page:
+                yield "%s::%s can be called from C and is not named" % (crate, name)
     if not public:
         yield "no table of public operations"
 

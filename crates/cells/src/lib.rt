@@ -1,4 +1,4 @@
-// Rows of cells that are lent, for our own crates:
+// Rows of cells that are lent to be filled, moved or cleared.
 //   wide, narrow              a cell as a number, and a number as a cell
 //   shift                     adds a number to the first cells
 //   clear_from, clear_first   sets the cells from a place on to 0, or those before it

@@ -1,11 +1,11 @@
 -- What a `CharView` owns, for the proofs of the functions that take one.
---     Row, Type-of, Laws-of   the struct's row, its description and its laws, over a signature's one lifetime
---     Local, Local-laws       the description and the laws as a local of a body has them, where MIR erases the lifetime
+--     Row, Type-of, Laws-of   the struct's row, its description and its laws, over one lifetime
+--     Local, Local-laws       the same as a local of a body has them, where MIR erases the lifetime
 --     fields                  a view's fields' values
 --     own, own-fields         what a view owns, and what its fields own together
---     opens                   a view is Copy: what it owns is kept, and what its fields own is had beside it
---     fields-then, behind     what a callee asks that takes the fields and then what F is about, and that it is had of the two
---     numbers, Fits, made     what numbers own as arguments that follow each other, that each fits, and that it is had then
+--     opens                   a view is Copy: it keeps what it owns, beside what its fields own
+--     fields-then, behind     what a callee that takes the fields and then more asks; its proof
+--     numbers, Fits, made     what numbers own as arguments, that each fits, and the proof
 --     says-both               the walk's end, where the contract has two clauses that state facts
 -- `opens`, `behind`, `made` and `says-both` take `Given`. The rest assumes nothing.
 use Prim.Native.Nat.{ℕ, _<_, _^_}

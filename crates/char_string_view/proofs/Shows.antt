@@ -1,4 +1,5 @@
--- A sub-view shows that part of what the view shows, and lies where that part lies. Assumes nothing.
+-- A sub-view shows that part of what the view shows, and lies where that part lies. Assumes
+-- nothing.
 use Prim.Native.Nat.{ℕ, _-_}
 use native.Mathlib.Omega.{arith}
 use mathlib.Core.Path.{_≡_, sym, _∙_, ap}

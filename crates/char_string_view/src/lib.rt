@@ -1,5 +1,5 @@
-// A view over the caller's scalars with a start and an end, after `CharString`. A view whose numbers don't fit is read as
-// empty: what a view shows is `shown`, and every answer is about that.
+// A view over the caller's scalars with a start and an end, after `CharString`. A view whose
+// numbers don't fit is read as empty: what a view shows is `shown`, and every answer is about that.
 use char_string::CharAt;
 ghost use mathlib.Core.Path.{_≡_};
 ghost use lib.ListN.{length};
@@ -35,7 +35,8 @@ impl<'a> CharView<'a> {
         char_string::get_char_at(self.text, self.start, self.end, index)
     }
 
-    // The view between two positions of this one. A wrong pair gives the empty view at the view's start.
+    // The view between two positions of this one. A wrong pair gives the empty view at the view's
+    // start.
     pub fn sub_view(self, from: usize, to: usize) -> CharView<'a>
         ensures { λ v. ⌜ v ≡ subViewOf (self .entry) from to ⌝ }
     {
@@ -56,7 +57,8 @@ impl<'a> CharView<'a> {
     }
 }
 
-// The view of a view. The functions below make one and ask it. Their parameters are plain, so a caller holds no view.
+// The view of a view. The functions below make one and ask it. Their parameters are plain, so a
+// caller holds no view.
 fn sub_view_of<'a>(
     text: &'a [u32],
     start: usize,
@@ -93,7 +95,8 @@ pub fn sub_get_char_at(
 // A part of a part: the caller's cells themselves, no copy.
 pub fn sub_part(text: &[u32], start: usize, end: usize, from: usize, to: usize) -> &[u32]
     ensures { λ r. ⌜ now r ≡ partOf (partOf (now (text .entry)) start end) from to ⌝ }
-    ensures { λ r. ⌜ ptr r ≡ cellAt (ptr (text .entry)) (subView (fitted (length (now (text .entry))) start end) from to .start) ⌝ }
+    ensures { λ r. ⌜ ptr r ≡ cellAt (ptr (text .entry))
+        (subView (fitted (length (now (text .entry))) start end) from to .start) ⌝ }
 {
     sub_view_of(text, start, end, from, to).part()
 }

@@ -1,4 +1,5 @@
--- Telling an answer whose case is known, and telling on an answer that a library gave. Assumes nothing.
+-- Telling an answer whose case is known, and telling on an answer that a library gave. Assumes
+-- nothing.
 use Prim.Native.Nat.{ℕ}
 use mathlib.Core.Path.{_≡_, sym, ap, _∙_, subst}
 use mathlib.Core.List.{List}

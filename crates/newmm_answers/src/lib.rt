@@ -12,7 +12,7 @@ pub enum CutAnswer {
     Refused(Refusal),
 }
 
-// The scratch cells that a cut of n characters asks for. For our own crates.
+// The scratch cells that a cut of n characters asks for.
 pub fn scratch_for(n: usize) -> usize
     requires { ⌜ n ≤ 65536 ⌝ }
     ensures { λ r. ⌜ r ≡ scratchFor n ⌝ }

@@ -30,7 +30,8 @@ agree-same m row = record { size = refl; low = refl; high = refl }
 pub agree-on : {m : ℕ} {row₀ row row′ : List ℕ} → Agree m row₀ row → Agree m row row′ → Agree m row₀ row′
 agree-on a b = record { size = b .size ∙ a .size; low = b .low ∙ a .low; high = b .high ∙ a .high }
 
--- numbers that the indices need: as many vertices are queued as are marked, and none from the goal on
+-- numbers that the indices need: as many vertices are queued as are marked, and none from the goal
+-- on
 pub record Good (row : List ℕ) (m a goal tail : ℕ) : Type 0 where
   pub sized : Sized row m
   pub order : a < goal

@@ -1,6 +1,6 @@
 // The strips of the scratch, and the breadth-first search of plain cutting in them. An edge between
 // the start and the goal is read once, and cells of other places are not touched, so nothing has to
-// be cleared between two searches. For our own crates.
+// be cleared between two searches.
 use cells::narrow;
 use cells::wide;
 ghost use mathlib.Core.Path.{_≡_};

@@ -1,5 +1,5 @@
 // Step 1 of plain cutting: the words at a place become edges and candidates, in strips of the
-// scratch. For our own crates.
+// scratch.
 use cells::narrow;
 use newmm_bfs::CANDIDATES;
 use newmm_bfs::CLUSTER_ENDS;

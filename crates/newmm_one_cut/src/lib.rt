@@ -1,4 +1,4 @@
-// Plain cutting, after newmm.rs: the loop over candidates. For our own crates.
+// Plain cutting, after newmm.rs: the loop over candidates.
 use cells::clear_from;
 use cells::narrow;
 use newmm_bfs::CANDIDATES;

@@ -6,8 +6,9 @@ use mathlib.Core.List.{List, [], _++_, append-assoc, append-nil}
 use lib.ListN.{length, take, drop, length-drop, drop-of-length-le}
 use lib.Seq.{take-at, drop-at, drop-drop}
 
--- W stands at the front of the row; a callee put w at the front of what follows; then W and w stand there, and the rest is as it was. The left side is
--- what the borrow checker says of the row when the part is back.
+-- W stands at the front of the row; a callee put w at the front of what follows; then W and w stand
+-- there, and the rest is as it was. The left side is what the borrow checker says of the row when
+-- the part is back.
 pub behind : (old row ys W w : List ℕ) (n k : ℕ) → n ≡ length W → row ≡ W ++ drop n old → ys ≡ w ++ drop k (drop n row)
     → take n row ++ (ys ++ drop (length row - n) (drop n row)) ≡ (W ++ w) ++ drop (n + k) old
 behind old row ys W w n k e a b =

@@ -12,7 +12,8 @@ use Rattle.newmm_rules.specs.inner.Climbing.{Climbs, there, up}
 use Rattle.newmm_rules.specs.Longest.{lengths, longest, beforeLongest}
 use Rattle.newmm_segment.specs.inner.Written.{Rising}
 
--- the start of the longest of the tokens so far, which start before `from`, and of those still to come
+-- the start of the longest of the tokens so far, which start before `from`, and of those still to
+-- come
 unfoldable pub best : ℕ → ℕ → ℕ → List ℕ → ℕ
 best start most from es = cond (leb most (longest (lengths from es))) (from + beforeLongest (lengths from es)) start
 

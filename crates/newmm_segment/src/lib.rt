@@ -1,4 +1,4 @@
-// Cutting in parts, after `segment_single` of newmm.rs. For our own crates.
+// Cutting in parts, after `segment_single` of newmm.rs.
 use cells::clear_first;
 use cells::shift;
 use cells::wide;

@@ -1,4 +1,4 @@
-// The non-dictionary rule of plain cutting. For our own crates.
+// The non-dictionary rule of plain cutting.
 use newmm_non_thai::non_thai_length;
 use newmm_non_thai::starts_non_thai;
 use newmm_word_step::Step;

@@ -1,5 +1,4 @@
 // The words that start at a place of a text and end at a cluster end, one character at a time.
-// For our own crates.
 use trie_pool::MAX_WORD;
 use trie_search::Kid;
 use trie_search::ends_word;

@@ -1,4 +1,5 @@
--- The answer of an operation by its causes: the first that holds, or acceptance exactly if none does. Assumes nothing.
+-- The answer of an operation by its causes: the first that holds, or acceptance exactly if none
+-- does. Assumes nothing.
 use Prim.Native.Nat.{ℕ, _≤_, _<_}
 use native.Mathlib.Omega.{arith}
 use mathlib.Core.Path.{_≡_, refl, sym, ap, subst, _∙_}
@@ -74,7 +75,8 @@ above-all m [] c h a = absurd a
 above-all m (d ∷ ds) c h (inl e) = subst (λ (z : Cause). m < numberOf (z .refusal)) (sym e) (h .0)
 above-all m (d ∷ ds) c h (inr a) = above-all m ds c (h .1) a
 
--- Where the numbers of the causes rise, the refusal that is given has the lowest number of those that hold.
+-- Where the numbers of the causes rise, the refusal that is given has the lowest number of those
+-- that hold.
 pub lowest : (causes : List Cause) (n : ℕ) (r : Refusal) → Rising (numbers causes) → answer causes n ≡ Refused r
     → (c : Cause) → Among c causes → c .holds ≡ true → numberOf r ≤ numberOf (c .refusal)
 lowest [] n r up h c a t = absurd a

@@ -1,4 +1,5 @@
--- With the rows of a run, and a pool of 2,048 nodes that holds the words, a line is answered by the words alone. Assumes nothing.
+-- With the rows of a run, and a pool of 2,048 nodes that holds the words, a line is answered by the
+-- words alone. Assumes nothing.
 use Prim.Native.Nat.{ℕ, suc, _+_, _-_, _*_, _/_, _≤_, _<_, min}
 use native.Mathlib.Omega.{arith}
 use native.Mathlib.Decide.{decLt}

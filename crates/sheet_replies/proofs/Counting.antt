@@ -176,7 +176,8 @@ module _ (pool : List ℕ) (words : List (List ℕ)) (m : meaning pool ≡ some 
   holds-are : holds (cellsOf pool) ≡ among words
   holds-are = sym (held-is pool passes) ∙ ap held m
 
-  -- Nodes in use are the root and one for each distinct non-empty prefix of the words held, with the word that is added.
+  -- Nodes in use are the root and one for each distinct non-empty prefix of the words held, with
+  -- the word that is added.
   pub nodes-are : (w : List ℕ) → nodesWith pool w ≡ nodes (including w words)
   unfolding nodes
   nodes-are [] =

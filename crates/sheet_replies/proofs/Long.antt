@@ -11,7 +11,8 @@ use Rattle.sheet_replies.specs.declared.reply.Asked.the-variants.{Nothin
 use Rattle.sheet_replies.specs.Replies.{asked, replyTo, replyOf, textOf}
 use Rattle.sheet_replies.proofs.Asking.{asked-long}
 
--- a line of more than 1,024 bytes asks nothing, and so do its first bytes where these are more than 1,024
+-- a line of more than 1,024 bytes asks nothing, and so do its first bytes where these are more than
+-- 1,024
 pub front-asks : (line : List ℕ) (m : ℕ) → 1024 < m → asked (take m line) ≡ asked line
 front-asks line m h =
     elim (decLt m (length line)) [

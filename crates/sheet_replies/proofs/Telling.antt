@@ -193,7 +193,8 @@ line-fits line h = omega (arith, length-drop 1 line)
 long : (line : List ℕ) → 1024 < length line → asked line ≡ Nothing
 long line h = sym (asked-long line (λ e. omega arith) h)
 
--- With a pool of 2,048 nodes that holds the words, 1,023 cells for scalars and for ends, and 9,335 cells of scratch, a line is answered by the words alone.
+-- With a pool of 2,048 nodes that holds the words, 1,023 cells for scalars and for ends, and 9,335
+-- cells of scratch, a line is answered by the words alone.
 module _ (line pool : List ℕ) (words : List (List ℕ)) (m : meaning pool ≡ some (among words)) (size : length pool ≡ 16384) where
   pub line-told : (row : List ℕ) → length row ≡ 1023 → told line pool 1023 9335 row ≡ toldFor line words
   line-told row r =

@@ -1,4 +1,5 @@
--- Calls with the rows of a run: what each takes of the run, and that any parts of the input give the whole run. Assumes nothing.
+-- Calls with the rows of a run: what each takes of the run, and that any parts of the input give
+-- the whole run. Assumes nothing.
 use Prim.Native.Nat.{ℕ, zero, suc, _+_, _≤_, _<_}
 use native.Mathlib.Omega.{arith}
 use native.Mathlib.Numerals.{add-one}
@@ -88,7 +89,8 @@ written-whole text out h =
     let e = take-all (length out) text h in
     ap (λ (n : ℕ). take n (written text out)) (amount-whole text out h) ∙ ap (λ (l : List ℕ). take (length text) (laid l out)) e ∙ take-append-seam text (drop (length text) out)
 
--- ---- a call, with 1,025 bytes for a line, 2,048 nodes, 1,023 cells for scalars and ends, 9,335 of scratch and 5,115 bytes for a reply
+-- ---- a call, with 1,025 bytes for a line, 2,048 nodes, 1,023 cells for scalars and ends,
+-- 9,335 of scratch and 5,115 bytes for a reply
 
 module _ (bytes row pool scalars ends scratch out : List ℕ) (used : ℕ)
     (line-long : length row ≡ 1025) (pool-long : length pool ≡ 16384) (scalars-long : length scalars ≡ 1023) (ends-long : length ends ≡ 1023) (scratch-long : length scratch ≡ 9335) (out-long : length out ≡ 5115) where

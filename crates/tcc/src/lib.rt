@@ -78,7 +78,7 @@ fn mark_ends(text: &[u32], row: &mut [u32])
 }
 
 // Writes 1 at each position of the text that is a cluster end, 0 at the others, and keeps the rest
-// of the row. For our own crates: the row has a cell for each position, 0 and n among them.
+// of the row. The row has a cell for each position, 0 and n among them.
 pub fn tcc_flags(text: &[u32], row: &mut [u32])
     requires { ⌜ length (now text) < length (now row) ⌝ }
     ensures { λ _. ⌜ now (row .exit) ≡

@@ -14,7 +14,7 @@ ghost use Prim.Native.Nat.{_<_};
 ghost use lib.ListN.{length};
 ghost use Rattle.tcc_rules.specs.Clusters.{clusterEnd};
 
-// The end of the cluster that starts at p. For our own crates: p is a place of the text.
+// The end of the cluster that starts at p. p is a place of the text.
 pub fn cluster_end(text: &[u32], p: usize) -> usize
     requires { ⌜ p < length (now text) ⌝ }
     ensures { λ r. ⌜ r ≡ clusterEnd (now (text .entry)) p ⌝ }

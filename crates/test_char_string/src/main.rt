@@ -1,4 +1,5 @@
-// Replays the test vectors of `utf8`, `char_string` and `char_string_view`: a line with the answer for each line of standard input.
+// Replays the test vectors of `utf8`, `char_string` and `char_string_view`: a line with the answer
+// for each line of standard input.
 mod views;
 
 use char_string::CharAt;
@@ -154,7 +155,8 @@ fn word(line: &[u8], cells: &mut [u32]) {
     print_cells(char_string::trimmed(&cells[..n]));
 }
 
-// view n, start, end, index, from, to => ok length, character at index or none, start and end of the sub-view
+// view n, start, end, index, from, to => ok length, character at index or none, start and end of
+//   the sub-view
 fn view(line: &[u8], cells: &mut [u32]) {
     count_up(cells);
     let n = lent(field(line, 1), cells.len());

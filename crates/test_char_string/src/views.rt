@@ -24,7 +24,8 @@ pub fn view_part(line: &[u8], cells: &mut [u32]) {
     );
 }
 
-// sub_view n, start, end, from, to, index => ok length, character at index or none, and cells of the view's sub-view
+// sub_view n, start, end, from, to, index => ok length, character at index or none, and cells of
+//   the view's sub-view
 pub fn sub_view(line: &[u8], cells: &mut [u32]) {
     count_up(cells);
     let n = lent(field(line, 1), cells.len());

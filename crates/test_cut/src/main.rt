@@ -1,6 +1,7 @@
 // Replays the test vectors of the cut: a line with the answer for each line of standard input.
 //
-// Output and scratch are lent full of leftovers. Where a call leaves a cell otherwise than document 01 says, a `?` is written.
+// Output and scratch are lent full of leftovers. Where a call leaves a cell otherwise than document
+// 01 says, a `?` is written.
 use newmm::cut;
 use newmm_answers::CutAnswer;
 use newmm_answers::scratch_for;

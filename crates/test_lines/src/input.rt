@@ -5,8 +5,8 @@ ghost use Prim.Native.Nat.{_-_, _≤_};
 ghost use lib.ListN.{length};
 ghost use Rattle.io.specs.Counts.{Counts};
 
-// Reads standard input into buffer and answers how many bytes there are. An input that fills buffer may be cut off,
-// and cannot be read.
+// Reads standard input into buffer and answers how many bytes there are. An input that fills buffer
+// may be cut off, and cannot be read.
 pub fn read_input(buffer: &mut [u8]) -> usize
     ensures { λ r. ⌜ Counts r (now (buffer .exit)) ⌝ }
 {
@@ -41,7 +41,8 @@ pub fn part_at(text: &[u8], at: usize, mark: u8) -> &[u8] {
     &text[at..end]
 }
 
-// Where the part after that one starts: behind the mark, or at the end. Less of the text is left there.
+// Where the part after that one starts: behind the mark, or at the end. Less of the text is left
+// there.
 pub fn behind(text: &[u8], at: usize, mark: u8) -> usize
     ensures { λ r. ⌜ length (now (text .entry)) - r ≤ length (now (text .entry)) - at - 1 ⌝ }
 {

@@ -54,7 +54,8 @@ pub fn print_numbers(row: &[u32], mark: u8) {
     flush(waiting, used);
 }
 
-// The cells of row in hexadecimal, joined by `.`, four or more equal ones as `cell*count`, `-` for none.
+// The cells of row in hexadecimal, joined by `.`, four or more equal ones as `cell*count`, `-` for
+// none.
 pub fn print_cells(row: &[u32]) {
     if row.len() == 0 {
         print(b"-");
@@ -77,7 +78,8 @@ fn wide(x: u32) -> u64 {
     x as u64
 }
 
-// How many cells from i on are written together: those equal to the one at i where they are many, else one.
+// How many cells from i on are written together: those equal to the one at i where they are many,
+// else one.
 fn run_at(row: &[u32], i: usize) -> usize
     requires { ⌜ i < length (now row) ⌝ }
     ensures { λ r. ⌜ (0 < r) × (i + r ≤ length (now (row .entry))) ⌝ }
@@ -95,7 +97,8 @@ fn run_at(row: &[u32], i: usize) -> usize
     1
 }
 
-// Each `put` adds to the `used` bytes that wait in a buffer, and answers how many wait then. The buffer is never empty.
+// Each `put` adds to the `used` bytes that wait in a buffer, and answers how many wait then. The
+// buffer is never empty.
 fn put(waiting: &mut [u8], used: usize, b: u8) -> usize {
     if used < waiting.len() {
         waiting[used] = b;

@@ -26,7 +26,8 @@ pub fn number(text: &[u8]) -> usize {
     n
 }
 
-// The length of a row that is lent, out of one of `most` cells. `*` is as long as needed: all of them.
+// The length of a row that is lent, out of one of `most` cells. `*` is as long as needed: all of
+// them.
 pub fn lent(text: &[u8], most: usize) -> usize
     ensures { λ r. ⌜ r ≤ most ⌝ }
 {
@@ -37,7 +38,8 @@ pub fn lent(text: &[u8], most: usize) -> usize
     most
 }
 
-// Cells such as `E01.20*3`, `-` for none. They go to the front of row; the answer is how many there are.
+// Cells such as `E01.20*3`, `-` for none. They go to the front of row; the answer is how many there
+// are.
 pub fn read_cells(text: &[u8], row: &mut [u32]) -> usize
     ensures { λ r. ⌜ Counts r (now (row .exit)) ⌝ }
 {
@@ -56,7 +58,8 @@ pub fn read_cells(text: &[u8], row: &mut [u32]) -> usize
     n
 }
 
-// Bytes such as `e0b881*2.61`, `-` for none. They go to the front of row; the answer is how many there are.
+// Bytes such as `e0b881*2.61`, `-` for none. They go to the front of row; the answer is how many
+// there are.
 pub fn read_bytes(text: &[u8], row: &mut [u8]) -> usize
     ensures { λ r. ⌜ Counts r (now (row .exit)) ⌝ }
 {

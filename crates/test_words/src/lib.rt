@@ -1,4 +1,5 @@
-// The words of a test vector: a field `scalars:class` joined by `,`, `-` for none, as a dictionary in a pool.
+// The words of a test vector: a field `scalars:class` joined by `,`, `-` for none, as a dictionary
+// in a pool.
 use refusal::Answer;
 use test_lines::behind;
 use test_lines::part_at;
@@ -8,8 +9,9 @@ ghost use Prim.Native.Nat.{_≤_};
 ghost use lib.ListN.{length};
 ghost use Rattle.io.specs.Counts.{Counts};
 
-// Makes a dictionary of the words at the front of pool, with a node for each character of each, and answers how many cells it has. Where
-// the words don't fit it writes a `?`. The cells of row are changed.
+// Makes a dictionary of the words at the front of pool, with a node for each character of each, and
+// answers how many cells it has. Where the words don't fit it writes a `?`. The cells of row are
+// changed.
 pub fn hold(words: &[u8], row: &mut [u32], pool: &mut [u32]) -> usize
     ensures { λ r. ⌜ r ≤ length (now (pool .exit)) ⌝ }
 {

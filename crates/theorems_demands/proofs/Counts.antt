@@ -1,4 +1,5 @@
--- Refusal 8 and the word count in 01's words: both are counted by cells, and are the numbers of prefixes and of words. Assumes nothing.
+-- Refusal 8 and the word count in 01's words: both are counted by cells, and are the numbers of
+-- prefixes and of words. Assumes nothing.
 use Prim.Native.Nat.{ℕ, suc, _+_, _-_}
 use native.Mathlib.Omega.{arith}
 use mathlib.Core.Path.{_≡_, sym, subst}
@@ -17,7 +18,8 @@ use Rattle.trie_check.proofs.Parts.{held-is}
 use Rattle.trie_char.specs.Refusals.{nodesWith}
 use Rattle.trie_char.specs.Answers.{wordsOf}
 
--- The word count: the number that the contract of `amount_of_words` gives is the number of words held.
+-- The word count: the number that the contract of `amount_of_words` gives is the number of words
+-- held.
 pub amount-is : (pool : List ℕ) → isDictionary pool ≡ true → (k : ℕ) → Number (Held (wordsOf pool)) k → amount (cellsOf pool) ≡ k
 amount-is pool h k m = one-number (Held (wordsOf pool)) (amount (cellsOf pool)) k counted m
   where
@@ -26,8 +28,8 @@ amount-is pool h k m = one-number (Held (wordsOf pool)) (amount (cellsOf pool)) 
         subst (λ (f : Words). Number (Held f) (amount (cellsOf pool))) (sym (held-is pool h))
         (word-count (cellsOf pool) (used (cellsOf pool)) (sound (cellsOf pool) h))
 
--- Nodes in use are the root and one for each distinct non-empty prefix of the words held: so many there
--- would be with the word added, and by this number refusal 8 goes (`nodeCauses`).
+-- Nodes in use are the root and one for each distinct non-empty prefix of the words held: so many
+-- there would be with the word added, and by this number refusal 8 goes (`nodeCauses`).
 pub nodes-is : (pool : List ℕ) (y : ℕ) (w : List ℕ) → isDictionary pool ≡ true
     → (k : ℕ) → Number (Prefix (withWord (y ∷ w) (wordsOf pool))) k → nodesWith pool (y ∷ w) ≡ suc k
 nodes-is pool y w h k m =

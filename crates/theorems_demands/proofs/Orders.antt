@@ -1,6 +1,7 @@
--- 01, "The lowest number that applies to an operation is given": the numbers of each operation's causes, in order.
--- Which of them is given, and that none is exactly if the call is accepted: crates/refusal/proofs/Firsts.antt
--- (`first-that-holds`, `accepted-exactly-if-none`). Assumes nothing.
+-- 01, "The lowest number that applies to an operation is given": the numbers of each operation's
+-- causes, in order. Which of them is given, and that none is exactly if the call is accepted:
+-- crates/refusal/proofs/Firsts.antt (`first-that-holds`, `accepted-exactly-if-none`). Assumes
+-- nothing.
 use Prim.Native.Nat.{ℕ}
 use native.Mathlib.Omega.{arith}
 use mathlib.Core.Path.{_≡_, refl}

@@ -1,4 +1,5 @@
--- Encoding and decoding are each other's inverse (table 3-6 from left to right and back). Assumes nothing.
+-- Encoding and decoding are each other's inverse (table 3-6 from left to right and back). Assumes
+-- nothing.
 use Prim.Native.Nat.{ℕ, suc, _+_, _*_, _/_, _%_, _≤_, _<_}
 use native.Mathlib.Omega.{arith}
 use mathlib.Core.Path.{_≡_, refl, sym, _∙_, ap, subst}

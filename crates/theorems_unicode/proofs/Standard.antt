@@ -1,4 +1,5 @@
--- The decoder against the Unicode Standard: what it takes is well-formed UTF-8, all of it, and no longer prefix is. Assumes nothing.
+-- The decoder against the Unicode Standard: what it takes is well-formed UTF-8, all of it, and no
+-- longer prefix is. Assumes nothing.
 use Prim.Native.Nat.{ℕ, zero, suc, _+_, _-_, _≤_, _<_}
 use native.Mathlib.Omega.{arith}
 use mathlib.Core.Path.{_≡_, refl, sym, _∙_, ap, subst}

@@ -28,7 +28,7 @@ module _ (p q : List ℕ) (m b j : ℕ) (s : Shaped p (suc m)) (parent : b < suc
   inside : j ≤ m
   inside = omega (arith, within p (suc m) s b parent)
 
-  -- the new block of i levelEnd where that of the old node after it starts
+  -- the new block of i ends where that of the old node after it starts
   next-at : (i : ℕ) → suc i ≡ j → j < m → firstAt q j ≡ firstAt q i + countAt q i
   next-at i e l = omega (arith, h .first-high j (omega arith) l, s .next j (omega arith), h .count-new, h .first-new i e)
 

@@ -63,7 +63,7 @@ module _ (p p′ : List ℕ) (n b j x : ℕ) (s : Shaped p n) (o : Room p n b j 
   end-high : (i : ℕ) → j ≤ i → i < n → firstAt p′ (suc i) + countAt p′ (suc i) ≡ suc (firstAt p i + countAt p i)
   end-high i l u = omega (arith, h .first-high i l u, h .count-high i l u)
 
-  -- the first child of i + 1 is where the block of i levelEnd
+  -- the first child of i + 1 is where the block of i ends
   next′ : (i : ℕ) → suc i < suc n → Spot j i → firstAt p′ (suc i) ≡ firstAt p′ i + countAt p′ i
   next′ i l (low u) = go (decLt i b) (decLt (suc i) j)
     where
@@ -171,7 +171,7 @@ module _ (p p′ : List ℕ) (n b j x : ℕ) (s : Shaped p n) (o : Room p n b j 
         ends-suc p′ (suc n) d ∙ ap (hop p′ (suc n)) ih ∙ hop-first p′ (suc n) (levelEnd p n d) (omega arith) ∙ h .first-low (levelEnd p n d) m
         ∙ sym (ends-suc p n d ∙ hop-first p n (levelEnd p n d) f)
 
-    -- the level of b levelEnd before the place of its children
+    -- the level of b ends before the place of its children
     near : levelEnd p n D ≤ j
     near = go D refl
       where

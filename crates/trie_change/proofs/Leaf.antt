@@ -1,4 +1,5 @@
--- What one leaf more changes: every node keeps its children, under new numbers, and the words that are held are the same. Assumes nothing.
+-- What one leaf more changes: every node keeps its children, under new numbers, and the words that
+-- are held are the same. Assumes nothing.
 use mathlib.Core.Path.{_≡_, refl, sym, ap, _∙_}
 use mathlib.Core.Bool.{Bool, true, false, cond}
 use mathlib.Core.List.{List, [], _∷_}

@@ -94,7 +94,7 @@ module _ (p : List ℕ) (i m : ℕ) (l : 8 * i + 3 < length p) where
     ahead = λ k h. omega (arith, first-same k, s .ahead k h);
   }
 
-  -- a node that levelEnd a word needs no child
+  -- a node that ends a word needs no child
   pub sound-marked : (n : ℕ) → m ≡ 1 → 0 < i → i < n → isTrimmed (scalarAt p i) ≡ false → Sound p n i → Sound q n 0
   sound-marked n one some inside stop g = record {
     shaped = shaped-same n (g .shaped);

@@ -1,5 +1,4 @@
 // Changing a dictionary's pool: one leaf more, one leaf less, whole words, and no words at all.
-// For our own crates.
 mod add;
 mod empty;
 mod remove;

@@ -1,4 +1,5 @@
--- No second pool fits what add, remove and fresh say of it, and every pool that they leave passes. Assumes nothing.
+-- No second pool fits what add, remove and fresh say of it, and every pool that they leave passes.
+-- Assumes nothing.
 use Prim.Native.Nat.{ℕ, _*_}
 use native.Mathlib.Omega.{arith}
 use mathlib.Core.Path.{_≡_, refl, sym, ap, _∙_}

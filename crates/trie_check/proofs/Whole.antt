@@ -63,7 +63,7 @@ module _ (c k m z : ℕ) (zero′ : z ≡ 0) (mark : m ≤ 1) (leaf : 1 ≤ k + 
   pub inner-inside : isScalar c ≡ true → m ≡ 0 → Inner c k m z
   inner-inside legal none = record { fit = record { legal = legal; mark = mark; stop = λ l. absurd (omega arith) }; leaf = leaf; zero′ = zero′ }
 
-  -- where a word levelEnd, the scalar must not be trimmed
+  -- where a word ends, the scalar must not be trimmed
   pub inner-end : isScalar c ≡ true → (t : Bool) → (m ≡ 0 → ⊥) → t ≡ isTrimmed c → Decides (not t) (Inner c k m z)
   inner-end legal t some e = record {
     yes′ = λ y. record { fit = record { legal = legal; mark = mark; stop = λ l. sym e ∙ not-true _ y }; leaf = leaf; zero′ = zero′ };

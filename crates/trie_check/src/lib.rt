@@ -1,5 +1,5 @@
 // A pool as it is lent: which of its cells are read and written, whether it is a dictionary, and
-// the refusals that every operation on a text and a pool gives. For our own crates.
+// the refusals that every operation on a text and a pool gives.
 mod rules;
 
 use crate::rules::well_formed;

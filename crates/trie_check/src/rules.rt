@@ -1,4 +1,5 @@
-// Whether a pool is well-formed: the rules, decided by a few walks over its cells, without recursion.
+// Whether a pool is well-formed: the rules, decided by a few walks over its cells, without
+// recursion.
 use cells::wide;
 use char_string::is_scalar;
 use char_string::is_trimmed;

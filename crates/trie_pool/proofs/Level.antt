@@ -1,4 +1,4 @@
--- Laws of the levelEnd of levels: where a word leads lies in the level of its length. Assumes nothing.
+-- Laws of the ends of levels: where a word leads lies in the level of its length. Assumes nothing.
 use mathlib.Core.Path.{_≡_, refl, sym, ap, _∙_}
 use mathlib.Core.Bool.{Bool, not, cond}
 use mathlib.Core.List.{List, [], _∷_}
@@ -60,7 +60,7 @@ module _ (p : List ℕ) (n : ℕ) (s : Shaped p n) where
       go (yes q) = omega (arith, apart p n s e i q h)
       go (no q) = let z : e ≡ i = omega arith in rw z (omega arith)
 
-  -- the block of a node before e levelEnd before the children of e
+  -- the block of a node before e ends before the children of e
   pub block-before : (e i : ℕ) → i < e → e ≤ n → firstAt p i + countAt p i ≤ hop p n e
   block-before e i l h = go (decLt e n)
     where

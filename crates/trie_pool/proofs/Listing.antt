@@ -1,4 +1,5 @@
--- The nodes in use by the set of words: one for each distinct non-empty prefix, and a marked one for each word. Assumes nothing.
+-- The nodes in use by the set of words: one for each distinct non-empty prefix, and a marked one
+-- for each word. Assumes nothing.
 use Prim.Native.Nat.{ℕ, zero, suc, _+_, _-_, _≤_, _<_}
 use native.Mathlib.Omega.{arith}
 use native.Mathlib.Decide.{decLt}

@@ -1,4 +1,5 @@
--- Laws of level order: blocks of children do not overlap, and a word leads to one node. Assumes nothing.
+-- Laws of level order: blocks of children do not overlap, and a word leads to one node. Assumes
+-- nothing.
 use mathlib.Core.Path.{_≡_, refl, sym, ap, _∙_, subst}
 use mathlib.Core.Bool.{Bool, true, false, cond, not}
 use mathlib.Core.List.{List, [], _∷_, _++_}

@@ -1,5 +1,6 @@
--- A walk over a text from a place b: after k characters it stands at the node of text[b..b+k], and a word ends there exactly if the node is marked.
--- So the words that start at b are found shortest first. Assumes nothing.
+-- A walk over a text from a place b: after k characters it stands at the node of text[b..b+k], and
+-- a word ends there exactly if the node is marked. So the words that start at b are found shortest
+-- first. Assumes nothing.
 use Prim.Native.Nat.{ℕ, _+_, _-_, _≤_, _<_}
 use native.Mathlib.Omega.{arith}
 use native.Mathlib.Numerals.{add-one}

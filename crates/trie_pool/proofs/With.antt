@@ -1,4 +1,5 @@
--- The nodes that there would be with one word more: one for each prefix of it that no word held has. Assumes nothing.
+-- The nodes that there would be with one word more: one for each prefix of it that no word held
+-- has. Assumes nothing.
 use Prim.Native.Nat.{ℕ, zero, suc, _+_, _-_, _≤_}
 use native.Mathlib.Omega.{arith}
 use mathlib.Core.Path.{_≡_, refl, sym, ap, _∙_}
@@ -209,7 +210,8 @@ module _ (p : List ℕ) (n : ℕ) (g : Sound p n 0) (y : ℕ) (w : List ℕ) whe
       let l = prefix-leads p n g v (h .rest) (h .held) in
       clash-place p (sym (l .there) ∙ added .only v a .1)
 
-  -- The root and one for each distinct non-empty prefix of the words held and the word: so many nodes would be in use with it.
+  -- The root and one for each distinct non-empty prefix of the words held and the word: so many
+  -- nodes would be in use with it.
   pub nodes-with : Number (Prefix (withWord (y ∷ w) (holds p))) (n + lacking p (y ∷ w) 0 - 1)
   nodes-with = record {
     words = added .words ++ old .words;

@@ -1,4 +1,5 @@
--- Where a child stands, or would stand, by going down from where it stands at most. Assumes nothing.
+-- Where a child stands, or would stand, by going down from where it stands at most. Assumes
+-- nothing.
 use Prim.Native.Nat.{ℕ, zero, suc, _+_, _-_, _*_, _≤_, _<_, min}
 use native.Mathlib.Omega.{arith}
 use native.Mathlib.Decide.{decLt}

@@ -1,4 +1,4 @@
-// The search for words in a dictionary's pool. For our own crates.
+// The search for words in a dictionary's pool.
 mod search;
 
 pub use search::Kid;

@@ -1,4 +1,5 @@
--- The first scalar of bytes that start with a well-formed sequence: its first byte tells the rest. Assumes nothing.
+-- The first scalar of bytes that start with a well-formed sequence: its first byte tells the rest.
+-- Assumes nothing.
 use Prim.Native.Nat.{ℕ, suc, _+_, _-_, _*_, _%_, _≤_, _<_}
 use native.Mathlib.Omega.{arith}
 use native.Mathlib.Nat.{add-zero}

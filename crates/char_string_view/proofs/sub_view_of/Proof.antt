@@ -1,6 +1,6 @@
--- A walk of the MIR, by hand. A view is made by `new`, held in a local and passed to `sub_view`. All that the proof knows of the
--- two is that each meets its contract. In a local of a body MIR erases the lifetime of the struct's type, so the view is shown to
--- have the type at `erased`.
+-- A walk of the MIR, by hand. A view is made by `new`, held in a local and passed to `sub_view`.
+-- All that the proof knows of the two is that each meets its contract. In a local of a body MIR
+-- erases the lifetime of the struct's type, so the view is shown to have the type at `erased`.
 -- Assumes nothing.
 use mathlib.Core.Path.{_≡_, refl, ap, _∙_}
 use Prim.Native.Nat.{ℕ}
@@ -118,14 +118,16 @@ module _ {M : Type 1} (𝓤 : URA M) (H : Heap 𝓤) (A : Atoms 𝓤) (W : Given
         calls-at ! fm (Make 𝓤 H A mem run) known-make to-make (and-then ! (load ! (from ! (stop !)) (look ! 12 refl)) (and-then ! (load ! (from ! (stop !)) (look ! 10 refl)) (and-then ! (load ! (from ! (stop !)) (look ! 8 refl)) (no-more !)))) (λ u.
         use1 W (later (some (λ (r : CharView). ((‵ (flft κ q) ⊛ ‵ ftrue) ⊛ ‵ (Row (κ, tt) .own r (u ∷ []))) ⊛ raw (ensured 𝓤 H A make.ended (make.clauses 𝓤 H A mem run) (κ, tt) (s, (a, (b, tt))) tt r)))) (id⊢ 𝓤 _) $ await ! tt $ pick ! (λ r.
         split ! $ move ! (1 ∷ []) $ use1 W (raw (fact 𝓤 (r ≡ viewOf s a b))) (make-said r) $ heard ! (r ≡ viewOf s a b) (λ e. split ! $ move ! (1 ∷ []) $
-        -- [what the view owns; the token; what s owns; room for _6; …; _5; …; _4; …; _3; …; _2; …; _1; …; room for _0; …]
+        -- [what the view owns; the token; what s owns; room for _6; …; _5; …; _4; …; _3; …; _2; …;
+        -- _1; …; room for _0; …]
         peeks ! (Row (κ, tt)) (Is (Row (κ, tt))) (shows 𝓤 H A (Row (κ, tt))) r (u ∷ []) (λ is.
         land ! (from ! (stop !)) (init ! 3 refl (LL.lawful (Local κ) (Local-laws κ) 𝓤 H A W .typed r _ is .0)) $
         use2 W (raw (Ask 𝓤 H A mem run .pre (to-ask r u))) (goes-ask r u) $
         calls-at ! fm (Ask 𝓤 H A mem run) known-ask (to-ask r u) (and-then ! (load ! (from ! (stop !)) (look ! 2 refl)) (and-then ! (load ! (from ! (stop !)) (look ! 6 refl)) (and-then ! (load ! (from ! (stop !)) (look ! 4 refl)) (no-more !)))) (λ u′.
         use1 W (later (some (λ (t : CharView). ((‵ (flft κ q) ⊛ ‵ ftrue) ⊛ ‵ ((Row (κ, tt)) .own t (u′ ∷ []))) ⊛ raw (ensured 𝓤 H A ask.ended (ask.clauses 𝓤 H A mem run) (κ, tt) (r, (m, (n, tt))) tt t)))) (id⊢ 𝓤 _) $ await ! tt $ pick ! (λ t.
         split ! $ move ! (1 ∷ []) $ use1 W (raw (fact 𝓤 (t ≡ subViewOf r m n))) (ask-said r t) $ heard ! (t ≡ subViewOf r m n) (λ e′. split ! $ move ! (1 ∷ []) $
-        -- [the result; the token; what s owns; _6; …; _5; …; _4; …; _3; …; _2; …; _1; …; room for _0; …]
+        -- [the result; the token; what s owns; _6; …; _5; …; _4; …; _3; …; _2; …; _1; …; room for
+        -- _0; …]
         peeks ! (Row (κ, tt)) (Is (Row (κ, tt))) (shows 𝓤 H A (Row (κ, tt))) t (u′ ∷ []) (λ is′.
         land ! (from ! (stop !)) (init ! 15 refl (LL.lawful (Type-of (κ, tt)) (Laws-of (κ, tt)) 𝓤 H A W .typed t _ is′ .0)) $
         returns ! (look ! 15 refl) $ forget ! 3 refl $ forget ! 5 refl $ forget ! 7 refl $ forget ! 9 refl $ forget ! 11 refl $ forget ! 13 refl $ forget ! 15 refl $

@@ -1,6 +1,6 @@
--- A walk of the MIR, by hand. The view is taken apart, and `char_string::chars_len` is called on the slice and the two numbers.
--- All that the proof knows of it is that it meets its contract. It takes the fields in their order and nothing else, so what
--- they own together is what it asks.
+-- A walk of the MIR, by hand. The view is taken apart, and `char_string::chars_len` is called on
+-- the slice and the two numbers. All that the proof knows of it is that it meets its contract. It
+-- takes the fields in their order and nothing else, so what they own together is what it asks.
 -- Assumes nothing.
 use mathlib.Core.Path.{_≡_, refl}
 use Prim.Native.Nat.{ℕ}
@@ -86,7 +86,8 @@ module _ {M : Type 1} (𝓤 : URA M) (H : Heap 𝓤) (A : Atoms 𝓤) (W : Given
       -- [what the fields own together; what the view owns; the token]
       move ! (2 ∷ 0 ∷ []) $ use2 W (raw (Callee 𝓤 H A mem run .pre to)) asked $ frame ! $ done !
 
-  -- of the callee's `ensured`, the clause alone: it has no `&mut`, so what is said of last values is dropped
+  -- of the callee's `ensured`, the clause alone: it has no `&mut`, so what is said of last values
+  -- is dropped
   said : (n : ℕ) → ent 𝓤 (ensured 𝓤 H A callee.ended (callee.clauses 𝓤 H A mem run) (κ, tt) (d .text, (d .start, (d .end, tt))) tt n) (fact 𝓤 (n ≡ count))
   said n = exE 𝓤 _ (λ ws. snd∗ 𝓤 (sem 𝓤 H A (lasts callee.ended (κ, tt) (d .text, (d .start, (d .end, tt))) ws)) (fact 𝓤 (n ≡ count)))
 

@@ -1,6 +1,6 @@
--- A walk of the MIR, by hand: a `CharView` is made of the slice and the two numbers passed, in the result's local.
--- A `&[u32]` is Copy, so what it owns is had twice: once for text at exit, and once inside the result, beside the numbers' facts.
--- Assumes nothing.
+-- A walk of the MIR, by hand: a `CharView` is made of the slice and the two numbers passed, in the
+-- result's local. A `&[u32]` is Copy, so what it owns is had twice: once for text at exit, and once
+-- inside the result, beside the numbers' facts. Assumes nothing.
 use mathlib.Core.Path.{refl}
 use Prim.Native.Nat.{ℕ, _<_, _^_}
 use mathlib.Core.List.{List, [], _∷_}
@@ -71,7 +71,8 @@ module _ {M : Type 1} (𝓤 : URA M) (H : Heap 𝓤) (A : Atoms 𝓤) (W : Given
       qed W ((‵ (flft κ q) ⊛ ‵ ftrue) ∷ ‵ (owns (ShrSlice (named 0) κ u32 ∷ usize ∷ usize ∷ []) (s, (m, (n, tt))) at) ∷ []) ∵
       suffices ! _ (ends-at 𝓤 H A new.ended stayed (new.clauses 𝓤 H A mem run) W (((κ, tt), (q, tt), tt, (s, (m, (n, tt))), at), tt) (T′.lowered view) view (tt, (tt, (tt, tt))) (tt, (tt, (tt, tt)))) $ says ! refl $
       frame ! $ fsplit ! $ use1 W (‵ Own ⊛ ‵ Own) (shr-slice-copy 𝓤 H A W (named 0) κ u32 .twice s (v ∷ [])) $ split ! $ move ! (0 ∷ 2 ∷ []) $ fjoin ! $ frame ! $
-      -- [what text owns]: what the fields own together, of it and of the numbers' facts, is what the struct owns
+      -- [what text owns]: what the fields own together, of it and of the numbers' facts, is what
+      -- the struct owns
       use0 W (‵ (numbers (m ∷ n ∷ []))) (made 𝓤 H A W (m ∷ n ∷ []) (m-fits, (n-fits, tt))) $
       move ! (1 ∷ 0 ∷ []) $ fjoin ! $ by ! (own-shut 𝓤 H A W (T.the-type α) (T′.the-laws α) (s, (m, (n, tt))))
 

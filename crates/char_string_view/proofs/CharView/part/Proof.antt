@@ -1,7 +1,7 @@
--- A walk of the MIR, by hand. The view is taken apart, and `char_string::substring` is called on the slice and the two numbers:
--- the part that it hands out is the result. All that the proof knows of it is that it meets its contract. It takes the fields in
--- their order and nothing else, so what they own together is what it asks.
--- Assumes nothing.
+-- A walk of the MIR, by hand. The view is taken apart, and `char_string::substring` is called on
+-- the slice and the two numbers: the part that it hands out is the result. All that the proof knows
+-- of it is that it meets its contract. It takes the fields in their order and nothing else, so what
+-- they own together is what it asks. Assumes nothing.
 use mathlib.Core.Path.{_≡_, refl}
 use Prim.Native.Nat.{ℕ}
 use mathlib.Core.List.{List, [], _∷_}
@@ -87,7 +87,8 @@ module _ {M : Type 1} (𝓤 : URA M) (H : Heap 𝓤) (A : Atoms 𝓤) (W : Given
       -- [what the fields own together; what the view owns; the token]
       move ! (2 ∷ 0 ∷ []) $ use2 W (raw (Callee 𝓤 H A mem run .pre to)) asked $ frame ! $ done !
 
-  -- of the callee's `ensured`, the clauses alone: it has no `&mut`, so what is said of last values is dropped
+  -- of the callee's `ensured`, the clauses alone: it has no `&mut`, so what is said of last values
+  -- is dropped
   said : (r : RefT (List ℕ)) → ent 𝓤 (ensured 𝓤 H A callee.ended (callee.clauses 𝓤 H A mem run) (κ, tt) (d .text, (d .start, (d .end, tt))) tt r) (sep 𝓤 (fact 𝓤 (now r ≡ shown d)) (fact 𝓤 (ptr r ≡ shownAt d)))
   said r = exE 𝓤 _ (λ ws. snd∗ 𝓤 (sem 𝓤 H A (lasts callee.ended (κ, tt) (d .text, (d .start, (d .end, tt))) ws)) (sep 𝓤 (fact 𝓤 (now r ≡ shown d)) (fact 𝓤 (ptr r ≡ shownAt d))))
 

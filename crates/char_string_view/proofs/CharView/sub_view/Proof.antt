@@ -1,6 +1,6 @@
--- A walk of the MIR, by hand. The view is taken apart, and `char_string::sub_view` is called on the slice, the two numbers and the
--- two positions. All that the proof knows of it is that it meets its contract. The result is made of the slice and of what it answers.
--- Assumes nothing.
+-- A walk of the MIR, by hand. The view is taken apart, and `char_string::sub_view` is called on the
+-- slice, the two numbers and the two positions. All that the proof knows of it is that it meets its
+-- contract. The result is made of the slice and of what it answers. Assumes nothing.
 use mathlib.Core.Path.{_≡_, refl, ap}
 use Prim.Native.Nat.{ℕ, _<_, _^_}
 use mathlib.Core.List.{[], _∷_}
@@ -99,7 +99,8 @@ module _ {M : Type 1} (𝓤 : URA M) (H : Heap 𝓤) (A : Atoms 𝓤) (W : Given
       use0 W (‵ (numbers (m ∷ n ∷ []))) (made 𝓤 H A W (m ∷ n ∷ []) (m-fits, (n-fits, tt))) $ move ! (1 ∷ 0 ∷ []) $ use2 W (‵ (fields-then (κ, tt) d (numbers (m ∷ n ∷ [])))) (behind 𝓤 H A W (κ, tt) d (numbers (m ∷ n ∷ []))) $
       move ! (2 ∷ 0 ∷ []) $ use2 W (raw (Callee 𝓤 H A mem run .pre to)) asked $ frame ! $ done !
 
-  -- of the callee's `ensured`, the clause alone: it has no `&mut`, so what is said of last values is dropped
+  -- of the callee's `ensured`, the clause alone: it has no `&mut`, so what is said of last values
+  -- is dropped
   said : (r : Span) → ent 𝓤 (ensured 𝓤 H A callee.ended (callee.clauses 𝓤 H A mem run) (κ, tt) (d .text, (d .start, (d .end, (m, (n, tt))))) tt r) (fact 𝓤 (r ≡ found))
   said r = exE 𝓤 _ (λ ws. snd∗ 𝓤 (sem 𝓤 H A (lasts callee.ended (κ, tt) (d .text, (d .start, (d .end, (m, (n, tt))))) ws)) (fact 𝓤 (r ≡ found)))
 
@@ -126,7 +127,8 @@ module _ {M : Type 1} (𝓤 : URA M) (H : Heap 𝓤) (A : Atoms 𝓤) (W : Given
         calls-at ! fm (Callee 𝓤 H A mem run) known to (and-then ! (load ! (from ! (stop !)) (look ! 8 refl)) (and-then ! (load ! (from ! (stop !)) (look ! 6 refl)) (and-then ! (load ! (from ! (stop !)) (look ! 4 refl)) (and-then ! (load ! (from ! (stop !)) (look ! 14 refl)) (and-then ! (load ! (from ! (stop !)) (look ! 12 refl)) (no-more !)))))) (λ u.
         use1 W (later (some (λ (r : Span). ((‵ (flft κ q) ⊛ ‵ ftrue) ⊛ ‵ (S.the-row .own r (u ∷ []))) ⊛ raw (ensured 𝓤 H A callee.ended (callee.clauses 𝓤 H A mem run) (κ, tt) (d .text, (d .start, (d .end, (m, (n, tt))))) tt r)))) (id⊢ 𝓤 _) $ await ! tt $ pick ! (λ r.
         split ! $ move ! (1 ∷ []) $ use1 W (raw (fact 𝓤 (r ≡ found))) (said r) $ heard ! (r ≡ found) (λ e. split ! $ move ! (1 ∷ []) $
-        -- [the positions; the token; what the view owns; _8; …; _7; …; _6; …; _5; …; room for _4; …; _3; …; _2; …; _1; …; room for _0; …]
+        -- [the positions; the token; what the view owns; _8; …; _7; …; _6; …; _5; …; room for _4;
+        -- …; _3; …; _2; …; _1; …; room for _0; …]
         peeks ! S.the-row (Is S.the-row) (shows 𝓤 H A S.the-row) r (u ∷ []) (λ is.
         land ! (from ! (stop !)) (init ! 11 refl (LL.lawful S.the-type S′.the-laws 𝓤 H A W .typed r _ is .0)) $ rewrite ! 11 (λ (w : Val). ‵ (fat fullShare S′.mir l₄ 0 w)) (ap only (LL.tells S.the-type S′.the-laws r _ is)) refl $
         assigns ! (of-opd ! (load ! (from ! (fld ! refl (stop !))) (look-in ! 17 (sub ! 0 refl (whole !))))) (from ! (stop !)) (init ! 3 refl (tt, wt .1 .0)) $
