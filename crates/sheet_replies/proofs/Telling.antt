@@ -35,7 +35,7 @@ use Rattle.sheet_replies.specs.Replies.{asked, textOf, addText, removeTe
 use Rattle.sheet_replies.specs.Texts.{decimalIn, decimal, behindOther, lineOf, textOfReply, spaced}
 use Rattle.sheet_replies.specs.Feeding.{told}
 use Rattle.sheet_replies.proofs.Asking.{asked-long}
-use Rattle.sheet_replies.specs.Program.{among, including, excluding, nodes, wordOf, addedIn, removedIn, endsIn, cutIn, replyIn, toldEnds, ifAccepted, wordsIn, wordsBehind, toldFor}
+use Rattle.sheet_replies.specs.Program.{among, including, excluding, nodes, wordOf, addedIn, removedIn, endsIn, cutIn, replyIn, toldEnds, ifAccepted, wordsIn, wordsBehind, toldFor, Possible, one, seven, eight, OnlyThese}
 use Rattle.sheet_replies.proofs.ByWords.{among-with, among-without, words-are, add-is, remove-is, cut-is, climbs, few-scalars}
 
 -- ---- a line's text
@@ -251,16 +251,10 @@ module _ (line : List ℕ) (words : List (List ℕ)) where
 
 -- ---- the refusals of a run
 
--- Only 1, 7 and 8 can appear.
-pub data Possible : ℕ → Type 0 where
-  one : Possible 1
-  seven : Possible 7
-  eight : Possible 8
-
 refused-inj : {r s : Refusal} → Refused r ≡ Refused s → r ≡ s
 refused-inj e = cc
 
-pub only-these : (k : Asked) (text : List ℕ) (words : List (List ℕ)) (r : Refusal) → replyIn k text words ≡ Refused r → Possible (numberOf r)
+pub only-these : OnlyThese
 unfolding replyIn
 only-these Nothing text words r e = absurd (let z : _≡_ {A = ℕ} 0 1 = cc in omega arith)
 only-these (Cut mode) text words r e = go (runAll text .whole) e

@@ -6,7 +6,9 @@ use mathlib.Core.Option.{some}
 use mathlib.Core.List.{List, [], _∷_, _++_, map}
 use lib.Dec.{eqb, ltb}
 use lib.ListN.{length, take, drop}
+use Rattle.refusal.specs.declared.Refusal.{Refusal}
 use Rattle.refusal.specs.declared.Refusal.the-variants.{IllFormed, TooFewNodes}
+use Rattle.refusal.specs.Numbers.{numberOf}
 use Rattle.refusal.specs.declared.Answer.{Answer}
 use Rattle.refusal.specs.declared.Answer.the-variants as answers
 use Rattle.refusal.specs.Answers.{Cause, answer}
@@ -19,7 +21,7 @@ use Rattle.newmm_answers.specs.Answers.{cutOf}
 use Rattle.sheet_replies.specs.declared.reply.Asked.{Asked}
 use Rattle.sheet_replies.specs.declared.reply.Asked.the-variants.{Nothing, Add, Remove, Cut}
 use Rattle.sheet_replies.specs.declared.reply.Reply.{Reply}
-use Rattle.sheet_replies.specs.declared.reply.Reply.the-variants.{Unknown}
+use Rattle.sheet_replies.specs.declared.reply.Reply.the-variants.{Unknown, Refused}
 use Rattle.sheet_replies.specs.declared.input.Fed.{Fed}
 use Rattle.sheet_replies.specs.Replies.{asked, textOf, reported, ended}
 use Rattle.sheet_replies.specs.Texts.{lineOf}
@@ -195,3 +197,16 @@ pub data Calls : List ℕ → ℕ → List ℕ → List ℕ → List ℕ → Typ
   last : {row pool : List ℕ} {kept : ℕ} (out : List ℕ) (n : ℕ)
       → Finished row kept pool out n
       → Calls row kept pool [] (take n out)
+
+-- Of the refusals only 1, 7 and 8 can appear in a run, whatever a line asks and whatever words are
+-- held.
+pub data Possible : ℕ → Type 0 where
+  one : Possible 1
+  seven : Possible 7
+  eight : Possible 8
+
+abbrev pub OnlyThese : Type 0
+OnlyThese =
+    (k : Asked) (text : List ℕ) (words : List (List ℕ)) (r : Refusal)
+    → replyIn k text words ≡ Refused r
+    → Possible (numberOf r)
