@@ -1,16 +1,18 @@
-"""Holds the Rust against a file of vector lines: differential/against_vectors.py VECTORS
+"""Holds the Rust against the model's lines in tests/vectors/model.txt, or against another file: differential/against_vectors.py [VECTORS]
 
 Takes the lines of clusters, prefix, dict and cut. The Rust refuses nothing, so a refused call is left out, and a
 refused step of a dictionary script, which changes nothing, is taken out of it. It trims more characters, so a script
 that adds or removes a word with one of those at its edge is left out.
 """
 import collections
+import os
 import sys
 
 import lines
 import sides
 
 OPS = ("clusters", "prefix", "dict", "cut")
+MODEL = os.path.join(sides.ROOT, "tests", "vectors", "model.txt")
 
 
 def compared(fields, expected):
@@ -29,7 +31,7 @@ def compared(fields, expected):
 
 def main():
     taken, counts = [], collections.Counter()
-    for line in open(sys.argv[1], encoding="ascii"):
+    for line in open(sys.argv[1] if len(sys.argv) > 1 else MODEL, encoding="ascii"):
         fields = line.rstrip("\n").split("\t")
         if fields[0] not in OPS:
             continue

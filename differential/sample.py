@@ -1,18 +1,14 @@
-"""Adds a sample of the Rust's answers to stdin and stdout of the test programs: differential/sample.py
+"""Keeps a sample of the made cases with the Rust's answers in tests/vectors/rust.txt: differential/sample.py
 
-The scripts in tests/ write these files; the sample stands behind their lines, and is the same each time. The Rust is
-what differential/setup has built. No real text and no real words are in it.
+The scripts in tests/ put its lines behind their own. It is the same each time. The Rust is what differential/setup has
+built. No real text and no real words are in it.
 """
 import os
-import sys
 
 import boundaries
 import generate
 import lines
 import sides
-
-sys.path.insert(0, os.path.join(sides.ROOT, "tests"))
-import vectors
 
 SEED = 1
 
@@ -44,13 +40,6 @@ def sampled():
         yield from fitting[:: max(1, len(fitting) // count)][:count]
 
 
-def written(program):
-    """The lines of a test program, with their answers."""
-    folder = os.path.join(sides.ROOT, "crates", program)
-    given, expected = [open(os.path.join(folder, name), encoding="ascii").read().splitlines() for name in ("stdin", "stdout")]
-    return [(line.split("\t"), answer) for line, answer in zip(given, expected, strict=True)]
-
-
 def hold_to_document(answered):
     """Stops where the Rust gives other ends than document 01."""
     for mode, held, text, ends in boundaries.DOCUMENT:
@@ -62,9 +51,9 @@ def main():
     given = list(sampled())
     answered = list(zip(given, sides.rust(given)))
     hold_to_document(dict(answered))
-    for program in sorted(set(sides.standing().values())):
-        made = [(line.split("\t"), answer) for line, answer in answered if sides.standing().get(sides.kind(line)) == program]
-        vectors.write(program, written(program) + made)
+    with open(os.path.join(sides.ROOT, "tests", "vectors", "rust.txt"), "w", encoding="ascii") as out:
+        out.writelines("%s\t=>\t%s\n" % pair for pair in answered)
+    print("tests/vectors/rust.txt: %d lines" % len(answered))
 
 
 main()

@@ -8,11 +8,11 @@ RUST = os.path.join(ROOT, "target", "differential", "cargo", "release", "nlpo3-a
 
 # The proved programs that can answer a kind of line, the best first.
 PROGRAMS = {
-    "clusters": ["tcc_tests"],
-    "prefix": ["trie_char_tests"],
-    "dict": ["trie_char_tests"],
-    "cut plain": ["cut_tests", "one_cut_tests"],
-    "cut safe": ["cut_tests"],
+    "clusters": ["test_tcc"],
+    "prefix": ["test_trie_char"],
+    "dict": ["test_trie_char"],
+    "cut plain": ["test_cut"],
+    "cut safe": ["test_cut"],
 }
 
 

@@ -1,18 +1,14 @@
-"""Writes crates/char_string_tests/stdin and stdout.
+"""Writes crates/test_char_string/stdin and stdout.
 
-    python3 tests/make_char_string.py VECTORS
+    python3 tests/make_char_string.py
 
-VECTORS is a file of vector lines with the answers of an independent model; its lines for decode, trim, rspace and
-part are taken. A part line stands there twice: for the plain part, and for the view that is held in a struct. A decode
-line there also has a row for byte positions: that column and the positions in the answer are left out, and so is a
-line that is refused for that row alone.
+The independent model's lines for decode, trim, rspace and part are taken. A part line is taken twice: for the plain
+part, and for the view that is held in a struct.
 
 The other lines are made here. The expected side of each comes from Python's own UTF-8 codec: where bytes.decode
 fails, its `start` is where the first ill-formed sequence starts. Refusals are in document 01's order, 1, 2, 6.
-The lines from VECTORS are held to the same codec, and the script stops where the two differ.
+The model's lines are held to the same codec, and the script stops where the two differ.
 """
-import sys
-
 import vectors
 
 MAX_SCALARS = 65535
@@ -75,20 +71,15 @@ def decode(data, room="*"):
     return ["decode", vectors.hex_bytes(data), str(room)], decoded(data, room)
 
 
-def given(path):
-    """The lines of the vectors file."""
-    for fields, expected in vectors.read(path, ("decode", "trim", "rspace", "part")):
+def given():
+    """The model's lines."""
+    for fields, expected in vectors.model("decode", "trim", "rspace", "part"):
         if fields[0] == "part":
             yield ["view_part"] + fields[1:], expected
         if fields[0] != "decode":
             yield fields, expected
             continue
-        data = bytes.fromhex(fields[1]) if fields[1] != "-" else b""
-        made = decode(data, fields[2])
-        if expected.startswith("! 6 ") and made[1].startswith("ok "):
-            continue
-        if expected.startswith("ok "):
-            expected = expected.rsplit(" ", 1)[0]
+        made = decode(vectors.parsed_bytes(fields[1]), fields[2])
         if expected != made[1]:
             raise SystemExit("the codec has %s: %s" % (made[1][:80], "\t".join(fields)[:80]))
         yield made
@@ -261,10 +252,10 @@ def sub_views():
 
 
 def main():
-    made = list(given(sys.argv[1]))
+    made = list(given())
     for group in unicode_examples, first_bytes, later_bytes, edges, long_texts, short_rows, scalar_cells, texts, words, views, sub_views:
         made.extend(group())
-    vectors.write("char_string_tests", made)
+    vectors.write("test_char_string", made)
 
 
 main()

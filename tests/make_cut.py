@@ -1,13 +1,11 @@
-"""Writes crates/cut_tests/stdin and stdout.
+"""Writes crates/test_cut/stdin and stdout.
 
-    python3 tests/make_cut.py VECTORS
+    python3 tests/make_cut.py
 
-VECTORS is a file of vector lines with the answers of an independent model; its cut lines are taken, and from them lines
-with too little scratch, too little output, a bad text or a bad pool. What those refuse with, document 01 says: the
-conditions in their order, each with its detail. differential/sample.py adds the Rust's answers behind them.
+The independent model's lines for cut are taken, and from them lines with too little scratch, too little output, a bad
+text or a bad pool. What those refuse with, document 01 says: the conditions in their order, each with its detail. The
+Rust's lines stand behind them.
 """
-import sys
-
 import vectors
 from make_trie_char import cells_of, pools
 
@@ -75,12 +73,12 @@ def pool_calls():
 
 
 def main():
-    found = vectors.read(sys.argv[1], ["cut"])
+    found = vectors.model("cut")
     lines = list(found)
     accepted = [line for line in found if line[1].startswith("ok") and len(line[0][2] + line[0][3]) < SHORT]
     for fields, expected in accepted[::6]:
         lines += lent_rows(fields, expected)
-    vectors.write("cut_tests", lines + list(bad_calls()) + list(pool_calls()))
+    vectors.write("test_cut", lines + list(bad_calls()) + list(pool_calls()) + vectors.rust("cut"))
 
 
 main()

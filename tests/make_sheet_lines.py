@@ -1,19 +1,16 @@
-"""Writes crates/sheet_lines/stdin and stdout, and crates/sheet_lines_tests/stdin and stdout.
+"""Writes crates/sheet_lines/stdin and stdout, and crates/test_sheet_lines/stdin and stdout.
 
-    python3 tests/make_sheet_lines.py VECTORS
+    python3 tests/make_sheet_lines.py
 
-VECTORS is a file of vector lines with the answers of an independent model; its program lines are taken.
+The independent model's lines for program are taken.
 
-The program's own stdin starts with the whole run of document 01. Then come the runs of FRAMING, and those of VECTORS. A
+The program's own stdin starts with the whole run of document 01. Then come the runs of FRAMING, and the model's. A
 run starts with an empty dictionary, so between two runs the words that are held are removed: they are known from the
 answers, since a 1 for `+` or `-` says that the word came or went.
 
 The test program gives each run a fresh pool, and hands the bytes over in parts of several lengths. Its lines are
 `program  bytes  most bytes at a time  =>  ok bytes`.
 """
-import os
-import sys
-
 import vectors
 
 # 01, "Sheets on both sides of a line": the whole run.
@@ -22,6 +19,8 @@ WHOLE = "+กข\n+กขค\n=กขคก\n-กขค\n=กขค\n".encode(),
 TRIMMED = b"\t\n\v\f\r "
 
 MAX_LINE = 1024
+
+LONGEST_REPLY = 4008
 
 PARTS = (1, 2, 3, 7, 1023, 1024, 1025, 4096)
 
@@ -35,6 +34,13 @@ def letters(op, n):
     else:
         answer = b"! 7 %d" % (n - 1)
     return op + b"a" * (n - 1), answer
+
+
+def alternating(op, n):
+    """A line of n bytes whose text has a letter and a digit by turns: with no words each character is a token of its own, so
+    the ends are all positions. The longest line's reply is the longest reply."""
+    answer = b" ".join(b"%d" % end for end in range(1, n))
+    return op + (b"a1" * n)[:n - 1], answer
 
 
 def framing():
@@ -58,6 +64,12 @@ def framing():
     for n in 257, 1023, 1024, 1025, 1026:
         yield [letters(b"+", n), letters(b"-", n), (b"=a", b"1")]
     yield [(b"=" + b"a" * 1023 + b"\r", b"?"), (b"=" + b"\xff" * 1024, b"?"), (b"=" + b"\xff" * 1023, b"! 1 0")]
+    # the longest reply has 4,008 bytes with its line feed
+    for op in b"=", b"~":
+        longest = alternating(op, MAX_LINE)
+        if len(longest[1] + b"\n") != LONGEST_REPLY:
+            raise SystemExit("the longest reply has %d bytes" % len(longest[1] + b"\n"))
+        yield [alternating(op, 12), longest, (b"=a", b"1"), longest]
     yield [(b"?" * 3000, b"?"), (b"+a", b"1"), (b"+b" + b"c" * 5000, b"?"), (b"-b", b"0"), (b"-a", b"1")]
 
 
@@ -76,7 +88,7 @@ def lines(data):
     return data.split(b"\n")[:-1] if data.endswith(b"\n") or not data else data.split(b"\n")
 
 
-def runs(path):
+def runs():
     """Each run: the bytes, and what the program writes."""
     yield WHOLE
     for made in framing():
@@ -86,7 +98,7 @@ def runs(path):
         # the last line without its line feed; an empty one is then no line
         if made and made[-1][0]:
             yield data[:-1], answers
-    for fields, expected in vectors.read(path, ("program",)):
+    for fields, expected in vectors.model("program"):
         status, answers = expected.split(" ")
         if status != "ok":
             raise SystemExit("a run is never refused: %s" % expected)
@@ -105,7 +117,7 @@ def program(found):
     data += b"=a"
     answers += b"1\n"
     for name, side in ("stdin", data), ("stdout", answers):
-        with open(os.path.join(vectors.ROOT, "crates", "sheet_lines", name), "wb") as out:
+        with open(vectors.made("sheet_lines", name), "wb") as out:
             out.write(side)
     print("sheet_lines: %d lines" % answers.count(b"\n"))
 
@@ -115,11 +127,11 @@ def tests(found):
     for i, (run, answers) in enumerate(found):
         for most in (PARTS[i % len(PARTS)], "*"):
             made.append((["program", vectors.hex_bytes(run), str(most)], "ok " + (answers.hex() or "-")))
-    vectors.write("sheet_lines_tests", made)
+    vectors.write("test_sheet_lines", made)
 
 
 def main():
-    found = [tuple(run) for run in runs(sys.argv[1])]
+    found = [tuple(run) for run in runs()]
     program(found)
     tests(found)
 

@@ -1,18 +1,18 @@
-"""Writes crates/tcc_tests/stdin and stdout.
+"""Writes crates/test_tcc/stdin and stdout.
 
-    python3 tests/make_tcc.py VECTORS TCC_RULES
+    python3 tests/make_tcc.py
 
-VECTORS is a file of vector lines with the answers of an independent model; its lines for clusters are taken.
-TCC_RULES is nlpo3's tcc_rules.rs: the patterns are read from it as they are written, and Python's `re` runs them,
-which like the regex crate takes the first alternative that matches and each optional part where it can.
+The independent model's lines for clusters are taken. The patterns are those of nlpo3's tcc_rules.rs as they are
+written there (vectors/patterns.txt), and Python's `re` runs them, which like the regex crate takes the first
+alternative that matches and each optional part where it can.
 
 The other lines are made here, with document 01's shorthand for the patterns, its rule on the look-ahead and its
 refusals in their order, 2, 3, 6. 01's own cases are written out below. All lines are held to `re`, and the script
-stops where the two differ.
+stops where the two differ. The Rust's lines stand behind them.
 """
+import os
 import random
 import re
-import sys
 
 import vectors
 
@@ -47,9 +47,9 @@ def expanded(pattern):
     return pattern.replace("c", "[%s]" % CONSONANT).replace("t", "[%s]?" % TONE)
 
 
-def read(path):
+def read():
     """The alternatives of the two patterns as they are written, in their order."""
-    written = re.findall(r'r"(\^[^"]*)"', open(path, encoding="utf-8").read())
+    written = open(os.path.join(vectors.FOLDER, "patterns.txt"), encoding="utf-8").read().splitlines()
     assert len(written) == 31, "29 alternatives and 2 that look ahead"
     return written
 
@@ -140,12 +140,12 @@ def winning(written, rules, draw):
     return found
 
 
-def lines(path, written):
+def lines(written):
     """All vectors, as (fields, expected)."""
     draw = random.Random(1)
     rules = tables(written)
     made = []
-    for fields, expected in vectors.read(path, ["clusters"]):
+    for fields, expected in vectors.model("clusters"):
         assert answer(parsed(fields[1]), fields[2], rules) == expected, fields
         made.append((fields, expected))
     for text, ends in SHEET:
@@ -177,4 +177,4 @@ def lines(path, written):
 
 
 if __name__ == "__main__":
-    vectors.write("tcc_tests", lines(sys.argv[1], read(sys.argv[2])))
+    vectors.write("test_tcc", lines(read()) + vectors.rust("clusters"))

@@ -1,16 +1,17 @@
-"""Writes crates/trie_char_tests/stdin and stdout.
+"""Writes crates/test_trie_char/stdin and stdout.
 
-    python3 tests/make_trie_char.py VECTORS
+    python3 tests/make_trie_char.py
 
-VECTORS is a file of vector lines with the answers of an independent model; its dict and prefix lines are taken.
+The independent model's lines for dict and prefix are taken, and the Rust's stand behind all others.
 
 The other lines are made here, from a model of document 01 and docs/POOL.md: a pool is a set of words, and its cells
-are written down level by level. Steps of a script beside those of VECTORS: c, all cells of the pool. A line `pool`
+are written down level by level. A step of a script that only these lines have: c, all cells of the pool. A line `pool`
 gives the cells themselves: ok with the number of words, or refusal 4.
 """
 import itertools
 import random
-import sys
+
+import vectors
 
 TRIMMED = {9, 10, 11, 12, 13, 32}
 MAX_NODES = 1048576
@@ -207,20 +208,12 @@ def pools():
     yield fails(deep)
 
 
-def given(path):
-    with open(path) as lines:
-        for line in lines:
-            if line.startswith(("dict\t", "prefix\t")):
-                yield line.rstrip("\n").split("\t=>\t")
-
-
 def main():
     lines = [("prefix\tE01.E02:0,E01.E02.E04:0\tE01.E02.E04.E07.E08\t%s" % out, answer)
              for out, answer in (("*", "ok 2,3"), ("0", "! 6 2"), ("1", "! 6 2"), ("2", "ok 2,3"), ("3", "ok 2,3"))]
-    lines += itertools.chain(scripts(), pools(), given(sys.argv[1]))
-    for name, side in (("stdin", 0), ("stdout", 1)):
-        with open("crates/trie_char_tests/" + name, "w") as out:
-            out.writelines(line[side] + "\n" for line in lines)
+    lines += itertools.chain(scripts(), pools())
+    made = [(line.split("\t"), answer) for line, answer in lines]
+    vectors.write("test_trie_char", made + vectors.model("dict", "prefix") + vectors.rust("dict", "prefix"))
 
 
 if __name__ == "__main__":

@@ -1,17 +1,29 @@
-"""Vector lines: reading a vectors file, spelling fields, and writing a test crate's stdin and stdout.
+"""Vector lines: reading the files of tests/vectors, spelling fields, and writing a program's stdin and stdout.
 
-A vector is a line of fields parted by tabs, `op  inputs..  =>  expected`. A test crate's stdin holds the
-input side of each line, and its stdout the expected side of each.
+A vector is a line of fields parted by tabs, `op  inputs..  =>  expected`. A test program's stdin holds the
+input side of each line, and its stdout the expected side of each. They are written below crates/, or below the
+folder that the variable MADE names.
 """
 import os
 
 ROOT = os.path.dirname(os.path.dirname(os.path.abspath(__file__)))
+FOLDER = os.path.join(ROOT, "tests", "vectors")
 
 
-def read(path, ops):
+def model(*ops):
+    """The independent model's lines for these operations."""
+    return read("model.txt", ops)
+
+
+def rust(*ops):
+    """The Rust's lines for these operations: what differential/sample.py has kept."""
+    return read("rust.txt", ops)
+
+
+def read(name, ops):
     """The vectors of a file whose operation is among ops, as (fields, expected), in the file's order."""
     found = []
-    for line in open(path, encoding="ascii"):
+    for line in open(os.path.join(FOLDER, name), encoding="ascii"):
         fields = line.rstrip("\n").split("\t")
         mark = fields.index("=>")
         if fields[0] in ops:
@@ -34,6 +46,12 @@ def cells(row):
             parts.append("%X" % row[i])
             i += 1
     return ".".join(parts) or "-"
+
+
+def parsed_bytes(field):
+    """The bytes of a field that hex_bytes spells."""
+    parts = [part.partition("*") for part in field.split(".")] if field != "-" else []
+    return b"".join(bytes.fromhex(unit) * int(times or 1) for unit, _, times in parts)
 
 
 def hex_bytes(row, long=64):
@@ -70,12 +88,19 @@ def repeated(row, i):
     return best
 
 
+def made(crate, name):
+    """The path of a program's stdin or stdout."""
+    folder = os.path.join(os.environ.get("MADE") or os.path.join(ROOT, "crates"), crate)
+    os.makedirs(folder, exist_ok=True)
+    return os.path.join(folder, name)
+
+
 def write(crate, vectors):
-    """Writes the stdin and the stdout of a test crate, a line for each vector; a vector that comes twice is written once."""
+    """Writes the stdin and the stdout of a test program, a line for each vector; a vector that comes twice is written once."""
     vectors = list(dict.fromkeys(("\t".join(fields), expected) for fields, expected in vectors))
     if len(dict(vectors)) != len(vectors):
         raise SystemExit("a line has two answers")
     for name, side in ("stdin", 0), ("stdout", 1):
-        with open(os.path.join(ROOT, "crates", crate, name), "w", encoding="ascii") as out:
+        with open(made(crate, name), "w", encoding="ascii") as out:
             out.writelines(vector[side] + "\n" for vector in vectors)
     print("%s: %d lines" % (crate, len(vectors)))

@@ -6,9 +6,8 @@
 #include "driver.h"
 #include "fetlockice.h"
 
-/* The search for words in a dictionary that is known to be one, without the check of the pool: crates/prefix_search. */
-size_t search_prefix_lengths(const uint32_t *pool, size_t pool_len, const uint32_t *text, size_t text_len, uint32_t *out,
-                             size_t out_len);
+/* One check of the pool, and the search for words at every place of the text; answers their number: crates/bench_prefix_search. */
+size_t search_places(const uint32_t *pool, size_t pool_len, const uint32_t *text, size_t text_len, uint32_t *out, size_t out_len);
 
 enum op { DECODE, CLUSTERS, PREFIX, PLACES, PLAIN, SAFE, CHECK, READ, READ_WIDE };
 static const char *const names[] = {"decode", "clusters", "prefix", "places", "plain", "safe", "check", "read", "read-wide"};
@@ -59,12 +58,6 @@ __attribute__((noinline, optimize("O3"))) static uint32_t read_wide(void) {
     return sum;
 }
 
-/* The lengths at place b of text i, no more of the text than a word may have. */
-static size_t at_place(size_t i, size_t b) {
-    size_t left = lengths[i] - b;
-    return search_prefix_lengths(pool, pool_len, scalars[i] + b, left < 255 ? left : 255, out, 255);
-}
-
 static size_t answer(size_t i) {
     size_t count = 0, detail;
     switch (op) {
@@ -73,9 +66,7 @@ static size_t answer(size_t i) {
     case PREFIX:
         accepted(fetlockice_prefix_lengths(pool, pool_len, scalars[i], lengths[i], out, 255, &count, &detail));
         return count;
-    case PLACES:
-        for (size_t b = 0; b < lengths[i]; b++) count += at_place(i, b);
-        return count;
+    case PLACES: return search_places(pool, pool_len, scalars[i], lengths[i], out, lengths[i]);
     case PLAIN:
     case SAFE: return cut(i);
     case CHECK: return check();
@@ -94,12 +85,12 @@ static void show(size_t count) {
 }
 
 static void answers(void) {
+    size_t words = 0;
     for (size_t i = 0; i < text_count; i++) {
-        if (op == PLACES)
-            for (size_t b = 0; b < lengths[i]; b++) show(at_place(i, b)), putchar('\n');
-        else
-            show(answer(i)), putchar('\n');
+        if (op == PLACES) words += answer(i);
+        else show(answer(i)), putchar('\n');
     }
+    if (op == PLACES) printf("%zu\n", words);
 }
 
 static void load(const char *words, size_t nodes, const char *to) {

@@ -21,6 +21,8 @@
  *   3. A row or number that a call may write overlaps no other row or number of that call. Two const rows may overlap.
  *   4. While a call runs, no other thread writes what it was lent, or reads what it may write. So calls on different
  *      memory may run at once, and so may calls that only read one pool.
+ *   5. The thread that calls has FETLOCKICE_MAX_STACK bytes of stack left. No proof sees the stack: host/stack/run
+ *      measures it, and fails where a call takes more than half of that.
  */
 #ifndef FETLOCKICE_H
 #define FETLOCKICE_H
@@ -38,10 +40,14 @@ extern "C" {
 
 /* A pool has eight cells to a node. Nodes in use are the root and one for each distinct non-empty prefix of the words
  * held. Cells after the last whole node, and after this many nodes, are never read or written. A call on a dictionary
- * reads the rest of the pool once, to see that it is a dictionary. To give a pool more nodes, lend it with cells of 0
+ * reads the rest of the pool, to see that it is a dictionary. To give a pool more nodes, lend it with cells of 0
  * behind its last whole node. */
 #define FETLOCKICE_NODE_CELLS 8
 #define FETLOCKICE_MAX_NODES 1048576
+
+/* The bytes of stack that a call takes at most. Measured on x86-64, over hostile and deepest inputs: fetlockice_remove
+ * 20,560, as it goes down a word of 255 scalars by recursion; fetlockice_decode 4,616, the others under 1,000. */
+#define FETLOCKICE_MAX_STACK 65536
 
 /* The scratch cells that a cut of n scalars asks for. */
 #define FETLOCKICE_SCRATCH_CELLS(n) (9 * (size_t)(n) + 128)

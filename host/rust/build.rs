@@ -7,7 +7,7 @@ fn main() {
     let made = Command::new(root.join("host/native-lib")).status().expect("host/native-lib runs");
     assert!(made.success(), "host/native-lib could not make the library");
     println!("cargo:rustc-link-search=native={}", root.join("target/host").display());
-    println!("cargo:rustc-link-lib=static=host");
+    println!("cargo:rustc-link-lib=static=fetlockice");
     for path in ["crates", "crates.txt", "host/native-lib"] {
         println!("cargo:rerun-if-changed={}", root.join(path).display());
     }

@@ -81,7 +81,11 @@ fn answers(bench: &Bench) {
     match bench.op.as_str() {
         "decode" => bench.texts.iter().for_each(|t| show(&mut out, CharString::new(t).chars().map(|c| c as usize))),
         "clusters" => bench.texts.iter().for_each(|t| show(&mut out, tcc_pos(t))),
-        "prefix" | "places" => bench.views.iter().for_each(|v| show(&mut out, TrieChar::prefix_ref(v, &bench.trie))),
+        "prefix" => bench.views.iter().for_each(|v| show(&mut out, TrieChar::prefix_ref(v, &bench.trie))),
+        "places" => {
+            let words: usize = bench.views.iter().map(|v| TrieChar::prefix_ref(v, &bench.trie).len()).sum();
+            writeln!(out, "{words}").expect("a write");
+        }
         _ => bench.texts.iter().for_each(|t| show(&mut out, ends(bench.cut(t)))),
     }
 }

@@ -10,7 +10,7 @@ use lib.Dec.{leb}
 use borrow.Author.Tests.{lt-leb, leb-true, lt-ltb, le-ltb}
 use Rattle.char_string.specs.declared.parts.Span.{Span}
 use Rattle.char_string.specs.declared.parts.CharAt.the-variants.{Scalar, Nothing}
-use Rattle.char_string.specs.Parts.{rightPair, fitted, between, partOf, charAt, shifted, subView}
+use Rattle.char_string.specs.Parts.{Within, rightPair, fitted, between, partOf, charAt, shifted, subView}
 
 pub crossed : (n : ℕ) {a e : ℕ} → e < a → rightPair n a e ≡ false
 crossed n h = simp (lt-leb _ _ h)
@@ -24,10 +24,6 @@ unfolding fitted
 fit-wrong n a e h = simp h
 
 -- a fitted pair is a right one
-pub record Within (n : ℕ) (s : Span) : Type 0 where
-  pub order : s .start ≤ s .end
-  pub inside : s .end ≤ n
-
 fitted-at : (n a e : ℕ) (x y : Bool) → leb a e ≡ x → leb e n ≡ y → Within n (cond (x && y) (record { start = a; end = e }) (record { start = 0; end = 0 }))
 fitted-at n a e true true p q = record { order = leb-true a e p; inside = leb-true e n q }
 fitted-at n a e true false p q = record { order = omega arith; inside = omega arith }

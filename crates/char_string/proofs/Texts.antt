@@ -7,10 +7,10 @@ use borrow.Author.Tests.{lt-ltb, le-ltb}
 use Rattle.refusal.specs.declared.Answer.the-variants.{Accepted, Refused}
 use Rattle.refusal.specs.declared.Refusal.the-variants.{TooManyScalars, NotAScalar}
 use Rattle.refusal.specs.Answers.{numbers}
-use Rattle.char_string.specs.Scalars.{firstNonScalar, textRows, checked}
+use Rattle.char_string.specs.Scalars.{firstNonScalar, textCauses, checked}
 
 -- Every operation on a text gives 2 and 3 first.
-pub first-two : (text : List ℕ) → numbers (textRows text) ≡ 2 ∷ 3 ∷ []
+pub first-two : (text : List ℕ) → numbers (textCauses text) ≡ 2 ∷ 3 ∷ []
 first-two text = refl
 
 module _ (text : List ℕ) where

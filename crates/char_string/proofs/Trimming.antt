@@ -5,11 +5,11 @@ use native.Mathlib.Numerals.{sub-one}
 use mathlib.Core.Path.{_≡_, sym, _∙_, ap}
 use mathlib.Core.List.{List}
 use lib.ListN.{length, take, drop, length-drop}
-use Rattle.basics.specs.Scans.{behindLast}
+use Rattle.lists.specs.Scans.{behindLast}
 use lib.Seq.{length-take-le}
 use borrow.Author.Tests.{le-leb}
-use Rattle.basics.proofs.Parts.{tail-drop}
-use Rattle.basics.proofs.Scans.{leading-inside, last-inside}
+use Rattle.lists.proofs.Parts.{tail-drop}
+use Rattle.lists.proofs.Scans.{leading-inside, last-inside}
 use Rattle.char_string.specs.declared.parts.Span.{Span}
 use Rattle.char_string.specs.declared.blanks.Found.the-variants.{At, Nothing}
 use Rattle.char_string.proofs.Pairs.{fit-right}

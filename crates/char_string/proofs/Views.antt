@@ -3,10 +3,10 @@ use Prim.Native.Nat.{ℕ, _-_}
 use mathlib.Core.Path.{_≡_, sym, _∙_, ap}
 use mathlib.Core.List.{List}
 use lib.ListN.{length}
-use Rattle.basics.proofs.Parts.{part-of-part}
+use Rattle.lists.proofs.Parts.{part-of-part}
 use Rattle.char_string.specs.declared.parts.Span.{Span}
-use Rattle.char_string.specs.Parts.{fitted, between, partOf, subView}
-use Rattle.char_string.proofs.Pairs.{Within, within-fitted, length-between}
+use Rattle.char_string.specs.Parts.{Within, fitted, between, partOf, subView}
+use Rattle.char_string.proofs.Pairs.{within-fitted, length-between}
 
 pub sub-view-shows : (text : List ℕ) (v : Span) (from to : ℕ) → Within (length text) v → between text (subView v from to) ≡ partOf (between text v) from to
 unfolding subView

@@ -4,13 +4,13 @@ use mathlib.Core.Bool.{Bool, not, _||_}
 use mathlib.Core.List.{List}
 use lib.ListN.{take, drop}
 use lib.Dec.{eqb}
-use Rattle.basics.specs.Scans.{within, leading, behindLast}
+use Rattle.lists.specs.Scans.{within, leading, behindLast}
 use Rattle.char_string.specs.declared.parts.Span.{Span}
 use Rattle.char_string.specs.declared.blanks.Found.{Found}
 use Rattle.char_string.specs.declared.blanks.Found.the-variants.{At, Nothing}
 
 -- Trimming strips U+0009 to U+000D and U+0020 at both edges.
-abbrev pub isTrimmed : ℕ → Bool
+unfoldable pub isTrimmed : ℕ → Bool
 isTrimmed x = within 0x9 0xD x || eqb x 0x20
 
 abbrev pub stays : ℕ → Bool

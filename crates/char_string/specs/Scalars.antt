@@ -4,25 +4,25 @@ use mathlib.Core.Bool.{Bool, _||_}
 use mathlib.Core.List.{List, [], _∷_}
 use lib.ListN.{length}
 use lib.Dec.{ltb}
-use Rattle.basics.specs.Scans.{within, leading}
+use Rattle.lists.specs.Scans.{within, leading}
 use Rattle.refusal.specs.declared.Answer.{Answer}
-use Rattle.refusal.specs.declared.Refusal.the-variants.{TooManyScalars, NotAScalar}
-use Rattle.refusal.specs.Answers.{Row, answer}
+use Rattle.refusal.specs.declared.Refusal.the-variants.{NotAScalar}
+use Rattle.refusal.specs.Answers.{Cause, answer, longCause}
 
 -- U+0000 to U+D7FF and U+E000 to U+10FFFF
-abbrev pub isScalar : ℕ → Bool
+unfoldable pub isScalar : ℕ → Bool
 isScalar x = ltb x 0xD800 || within 0xE000 0x10FFFF x
 
 -- the index of the first cell that isn't a scalar value, or the length where all are
 abbrev pub firstNonScalar : List ℕ → ℕ
 firstNonScalar cells = leading isScalar cells
 
--- 2: more than 65,535 scalars; that number. 3: a cell isn't a Unicode scalar value; the index of the first.
-abbrev pub textRows : List ℕ → List Row
-textRows text =
-    record { refusal = TooManyScalars (length text); holds = ltb 65535 (length text) }
+-- 2, then 3: a cell isn't a Unicode scalar value; the index of the first.
+abbrev pub textCauses : List ℕ → List Cause
+textCauses text =
+    longCause (length text)
     ∷ record { refusal = NotAScalar (firstNonScalar text); holds = ltb (firstNonScalar text) (length text) }
     ∷ []
 
 unfoldable pub checked : List ℕ → Answer
-checked text = answer (textRows text) (length text)
+checked text = answer (textCauses text) (length text)

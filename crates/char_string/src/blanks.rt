@@ -3,7 +3,7 @@ use crate::parts::Span;
 use crate::parts::substring;
 ghost use mathlib.Core.Path.{_≡_};
 ghost use denote.Ref.{ptr};
-ghost use Rattle.basics.specs.Scans.{behindLast};
+ghost use Rattle.lists.specs.Scans.{behindLast};
 ghost use Rattle.char_string.specs.Parts.{cellAt};
 ghost use Rattle.char_string.specs.Blanks.{isTrimmed, stays, trimStart, trimOf, trimmedOf, lastSpace};
 

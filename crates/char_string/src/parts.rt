@@ -1,4 +1,5 @@
-// Sub-texts, after `CharString::substring`: parts of the caller's text, and views as a text with a start and an end.
+// Sub-texts, after `CharString::substring`: parts of the caller's text, and views as a text with a
+// start and an end.
 ghost use mathlib.Core.Path.{_≡_};
 ghost use lib.ListN.{length};
 ghost use denote.Ref.{ptr};
@@ -35,8 +36,9 @@ pub fn fit(text: &[u32], start: usize, end: usize) -> Span
     Span { start: 0, end: 0 }
 }
 
-// The part of the caller's text between the two positions: the cells themselves, no copy. A wrong pair gives
-// the empty part at the text's start. It is also what a view with that start and end shows.
+// The part of the caller's text between the two positions: the cells themselves, no copy. A wrong
+// pair gives the empty part at the text's start. It is also what a view with that start and end
+// shows.
 pub fn substring(text: &[u32], start: usize, end: usize) -> &[u32]
     ensures { λ r. ⌜ now r ≡ partOf (now (text .entry)) start end ⌝ }
     ensures { λ r. ⌜ ptr r ≡ cellAt (ptr (text .entry)) (fitted (length (now (text .entry))) start end .start) ⌝ }
@@ -66,8 +68,8 @@ pub fn get_char_at(text: &[u32], start: usize, end: usize, index: usize) -> Char
     CharAt::Nothing
 }
 
-// The view of a view between two of its positions, as positions of the text. A wrong pair gives the empty view at the
-// view's start.
+// The view of a view between two of its positions, as positions of the text. A wrong pair gives the
+// empty view at the view's start.
 pub fn sub_view(text: &[u32], start: usize, end: usize, from: usize, to: usize) -> Span
     ensures { λ r. ⌜ r ≡ subView (fitted (length (now (text .entry))) start end) from to ⌝ }
 {

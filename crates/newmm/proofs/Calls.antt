@@ -14,54 +14,53 @@ use Rattle.refusal.specs.declared.Refusal.{Refusal}
 use Rattle.refusal.specs.declared.Refusal.the-variants.{ScratchTooShort, OutputTooShort}
 use Rattle.refusal.specs.declared.Answer.{Answer}
 use Rattle.refusal.specs.declared.Answer.the-variants.{Accepted, Refused}
-use Rattle.refusal.specs.Answers.{Row, answer, output}
+use Rattle.refusal.specs.Answers.{Cause, answer, output}
 use Rattle.refusal.proofs.Order.{refused-first, accepted-first}
-use Rattle.pool.specs.Words.{holds}
-use Rattle.pool.specs.Rules.{isDictionary}
-use Rattle.pool.specs.Meaning.{Words, meaning}
-use Rattle.pool_lent.specs.Refusals.{held, readRows}
-use Rattle.pool_lent.proofs.Rows.{None, none-of, again, still, row-yes, row-kept, read-of}
-use Rattle.pool_lent.proofs.Parts.{known-is, readable, held-part}
-use Rattle.cut_rules.specs.Cutting.{Cut}
-use Rattle.one_cut.specs.declared.Ends.{Ends}
-use Rattle.safe_rules.specs.declared.Mode.{Mode}
-use Rattle.safe_rules.proofs.Climbing.{few}
-use Rattle.safe_rules.proofs.Modes.{modes-climb}
-use Rattle.cut_answers.proofs.Plain.{plain-right}
-use Rattle.cut_answers.specs.declared.CutAnswer.{CutAnswer}
-use Rattle.cut_answers.specs.declared.CutAnswer.the-variants as variants
-use Rattle.cut_answers.specs.Answers.{plainCut, cutOf, scratchRows, outRows, firstRows, accepts, told, cutAnswer, outAfter, cleared, scratchAfter}
-use Rattle.segment.specs.Rows.{Ready, Written}
-use Rattle.segment.proofs.Samples.{front, behind, fits}
-use Rattle.newmm.specs.Calls.{Passes}
+use Rattle.trie_pool.specs.Words.{holds}
+use Rattle.trie_pool.specs.Rules.{isDictionary}
+use Rattle.trie_pool.specs.Meaning.{Words, meaning}
+use Rattle.trie_check.specs.Refusals.{held, readCauses}
+use Rattle.refusal.proofs.Causes.{None, none-of, again, still, cause-yes, cause-kept}
+use Rattle.trie_check.proofs.Refusals.{read-of}
+use Rattle.trie_check.proofs.Parts.{known-is, readable, held-part}
+use Rattle.newmm_rules.specs.Cutting.{Cut}
+use Rattle.newmm_one_cut.specs.declared.Ends.{Ends}
+use Rattle.newmm_rules.specs.declared.Mode.{Mode}
+use Rattle.newmm_rules.proofs.Climbing.{few}
+use Rattle.newmm_rules.proofs.Modes.{modes-climb}
+use Rattle.newmm_answers.proofs.Plain.{plain-right}
+use Rattle.newmm_answers.specs.declared.CutAnswer.{CutAnswer}
+use Rattle.newmm_answers.specs.declared.CutAnswer.the-variants as variants
+use Rattle.newmm_answers.specs.Answers.{plainCut, cutOf, scratchFor, scratchCause, scratchCauses, outCauses, firstCauses, accepts, told, cleared}
+use Rattle.newmm_answers.specs.Calls.{Call, call, answerOf, outOf, scratchOf, Cuts}
+use Rattle.newmm_segment.specs.inner.Written.{Ready, Written}
+use Rattle.newmm_segment.proofs.Samples.{front, behind, fits}
+use Rattle.newmm.specs.inner.Calls.{Passes}
 
 -- ---- refusals 2 to 5
 
-module _ (text pool : List ℕ) (cells : ℕ) {a : Answer} (is : a ≡ answer (readRows text (meaning pool)) (length text)) where
-  abbrev scratchRow : Row
-  scratchRow = record { refusal = ScratchTooShort (9 * length text + 128); holds = ltb cells (9 * length text + 128) }
-
-  pub refused-early : {r : Refusal} → a ≡ Refused r → Refused r ≡ answer (firstRows text (meaning pool) cells) (length text)
-  refused-early e = sym (refused-first (readRows text (meaning pool)) (scratchRows text cells) (length text) (length text) (sym is ∙ e))
+module _ (text pool : List ℕ) (cells : ℕ) {a : Answer} (is : a ≡ answer (readCauses text (meaning pool)) (length text)) where
+  pub refused-early : {r : Refusal} → a ≡ Refused r → a ≡ answer (firstCauses text (meaning pool) cells) (length text)
+  refused-early e = e ∙ sym (refused-first (readCauses text (meaning pool)) (scratchCauses text cells) (length text) (length text) (sym is ∙ e))
 
   module _ {n : ℕ} (yes′ : a ≡ Accepted n) where
-    first : answer (readRows text (meaning pool)) (length text) ≡ Accepted n
+    first : answer (readCauses text (meaning pool)) (length text) ≡ Accepted n
     first = sym is ∙ yes′
 
     pub size-is : n ≡ length text
-    size-is = let q : Accepted (length text) ≡ Accepted n = again (readRows text (meaning pool)) (length text) (length text) first ∙ first in cc
+    size-is = let q : Accepted (length text) ≡ Accepted n = again (readCauses text (meaning pool)) (length text) (length text) first ∙ first in cc
 
-    pub short : length text ≤ 65535
-    short = read-of text (meaning pool) (length text) n first .short
+    pub short : n ≤ 65535
+    short = omega (arith, size-is, read-of text (meaning pool) (length text) n first .short)
 
-    pub refused-scratch : (k : ℕ) → k ≡ 9 * n + 128 → cells < k → Refused (ScratchTooShort k) ≡ answer (firstRows text (meaning pool) cells) (length text)
-    refused-scratch k e l =
-        let q : k ≡ 9 * length text + 128 = omega (arith, size-is) in
+    pub refused-scratch : {k : ℕ} → k ≡ scratchFor n → cells < k → Refused (ScratchTooShort k) ≡ answer (firstCauses text (meaning pool) cells) (length text)
+    refused-scratch {k} e l =
+        let q : k ≡ scratchFor (length text) = omega (arith, size-is) in
         ap (λ (z : ℕ). Refused (ScratchTooShort z)) q
-        ∙ row-yes (readRows text (meaning pool)) scratchRow (length text) (length text) first (lt-ltb cells (9 * length text + 128) (omega arith))
+        ∙ cause-yes (readCauses text (meaning pool)) (scratchCause (length text) cells) (length text) (length text) first (lt-ltb cells (scratchFor (length text)) (omega arith))
 
-    pub accepted-early : (k : ℕ) → k ≡ 9 * n + 128 → k ≤ cells → Accepted n ≡ answer (firstRows text (meaning pool) cells) (length text)
-    accepted-early k e l = row-kept (readRows text (meaning pool)) scratchRow (length text) first (le-ltb cells (9 * length text + 128) (omega (arith, size-is)))
+    pub accepted-early : {k : ℕ} → k ≡ scratchFor n → k ≤ cells → Accepted n ≡ answer (firstCauses text (meaning pool) cells) (length text)
+    accepted-early e l = cause-kept (readCauses text (meaning pool)) (scratchCause (length text) cells) (length text) first (le-ltb cells (scratchFor (length text)) (omega (arith, size-is)))
 
 -- ---- a call that passes
 
@@ -76,118 +75,132 @@ zeros-blank n k = go (decLt k n)
 pub cleared-all : (row : List ℕ) {row₁ : List ℕ} → row₁ ≡ replicate {A = ℕ} (length row) 0 ++ drop (length row) row → row₁ ≡ replicate {A = ℕ} (length row) 0
 cleared-all row e = e ∙ ap (λ (l : List ℕ). replicate {A = ℕ} (length row) 0 ++ l) (drop-length row) ∙ append-nil (replicate {A = ℕ} (length row) 0)
 
-module _ (mode : Mode) (text pool : List ℕ) (cells : ℕ) (p : Passes text pool cells) where
-  rows : None (firstRows text (meaning pool) cells)
-  rows = none-of (firstRows text (meaning pool) cells) 0 0 (p .accepted)
+-- what is lent on: the pool's n nodes, and as many cells of 0 as scratch has
+pub record Lent (text pool row : List ℕ) (cells n : ℕ) : Type 0 where
+  pub passes : Passes text pool cells
+  pub nodes : n ≡ min (length pool / 8) 1048576
+  pub blank : row ≡ replicate {A = ℕ} cells 0
+
+module _ {text pool row : List ℕ} {cells n : ℕ} (p : Lent text pool row cells n) where
+  rows : None (firstCauses text (meaning pool) cells)
+  rows = none-of (firstCauses text (meaning pool) cells) 0 0 (p .passes .accepted)
 
   known : isDictionary pool ≡ true
   known = known-is pool (rows .1 .1 .0)
 
-  module _ (n : ℕ) (n-is : n ≡ min (length pool / 8) 1048576) where
-    -- the rows that are lent on
-    pub ready : Ready text (take (8 * n) pool) (replicate {A = ℕ} cells 0)
-    ready =
-        record {
-          short = ltb-false 65535 (length text) (rows .0);
-          root-is = readable pool n n-is known;
-          room = omega (arith, ltb-false cells (9 * length text + 128) (rows .1 .1 .1 .0), length-replicate {A = ℕ} cells 0);
-          blank = zeros-blank cells;
-        }
+  words : held (meaning pool) ≡ holds (take (8 * n) pool)
+  words = held-part pool n (p .nodes) known
 
-    words : held (meaning pool) ≡ holds (take (8 * n) pool)
-    words = held-part pool n n-is known
+  room-is : scratchFor (length text) ≤ cells
+  room-is = ltb-false cells (scratchFor (length text)) (rows .1 .1 .1 .0)
 
-    pub lent-ready : {row₁ : List ℕ} → row₁ ≡ replicate {A = ℕ} cells 0 → Ready text (take (8 * n) pool) row₁
-    lent-ready {row₁} z = subst (λ (l : List ℕ). Ready text (take (8 * n) pool) l) (sym z) ready
+  pub ready : Ready text (take (8 * n) pool) row
+  ready =
+      subst (λ (l : List ℕ). Ready text (take (8 * n) pool) l) (sym (p .blank))
+      (record {
+        short = ltb-false 65535 (length text) (rows .0);
+        root-is = readable pool n (p .nodes) known;
+        room = omega (arith, room-is, length-replicate {A = ℕ} cells 0);
+        blank = zeros-blank cells;
+      })
 
-    module _ {row₁ row : List ℕ} {r : Ends} (z : row₁ ≡ replicate {A = ℕ} cells 0) (w : Written (cutOf mode (holds (take (8 * n) pool)) text) row₁ row r) where
-      abbrev whole : Cut
-      whole = cutOf mode (held (meaning pool)) text
+-- the ends stand at the front of scratch
+pub record Ended (mode : Mode) (text pool row : List ℕ) (cells : ℕ) (r : Ends) : Type 0 where
+  pub blank-row : List ℕ
+  pub n : ℕ
+  pub lent : Lent text pool blank-row cells n
+  pub written : Written (cutOf mode (holds (take (8 * n) pool)) text) blank-row row r
 
-      same : cutOf mode (holds (take (8 * n) pool)) text ≡ whole
-      same = ap (λ (f : Words). cutOf mode f text) (sym words)
+module _ {mode : Mode} {text pool row : List ℕ} {cells : ℕ} {r : Ends} (z : Ended mode text pool row cells r) where
+  abbrev whole : Cut
+  whole = cutOf mode (held (meaning pool)) text
 
-      v : Written whole (replicate {A = ℕ} cells 0) row r
-      v = subst (λ (c : Cut). Written c (replicate {A = ℕ} cells 0) row r) same (subst (λ (l : List ℕ). Written (cutOf mode (holds (take (8 * n) pool)) text) l row r) z w)
+  v : Written whole (replicate {A = ℕ} cells 0) row r
+  v =
+      subst (λ (c : Cut). Written c (replicate {A = ℕ} cells 0) row r) (ap (λ (f : Words). cutOf mode f text) (sym (words (z .lent))))
+      (subst (λ (l : List ℕ). Written (cutOf mode (holds (take (8 * z .n) pool)) text) l row r) (z .lent .blank) (z .written))
 
-      few-ends : length (whole .ends) ≤ length text
-      unfolding cutOf
-      few-ends = omega (arith, few (modes-climb (plainCut (held (meaning pool))) (plain-right (held (meaning pool))) text mode))
+  few-ends : length (whole .ends) ≤ length text
+  unfolding cutOf
+  few-ends = omega (arith, few (modes-climb (plainCut (held (meaning pool))) (plain-right (held (meaning pool))) text mode))
 
-      room : r .ends ≤ cells
-      room = omega (arith, v .ends, few-ends, ready .room, length-replicate {A = ℕ} cells 0)
+  room : r .ends ≤ cells
+  room = omega (arith, v .ends, few-ends, room-is (z .lent))
 
-      pub ends-fit : r .ends ≤ length row
-      ends-fit = fits v (omega (arith, few-ends, ready .room))
+  pub ends-fit : r .ends ≤ length row
+  ends-fit = fits v (omega (arith, few-ends, room-is (z .lent), length-replicate {A = ℕ} cells 0))
 
-      pub ends-lent : length (take (r .ends) row) ≡ r .ends
-      ends-lent = length-take-le (r .ends) row ends-fit
+  pub ends-lent : length (take (r .ends) row) ≡ r .ends
+  ends-lent = length-take-le (r .ends) row ends-fit
 
-      -- the ends are cleared again
-      pub all-zero : (row′ : List ℕ) → row′ ≡ replicate {A = ℕ} (r .ends) 0 ++ drop (r .ends) row → row′ ≡ replicate {A = ℕ} cells 0
-      all-zero row′ e =
-          let d : cells ≡ r .ends + (cells - r .ends) = omega (arith, room) in
-          let y : drop (length (whole .ends)) (replicate {A = ℕ} cells 0) ≡ replicate {A = ℕ} (cells - r .ends) 0 =
-          ap (λ (k : ℕ). drop k (replicate {A = ℕ} cells 0)) (sym (v .ends))
-          ∙ ap (λ (k : ℕ). drop (r .ends) (replicate {A = ℕ} k 0)) d
-          ∙ ap (drop (r .ends)) (sym (replicate-append-replicate {A = ℕ} (r .ends) (cells - r .ends) 0))
-          ∙ drop-at (replicate {A = ℕ} (r .ends) 0) (replicate {A = ℕ} (cells - r .ends) 0) (r .ends) (length-replicate {A = ℕ} (r .ends) 0)
-          in
-          e ∙ ap (λ (x : List ℕ). replicate {A = ℕ} (r .ends) 0 ++ x) (behind v ∙ y) ∙ replicate-append-replicate {A = ℕ} (r .ends) (cells - r .ends) 0 ∙ ap (λ (k : ℕ). replicate {A = ℕ} k 0) (sym d)
+  -- the ends are cleared again
+  all-zero : {row′ : List ℕ} → row′ ≡ replicate {A = ℕ} (r .ends) 0 ++ drop (r .ends) row → row′ ≡ replicate {A = ℕ} cells 0
+  all-zero e =
+      let d : cells ≡ r .ends + (cells - r .ends) = omega (arith, room) in
+      let y : drop (length (whole .ends)) (replicate {A = ℕ} cells 0) ≡ replicate {A = ℕ} (cells - r .ends) 0 =
+      ap (λ (k : ℕ). drop k (replicate {A = ℕ} cells 0)) (sym (v .ends))
+      ∙ ap (λ (k : ℕ). drop (r .ends) (replicate {A = ℕ} k 0)) d
+      ∙ ap (drop (r .ends)) (sym (replicate-append-replicate {A = ℕ} (r .ends) (cells - r .ends) 0))
+      ∙ drop-at (replicate {A = ℕ} (r .ends) 0) (replicate {A = ℕ} (cells - r .ends) 0) (r .ends) (length-replicate {A = ℕ} (r .ends) 0)
+      in
+      e ∙ ap (λ (x : List ℕ). replicate {A = ℕ} (r .ends) 0 ++ x) (behind v ∙ y)
+      ∙ replicate-append-replicate {A = ℕ} (r .ends) (cells - r .ends) 0 ∙ ap (λ (k : ℕ). replicate {A = ℕ} k 0) (sym d)
 
-      late : (room : ℕ) → accepts mode text (meaning pool) cells room ≡ answer (outRows (whole .ends) room) (length (whole .ends))
-      late room = accepted-first (firstRows text (meaning pool) cells) (outRows (whole .ends) room) 0 (length (whole .ends)) (p .accepted)
+  late : (room : ℕ) → accepts mode text (meaning pool) cells room ≡ answer (outCauses (whole .ends) room) (length (whole .ends))
+  late room = accepted-first (firstCauses text (meaning pool) cells) (outCauses (whole .ends) room) 0 (length (whole .ends)) (z .lent .passes .accepted)
 
-      accepts-no : (room : ℕ) → room < r .ends → accepts mode text (meaning pool) cells room ≡ Refused (OutputTooShort (r .ends))
-      accepts-no room h =
-          late room
-          ∙ ap (λ (b : Bool). cond b (Refused (OutputTooShort (length (whole .ends)))) (Accepted (length (whole .ends)))) (lt-ltb room (length (whole .ends)) (omega (arith, v .ends)))
-          ∙ ap (λ (k : ℕ). Refused (OutputTooShort k)) (sym (v .ends))
+  accepts-no : (room : ℕ) → room < r .ends → accepts mode text (meaning pool) cells room ≡ Refused (OutputTooShort (r .ends))
+  accepts-no room h =
+      late room
+      ∙ ap (λ (b : Bool). cond b (Refused (OutputTooShort (length (whole .ends)))) (Accepted (length (whole .ends)))) (lt-ltb room (length (whole .ends)) (omega (arith, v .ends)))
+      ∙ ap (λ (k : ℕ). Refused (OutputTooShort k)) (sym (v .ends))
 
-      accepts-yes : (room : ℕ) → r .ends ≤ room → accepts mode text (meaning pool) cells room ≡ Accepted (r .ends)
-      accepts-yes room h =
-          late room
-          ∙ ap (λ (b : Bool). cond b (Refused (OutputTooShort (length (whole .ends)))) (Accepted (length (whole .ends)))) (le-ltb room (length (whole .ends)) (omega (arith, v .ends)))
-          ∙ ap Accepted (sym (v .ends))
+  accepts-yes : (room : ℕ) → r .ends ≤ room → accepts mode text (meaning pool) cells room ≡ Accepted (r .ends)
+  accepts-yes room h =
+      late room
+      ∙ ap (λ (b : Bool). cond b (Refused (OutputTooShort (length (whole .ends)))) (Accepted (length (whole .ends)))) (le-ltb room (length (whole .ends)) (omega (arith, v .ends)))
+      ∙ ap Accepted (sym (v .ends))
 
-      pub short-answer : (room : ℕ) → room < r .ends → variants.Refused (OutputTooShort (r .ends)) ≡ cutAnswer mode text (meaning pool) cells room
-      short-answer room h = sym (ap (λ (a : Answer). told a (whole .edges)) (accepts-no room h))
+-- refusal 6, and an accepted call: what is answered and left
+module _ {mode : Mode} {text pool row : List ℕ} (scratch out : List ℕ) {r : Ends} (z : Ended mode text pool row (length scratch) r) where
+  zeroed : {row′ : List ℕ} → row′ ≡ replicate {A = ℕ} (r .ends) 0 ++ drop (r .ends) row → row′ ≡ scratchOf (call text pool out scratch mode)
+  zeroed e = all-zero z e ∙ sym (ap (λ (x : Answer). cleared x scratch) (z .lent .passes .accepted))
 
-      pub short-out : (out : List ℕ) → length out < r .ends → out ≡ outAfter mode text (meaning pool) cells out
-      short-out out h = sym (ap (λ (a : Answer). output a (whole .ends) out) (accepts-no (length out) h))
+  pub short-cuts : {row′ : List ℕ} → length out < r .ends → row′ ≡ replicate {A = ℕ} (r .ends) 0 ++ drop (r .ends) row
+      → Cuts (call text pool out scratch mode) (variants.Refused (OutputTooShort (r .ends))) out row′
+  short-cuts h e = (
+    sym (ap (λ (a : Answer). told a (whole z .edges)) (accepts-no z (length out) h)),
+    (sym (ap (λ (a : Answer). output a (whole z .ends) out) (accepts-no z (length out) h)), zeroed e),
+  )
 
-      pub done-answer : (room : ℕ) → r .ends ≤ room → variants.Ends (r .ends) (r .edges) ≡ cutAnswer mode text (meaning pool) cells room
-      done-answer room h = ap (variants.Ends (r .ends)) (v .edges) ∙ sym (ap (λ (a : Answer). told a (whole .edges)) (accepts-yes room h))
-
-      pub done-out : (out out′ : List ℕ) → r .ends ≤ length out → out′ ≡ take (r .ends) (take (r .ends) row) ++ drop (r .ends) out → out′ ≡ outAfter mode text (meaning pool) cells out
-      done-out out out′ h e =
-          e ∙ ap (λ (x : List ℕ). take (r .ends) x ++ drop (r .ends) out) (front v)
-          ∙ ap (λ (x : List ℕ). x ++ drop (r .ends) out) (ap (λ (k : ℕ). take k (whole .ends)) (v .ends) ∙ take-length (whole .ends))
-          ∙ ap (λ (k : ℕ). whole .ends ++ drop k out) (v .ends)
-          ∙ sym (ap (λ (a : Answer). output a (whole .ends) out) (accepts-yes (length out) h))
+  pub done-cuts : {out′ row′ : List ℕ} → r .ends ≤ length out → out′ ≡ take (r .ends) (take (r .ends) row) ++ drop (r .ends) out
+      → row′ ≡ replicate {A = ℕ} (r .ends) 0 ++ drop (r .ends) row → Cuts (call text pool out scratch mode) (variants.Ends (r .ends) (r .edges)) out′ row′
+  done-cuts h f e = (
+    ap (variants.Ends (r .ends)) (v z .edges) ∙ sym (ap (λ (a : Answer). told a (whole z .edges)) (accepts-yes z (length out) h)),
+    (
+      f ∙ ap (λ (x : List ℕ). take (r .ends) x ++ drop (r .ends) out) (front (v z))
+          ∙ ap (λ (x : List ℕ). x ++ drop (r .ends) out) (ap (λ (k : ℕ). take k (whole z .ends)) (v z .ends) ∙ take-length (whole z .ends))
+          ∙ ap (λ (k : ℕ). whole z .ends ++ drop k out) (v z .ends)
+          ∙ sym (ap (λ (a : Answer). output a (whole z .ends) out) (accepts-yes z (length out) h)),
+      zeroed e,
+    ),
+  )
 
 -- ---- the whole call
 
-module _ (mode : Mode) (text pool scratch : List ℕ) {a : Answer} (is : a ≡ answer (firstRows text (meaning pool) (length scratch)) (length text)) where
-  module _ {r : Refusal} (no′ : a ≡ Refused r) where
-    refused : (m : ℕ) → answer (firstRows text (meaning pool) (length scratch)) m ≡ Refused r
-    refused m = sym (still (firstRows text (meaning pool) (length scratch)) (length text) m (sym is ∙ no′))
+module _ (mode : Mode) (text pool scratch : List ℕ) {a : Answer} (is : a ≡ answer (firstCauses text (meaning pool) (length scratch)) (length text)) where
+  pub early-cuts : (out : List ℕ) {r : Refusal} → a ≡ Refused r → Cuts (call text pool out scratch mode) (variants.Refused r) out scratch
+  early-cuts out {r} no′ =
+      let refused : (m : ℕ) → answer (firstCauses text (meaning pool) (length scratch)) m ≡ Refused r =
+      λ m. sym (still (firstCauses text (meaning pool) (length scratch)) (length text) m (sym is ∙ no′)) in
+      let all : accepts mode text (meaning pool) (length scratch) (length out) ≡ Refused r =
+      refused-first (firstCauses text (meaning pool) (length scratch)) (outCauses (cutOf mode (held (meaning pool)) text .ends) (length out)) 0 _ (refused 0) in (
+        sym (ap (λ (x : Answer). told x (cutOf mode (held (meaning pool)) text .edges)) all),
+        (
+          sym (ap (λ (x : Answer). output x (cutOf mode (held (meaning pool)) text .ends) out) all),
+          sym (ap (λ (x : Answer). cleared x scratch) (refused 0)),
+        ),
+      )
 
-    all-refused : (room : ℕ) → accepts mode text (meaning pool) (length scratch) room ≡ Refused r
-    all-refused room = refused-first (firstRows text (meaning pool) (length scratch)) (outRows (cutOf mode (held (meaning pool)) text .ends) room) 0 _ (refused 0)
-
-    pub early-answer : (room : ℕ) → variants.Refused r ≡ cutAnswer mode text (meaning pool) (length scratch) room
-    early-answer room = sym (ap (λ (x : Answer). told x (cutOf mode (held (meaning pool)) text .edges)) (all-refused room))
-
-    pub early-out : (out : List ℕ) → out ≡ outAfter mode text (meaning pool) (length scratch) out
-    early-out out = sym (ap (λ (x : Answer). output x (cutOf mode (held (meaning pool)) text .ends) out) (all-refused (length out)))
-
-    pub early-scratch : scratch ≡ scratchAfter text (meaning pool) scratch
-    early-scratch = sym (ap (λ (x : Answer). cleared x scratch) (refused 0))
-
-  module _ {n : ℕ} (yes′ : a ≡ Accepted n) where
-    pub passes : Passes text pool (length scratch)
-    passes = record { accepted = sym (again (firstRows text (meaning pool) (length scratch)) (length text) 0 (sym is ∙ yes′)) }
-
-    pub late-scratch : replicate {A = ℕ} (length scratch) 0 ≡ scratchAfter text (meaning pool) scratch
-    late-scratch = sym (ap (λ (x : Answer). cleared x scratch) (passes .accepted))
+  pub passes : {n : ℕ} → a ≡ Accepted n → Passes text pool (length scratch)
+  passes yes′ = record { accepted = sym (again (firstCauses text (meaning pool) (length scratch)) (length text) 0 (sym is ∙ yes′)) }

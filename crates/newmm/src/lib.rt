@@ -1,35 +1,36 @@
 // Cutting a text into words, after newmm.rs: the call that a host makes.
-use cut_answers::CutAnswer;
-use pool_lent::capacity;
-use pool_lent::check;
+use cells::clear_first;
+use cells::copy;
+use newmm_answers::CutAnswer;
+use newmm_answers::scratch_for;
+use newmm_rules::Mode;
+use newmm_segment::segment_single;
 use refusal::Answer;
 use refusal::Refusal;
-use rows::clear;
-use rows::copy;
-use safe_rules::Mode;
-use segment::segment_single;
+use trie_check::capacity;
+use trie_check::check;
 ghost use mathlib.Core.Path.{_≡_};
-ghost use lib.ListN.{length, replicate};
+ghost use lib.ListN.{length};
 ghost use Rattle.refusal.specs.Answers.{answer};
-ghost use Rattle.pool.specs.Meaning.{meaning};
-ghost use Rattle.cut_answers.specs.Answers.{firstRows, cutAnswer, outAfter, scratchAfter};
-ghost use Rattle.newmm.specs.Calls.{Passes};
+ghost use Rattle.trie_pool.specs.Meaning.{meaning};
+ghost use Rattle.newmm_answers.specs.Answers.{firstCauses};
+ghost use Rattle.newmm_answers.specs.Calls.{call, Cuts};
+ghost use Rattle.newmm.specs.inner.Calls.{Passes};
 
 // Refusals 2, 3, 4 and 5, by the number of scratch cells; accepted with the text's length.
 fn check_cut(text: &[u32], pool: &[u32], cells: usize) -> Answer
-    ensures { λ r. ⌜ r ≡ answer (firstRows (now (text .entry)) (meaning (now (pool .entry))) cells) (length (now (text .entry))) ⌝ }
+    ensures { λ r. ⌜ r ≡ answer (firstCauses (now (text .entry)) (meaning (now (pool .entry))) cells)
+        (length (now (text .entry))) ⌝ }
 {
-    let first = check(pool, text);
-    match first {
-        Answer::Refused(r) => Answer::Refused(r),
-        Answer::Accepted(n) => {
-            let needed = 9 * n + 128;
-            if cells < needed {
-                return Answer::Refused(Refusal::ScratchTooShort(needed));
-            }
-            Answer::Accepted(n)
-        }
+    let checked = check(pool, text);
+    let Answer::Accepted(n) = checked else {
+        return checked;
+    };
+    let needed = scratch_for(n);
+    if cells < needed {
+        return Answer::Refused(Refusal::ScratchTooShort(needed));
     }
+    Answer::Accepted(n)
 }
 
 // Cuts a text that none of the refusals 2 to 5 is due to.
@@ -41,26 +42,26 @@ fn cut_checked(
     mode: Mode,
 ) -> CutAnswer
     requires { ⌜ Passes (now text) (now pool) (length (now scratch)) ⌝ }
-    ensures { λ r. ⌜ r ≡ cutAnswer mode (now (text .entry)) (meaning (now (pool .entry))) (length (now (scratch .entry))) (length (now (out .entry))) ⌝ }
-    ensures { λ _. ⌜ now (out .exit) ≡ outAfter mode (now (text .entry)) (meaning (now (pool .entry))) (length (now (scratch .entry))) (now (out .entry)) ⌝ }
-    ensures { λ _. ⌜ now (scratch .exit) ≡ replicate (length (now (scratch .entry))) 0 ⌝ }
+    ensures { λ r. ⌜ Cuts (call (now (text .entry)) (now (pool .entry)) (now (out .entry)) (now (scratch .entry)) mode)
+        r (now (out .exit)) (now (scratch .exit)) ⌝ }
 {
     let cells = 8 * capacity(pool.len());
     let all = scratch.len();
-    clear(scratch, all);
+    clear_first(scratch, all);
     let r = segment_single(text, &pool[..cells], scratch, mode);
     let n = r.ends;
     if out.len() < n {
-        clear(scratch, n);
+        clear_first(scratch, n);
         return CutAnswer::Refused(Refusal::OutputTooShort(n));
     }
     copy(&scratch[..n], out, n);
-    clear(scratch, n);
+    clear_first(scratch, n);
     CutAnswer::Ends(n, r.edges)
 }
 
-// Cuts a text by the words of a pool, plainly or in safe mode: the ends of the tokens, rising, at the front of the output. Answers their number and the
-// number of edges recorded in the whole call.
+// Cuts a text by the words of a pool, plainly or in safe mode: the ends of the tokens, rising, at
+// the front of the output. Answers their number and the number of edges recorded in the whole call.
+// Refusals 2 to 6.
 pub fn cut(
     text: &[u32],
     pool: &[u32],
@@ -68,12 +69,11 @@ pub fn cut(
     scratch: &mut [u32],
     mode: Mode,
 ) -> CutAnswer
-    ensures { λ r. ⌜ r ≡ cutAnswer mode (now (text .entry)) (meaning (now (pool .entry))) (length (now (scratch .entry))) (length (now (out .entry))) ⌝ }
-    ensures { λ _. ⌜ now (out .exit) ≡ outAfter mode (now (text .entry)) (meaning (now (pool .entry))) (length (now (scratch .entry))) (now (out .entry)) ⌝ }
-    ensures { λ _. ⌜ now (scratch .exit) ≡ scratchAfter (now (text .entry)) (meaning (now (pool .entry))) (now (scratch .entry)) ⌝ }
+    ensures { λ r. ⌜ Cuts (call (now (text .entry)) (now (pool .entry)) (now (out .entry)) (now (scratch .entry)) mode)
+        r (now (out .exit)) (now (scratch .exit)) ⌝ }
 {
-    let first = check_cut(text, pool, scratch.len());
-    match first {
+    let checked = check_cut(text, pool, scratch.len());
+    match checked {
         Answer::Refused(r) => CutAnswer::Refused(r),
         Answer::Accepted(_) => cut_checked(text, pool, out, scratch, mode),
     }

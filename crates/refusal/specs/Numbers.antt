@@ -1,7 +1,8 @@
 -- 01, "Numbers the host sees": each refusal's number and detail.
 use Prim.Native.Nat.{ℕ}
 use Rattle.refusal.specs.declared.Refusal.{Refusal}
-use Rattle.refusal.specs.declared.Refusal.the-variants.{IllFormed, TooManyScalars, NotAScalar, NotADictionary, ScratchTooShort, OutputTooShort, WordTooLong, TooFewNodes}
+use Rattle.refusal.specs.declared.Refusal.the-variants.{IllFormed, TooManyScalars, NotAScalar, NotADictionary}
+use Rattle.refusal.specs.declared.Refusal.the-variants.{ScratchTooShort, OutputTooShort, WordTooLong, TooFewNodes}
 
 abbrev pub numberOf : Refusal → ℕ
 numberOf (IllFormed d) = 1

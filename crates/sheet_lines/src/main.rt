@@ -1,14 +1,25 @@
-// The line program: adds and removes words, and cuts texts by them, a reply for each line of standard input.
-use libc::STDIN_FILENO;
-use libc::STDOUT_FILENO;
-use sheets::LINE;
-use sheets::POOL;
-use sheets::REPLY;
-use sheets::SCRATCH;
-use sheets::TEXT;
-use sheets::feed;
-use sheets::finish;
-use sheets::front;
+// The line program: adds and removes words, and cuts texts by them, a reply for each line of
+// standard input. A read or a write that fails stops it at once, and a line on standard error tells
+// which and why.
+mod io_calls;
+
+use io_calls::Got;
+use io_calls::read_some;
+use io_calls::write_whole;
+use sheet_replies::LINE;
+use sheet_replies::POOL;
+use sheet_replies::REPLY;
+use sheet_replies::SCRATCH;
+use sheet_replies::TEXT;
+use sheet_replies::front;
+use sheet_replies::last;
+use sheet_replies::step;
+
+// What became of the input: how many bytes of a line that goes on are kept, or a call failed.
+enum Line {
+    Kept(usize),
+    Failed,
+}
 
 fn main() {
     let mut line = [0u8; LINE];
@@ -18,7 +29,7 @@ fn main() {
     let mut scratch = [0u32; SCRATCH];
     let mut out = [0u8; REPLY];
     trie_char::fresh(&mut pool);
-    let kept = read_all(
+    let read = read_all(
         &mut line,
         &mut pool,
         &mut scalars,
@@ -26,7 +37,10 @@ fn main() {
         &mut scratch,
         &mut out,
     );
-    let n = finish(
+    let Line::Kept(kept) = read else {
+        return;
+    };
+    end_run(
         &line,
         kept,
         &mut pool,
@@ -35,55 +49,82 @@ fn main() {
         &mut scratch,
         &mut out,
     );
-    print(front(&out, n));
 }
 
-// A proved loop has to end, and nothing says that the input does: it has more turns than any run uses up.
+// Writes the reply of a last line without a line feed.
+fn end_run(
+    line: &[u8; LINE],
+    kept: usize,
+    pool: &mut [u32; POOL],
+    scalars: &mut [u32; TEXT],
+    ends: &mut [u32; TEXT],
+    scratch: &mut [u32; SCRATCH],
+    out: &mut [u8; REPLY],
+) {
+    let n = last(line, kept, pool, scalars, ends, scratch, out);
+    write_whole(front(out, n));
+}
+
+// A proved loop has to end, and nothing says that the input does: it has more turns than any run
+// uses up.
 fn read_all(
-    line: &mut [u8],
-    pool: &mut [u32],
-    scalars: &mut [u32],
-    ends: &mut [u32],
-    scratch: &mut [u32],
-    out: &mut [u8],
-) -> usize {
+    line: &mut [u8; LINE],
+    pool: &mut [u32; POOL],
+    scalars: &mut [u32; TEXT],
+    ends: &mut [u32; TEXT],
+    scratch: &mut [u32; SCRATCH],
+    out: &mut [u8; REPLY],
+) -> Line {
     let mut buffer = io::large_buffer();
     let mut kept = 0;
     let mut turns = u64::MAX;
     while turns > 0 {
-        let got = libc::read(STDIN_FILENO, &mut buffer);
-        let n = io::count(got, &buffer);
+        let got = read_some(&mut buffer);
+        let Got::Bytes(n) = got else {
+            return Line::Failed;
+        };
         if n == 0 {
-            return kept;
+            return Line::Kept(kept);
         }
-        kept = feed_all(&buffer[..n], line, kept, pool, scalars, ends, scratch, out);
+        let fed = feed_all(
+            front(&buffer, n),
+            line,
+            kept,
+            pool,
+            scalars,
+            ends,
+            scratch,
+            out,
+        );
+        let Line::Kept(k) = fed else {
+            return Line::Failed;
+        };
+        kept = k;
         turns -= 1;
     }
-    kept
+    Line::Kept(kept)
 }
 
-// Feeds all of the bytes, and prints the replies of the lines that end in them.
+// Feeds all of the bytes, and writes the replies of the lines that end in them.
 fn feed_all(
     bytes: &[u8],
-    line: &mut [u8],
+    line: &mut [u8; LINE],
     kept: usize,
-    pool: &mut [u32],
-    scalars: &mut [u32],
-    ends: &mut [u32],
-    scratch: &mut [u32],
-    out: &mut [u8],
-) -> usize {
+    pool: &mut [u32; POOL],
+    scalars: &mut [u32; TEXT],
+    ends: &mut [u32; TEXT],
+    scratch: &mut [u32; SCRATCH],
+    out: &mut [u8; REPLY],
+) -> Line {
     let mut n = kept;
     let mut at = 0;
     while at < bytes.len() {
-        let fed = feed(&bytes[at..], line, n, pool, scalars, ends, scratch, out);
-        print(front(out, fed.written));
+        let fed = step(&bytes[at..], line, n, pool, scalars, ends, scratch, out);
+        if !write_whole(front(out, fed.written)) {
+            return Line::Failed;
+        }
         n = fed.kept;
         at += fed.taken;
     }
-    n
-}
-
-fn print(text: &[u8]) {
-    io::write_all(STDOUT_FILENO, text);
+    Line::Kept(n)
 }

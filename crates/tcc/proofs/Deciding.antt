@@ -1,20 +1,23 @@
 -- The answers of `tcc_pos`, over plain values. Assumes nothing.
 use Prim.Native.Nat.{ℕ, _≤_, _<_}
-use native.Mathlib.Omega.{arith}
-use mathlib.Core.Path.{_≡_, refl, sym, _∙_, ap}
-use mathlib.Core.Bool.{Bool, true, false, cond}
+use mathlib.Core.Path.{_≡_, refl}
 use mathlib.Core.List.{List, [], _∷_}
 use lib.ListN.{length}
-use lib.Dec.{ltb}
-use borrow.Author.Tests.{ltb-false, lt-ltb, le-ltb}
+use borrow.Author.Tests.{ltb-false}
 use Rattle.refusal.specs.declared.Refusal.{Refusal}
-use Rattle.refusal.specs.declared.Refusal.the-variants.{TooManyScalars, NotAScalar, OutputTooShort}
+use Rattle.refusal.specs.declared.Refusal.the-variants.{OutputTooShort}
+use Rattle.refusal.specs.declared.Answer.{Answer}
 use Rattle.refusal.specs.declared.Answer.the-variants.{Accepted, Refused}
-use Rattle.refusal.specs.Answers.{answer, numbers}
-use Rattle.refusal.proofs.Order.{not-both, refused-first, accepted-first}
-use Rattle.char_string.specs.Scalars.{textRows, firstNonScalar, checked}
+use Rattle.refusal.specs.Answers.{answer, numbers, outCause}
+use Rattle.refusal.proofs.Causes.{none-of, handed, out-short, out-fits}
+use Rattle.refusal.proofs.Firsts.{accepted-exactly-if-none}
+use Rattle.char_string.specs.Scalars.{textCauses, checked}
 use Rattle.tcc_rules.specs.Clusters.{clusterEnds}
-use Rattle.tcc.specs.Answers.{clusterRows}
+use Rattle.tcc.specs.Answers.{clusterCauses, clustersAnswer}
+
+-- Clusters: 2, 3, 6.
+pub order : (text : List ℕ) (room : ℕ) → numbers (clusterCauses text room) ≡ 2 ∷ 3 ∷ 6 ∷ []
+order text room = refl
 
 -- an accepted text
 pub record Right (text : List ℕ) (n : ℕ) : Type 0 where
@@ -23,31 +26,21 @@ pub record Right (text : List ℕ) (n : ℕ) : Type 0 where
 
 pub right : (text : List ℕ) {n : ℕ} → checked text ≡ Accepted n → Right text n
 unfolding checked
-right text {n} h = go (ltb 65535 (length text)) refl (ltb (firstNonScalar text) (length text)) h
-  where
-    go : (a : Bool) → ltb 65535 (length text) ≡ a → (b : Bool)
-        → cond a (Refused (TooManyScalars (length text))) (cond b (Refused (NotAScalar (firstNonScalar text))) (Accepted (length text))) ≡ Accepted n → Right text n
-    go true e b k = not-both (sym k)
-    go false e true k = not-both (sym k)
-    go false e false k = record { small = ltb-false 65535 (length text) e; whole = cc }
+right text {n} h =
+    let r = accepted-exactly-if-none (textCauses text) (length text) .1 n h in
+    record { small = ltb-false 65535 (length text) (r .0 .0); whole = r .1 }
 
-module _ (text : List ℕ) (room m : ℕ) where
-  pub refused : {r : Refusal} → checked text ≡ Refused r → answer (clusterRows text room) m ≡ Refused r
+module _ (text : List ℕ) (room : ℕ) where
+  pub refused : {a : Answer} {r : Refusal} → a ≡ checked text → a ≡ Refused r → a ≡ clustersAnswer text room
   unfolding checked
-  refused h = refused-first (textRows text) (record { refusal = OutputTooShort (length (clusterEnds text)); holds = ltb room (length (clusterEnds text)) } ∷ []) (length text) m h
+  refused = handed (textCauses text) (outCause (length (clusterEnds text)) room ∷ []) (length text) (length (clusterEnds text))
 
-  accepted : {n : ℕ} → checked text ≡ Accepted n → answer (clusterRows text room) m ≡ cond (ltb room (length (clusterEnds text))) (Refused (OutputTooShort (length (clusterEnds text)))) (Accepted m)
+  pub short : {n k : ℕ} → checked text ≡ Accepted n → k ≡ length (clusterEnds text) → room < k
+      → Refused (OutputTooShort k) ≡ clustersAnswer text room
   unfolding checked
-  accepted h = accepted-first (textRows text) (record { refusal = OutputTooShort (length (clusterEnds text)); holds = ltb room (length (clusterEnds text)) } ∷ []) (length text) m h
+  short {n} {k} = out-short (textCauses text) (length (clusterEnds text)) room (length text) (length (clusterEnds text)) k
 
-pub short : (text : List ℕ) (room : ℕ) {n k : ℕ} → checked text ≡ Accepted n → k ≡ length (clusterEnds text) → room < k
-    → Refused (OutputTooShort k) ≡ answer (clusterRows text room) (length (clusterEnds text))
-short text room {n} {k} h e i = ap (λ (j : ℕ). Refused (OutputTooShort j)) e ∙ sym (accepted text room (length (clusterEnds text)) h ∙ simp (lt-ltb room (length (clusterEnds text)) (omega arith)))
-
-pub fitting : (text : List ℕ) (room : ℕ) {n k : ℕ} → checked text ≡ Accepted n → k ≡ length (clusterEnds text) → k ≤ room
-    → Accepted k ≡ answer (clusterRows text room) (length (clusterEnds text))
-fitting text room {n} {k} h e i = ap Accepted e ∙ sym (accepted text room (length (clusterEnds text)) h ∙ simp (le-ltb room (length (clusterEnds text)) (omega arith)))
-
--- 01: Clusters: 2, 3, 6
-pub order : (text : List ℕ) (room : ℕ) → numbers (clusterRows text room) ≡ 2 ∷ 3 ∷ 6 ∷ []
-order text room = refl
+  pub fitting : {n k : ℕ} → checked text ≡ Accepted n → k ≡ length (clusterEnds text) → k ≤ room
+      → Accepted k ≡ clustersAnswer text room
+  unfolding checked
+  fitting {n} {k} = out-fits (textCauses text) (length (clusterEnds text)) room (length text) k

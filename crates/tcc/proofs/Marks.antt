@@ -12,7 +12,8 @@ use borrow.Author.Tests.{ltb-true, ltb-false, eqb-true, eqb-false, ne-eqb}
 use Rattle.tcc_rules.specs.Clusters.{clusterEnd}
 use Rattle.tcc_rules.proofs.Bounds.{Cluster}
 use Rattle.tcc_rules.proofs.Ends.{rest, rest-all, rest-next}
-use Rattle.tcc_rules.proofs.Rising.{Rise, rest-rises}
+use Rattle.tcc_rules.specs.Rising.{Rise}
+use Rattle.tcc_rules.proofs.Rising.{rest-rises}
 use Rattle.tcc.specs.Flags.{isIn, isEnd, flag, flagsFrom, endFlags}
 use Rattle.tcc.proofs.Passes.{matched}
 

@@ -6,7 +6,7 @@ use mathlib.Core.Path.{_≡_, refl, sym, _∙_, ap}
 use mathlib.Core.List.{List, _∷_, _++_}
 use lib.ListN.{length, getD, set, take, drop, length-set}
 use lib.Seq.{drop-cons, take-length}
-use Rattle.basics.proofs.Rows.{store}
+use Rattle.lists.proofs.Rows.{store}
 use Rattle.tcc_rules.specs.Clusters.{clusterEnd, clusterEnds}
 use Rattle.tcc_rules.proofs.Bounds.{Cluster, cluster}
 use Rattle.tcc_rules.proofs.Ends.{rest, rest-all, rest-next, rest-over}

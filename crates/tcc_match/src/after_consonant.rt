@@ -1,23 +1,23 @@
 // Clusters that start with a consonant: alternatives 10 to 16.
-use tcc_rules::MAITAIKHU;
-use tcc_rules::RO_RUA;
-use tcc_rules::SPACE;
-use tcc_rules::THANTHAKHAT;
-use tcc_rules::at;
-use tcc_rules::group_k;
-use tcc_rules::is_closed;
-use tcc_rules::is_consonant;
-use tcc_rules::is_d_or_i;
-use tcc_rules::is_tone;
-use tcc_rules::is_vowel;
-use tcc_rules::skip_final_vowel;
-use tcc_rules::skip_open_vowel;
-use tcc_rules::skip_tone;
+use crate::group::group_k;
+use crate::group::skip_final_vowel;
+use crate::group::skip_open_vowel;
+use crate::group::skip_tone;
+use crate::letters::MAITAIKHU;
+use crate::letters::RO_RUA;
+use crate::letters::SPACE;
+use crate::letters::THANTHAKHAT;
+use crate::letters::at;
+use crate::letters::is_closed;
+use crate::letters::is_consonant;
+use crate::letters::is_d_or_i;
+use crate::letters::is_tone;
+use crate::letters::is_vowel;
 ghost use mathlib.Core.Path.{_≡_};
 ghost use mathlib.Core.List.{_∷_, [], _++_};
 ghost use Rattle.tcc_rules.specs.Rules.{is, consonant, dOrI};
 ghost use Rattle.tcc_rules.specs.Clusters.{clusterEnd};
-ghost use Rattle.tcc_rules.specs.Inner.{exact, some, Begins};
+ghost use Rattle.tcc_rules.specs.inner.Optional.{exact, some, Begins};
 
 pub fn from_consonant(text: &[u32], p: usize) -> usize
     requires { ⌜ Begins (some consonant ∷ []) (now text) p ⌝ }

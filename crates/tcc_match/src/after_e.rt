@@ -1,26 +1,26 @@
 // Clusters that start with เ: alternatives 1 to 9.
-use tcc_rules::MAITAIKHU;
-use tcc_rules::O_ANG;
-use tcc_rules::SARA_A;
-use tcc_rules::SARA_AA;
-use tcc_rules::SARA_I;
-use tcc_rules::SARA_II;
-use tcc_rules::SARA_UEE;
-use tcc_rules::THANTHAKHAT;
-use tcc_rules::YO_YAK;
-use tcc_rules::at;
-use tcc_rules::group_k;
-use tcc_rules::is_consonant;
-use tcc_rules::is_tone;
-use tcc_rules::shorter_k;
-use tcc_rules::skip_sara_a;
-use tcc_rules::skip_sara_aa;
-use tcc_rules::skip_tone;
+use crate::group::group_k;
+use crate::group::shorter_k;
+use crate::group::skip_sara_a;
+use crate::group::skip_sara_aa;
+use crate::group::skip_tone;
+use crate::letters::MAITAIKHU;
+use crate::letters::O_ANG;
+use crate::letters::SARA_A;
+use crate::letters::SARA_AA;
+use crate::letters::SARA_I;
+use crate::letters::SARA_II;
+use crate::letters::SARA_UEE;
+use crate::letters::THANTHAKHAT;
+use crate::letters::YO_YAK;
+use crate::letters::at;
+use crate::letters::is_consonant;
+use crate::letters::is_tone;
 ghost use mathlib.Core.Path.{_≡_};
 ghost use mathlib.Core.List.{_∷_, []};
 ghost use Rattle.tcc_rules.specs.Rules.{consonant, tone};
 ghost use Rattle.tcc_rules.specs.Clusters.{clusterEnd};
-ghost use Rattle.tcc_rules.specs.Inner.{exact, some, Begins};
+ghost use Rattle.tcc_rules.specs.inner.Optional.{exact, some, Begins};
 
 pub fn from_e(text: &[u32], p: usize) -> usize
     requires { ⌜ Begins (exact 0xE40 ∷ []) (now text) p ⌝ }
@@ -115,14 +115,13 @@ fn from_e_two_ii(text: &[u32], p: usize) -> usize
     ensures { λ r. ⌜ r ≡ clusterEnd (now (text .entry)) p ⌝ }
 {
     let q = skip_tone(text, p + 4);
-    let open = p + 2;
     if at(text, q) != YO_YAK {
         return p + 2;
     }
     if at(text, q + 1) == SARA_A {
         return group_k(text, q + 2);
     }
-    open
+    p + 2
 }
 
 // เcิ

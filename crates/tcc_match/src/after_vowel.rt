@@ -1,15 +1,15 @@
 // Clusters that start with แ, โ, ใ or ไ: alternatives 18 to 24.
-use tcc_rules::MAITAIKHU;
-use tcc_rules::THANTHAKHAT;
-use tcc_rules::at;
-use tcc_rules::is_consonant;
-use tcc_rules::skip_sara_a;
-use tcc_rules::skip_tone;
+use crate::group::skip_sara_a;
+use crate::group::skip_tone;
+use crate::letters::MAITAIKHU;
+use crate::letters::THANTHAKHAT;
+use crate::letters::at;
+use crate::letters::is_consonant;
 ghost use mathlib.Core.Path.{_≡_};
 ghost use mathlib.Core.List.{_∷_, []};
 ghost use Rattle.tcc_rules.specs.Rules.{upTo, consonant};
 ghost use Rattle.tcc_rules.specs.Clusters.{clusterEnd};
-ghost use Rattle.tcc_rules.specs.Inner.{exact, some, Begins};
+ghost use Rattle.tcc_rules.specs.inner.Optional.{exact, some, Begins};
 
 pub fn from_ae(text: &[u32], p: usize) -> usize
     requires { ⌜ Begins (exact 0xE41 ∷ []) (now text) p ⌝ }

@@ -2,6 +2,9 @@
 mod after_consonant;
 mod after_e;
 mod after_vowel;
+mod group;
+mod letters;
 mod matcher;
 
+pub use letters::is_consonant;
 pub use matcher::cluster_end;

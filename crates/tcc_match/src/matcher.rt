@@ -4,17 +4,17 @@ use crate::after_e::from_e;
 use crate::after_vowel::from_ae;
 use crate::after_vowel::from_ai;
 use crate::after_vowel::from_o;
-use tcc_rules::SARA_AE;
-use tcc_rules::SARA_E;
-use tcc_rules::SARA_O;
-use tcc_rules::is_consonant;
-use tcc_rules::is_sara_ai;
+use crate::letters::SARA_AE;
+use crate::letters::SARA_E;
+use crate::letters::SARA_O;
+use crate::letters::is_consonant;
+use crate::letters::is_sara_ai;
 ghost use mathlib.Core.Path.{_≡_};
 ghost use Prim.Native.Nat.{_<_};
 ghost use lib.ListN.{length};
 ghost use Rattle.tcc_rules.specs.Clusters.{clusterEnd};
 
-// The end of the cluster that starts at p. For our own crates: p is a place of the text.
+// The end of the cluster that starts at p. p is a place of the text.
 pub fn cluster_end(text: &[u32], p: usize) -> usize
     requires { ⌜ p < length (now text) ⌝ }
     ensures { λ r. ⌜ r ≡ clusterEnd (now (text .entry)) p ⌝ }

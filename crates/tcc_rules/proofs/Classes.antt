@@ -7,7 +7,7 @@ use mathlib.Core.List.{List, [], _∷_, _++_}
 use lib.ListN.{length, getD, List·getD-eq-default}
 use lib.Dec.{leb, eqb}
 use borrow.Author.Tests.{eqb-true, eqb-false, le-leb}
-use Rattle.basics.specs.Scans.{within}
+use Rattle.lists.specs.Scans.{within}
 use Rattle.tcc_rules.specs.Patterns.{Range, holds}
 use Rattle.tcc_rules.specs.Rules.{is, upTo}
 use Rattle.tcc_rules.proofs.Known.{within-yes, within-no}

@@ -48,7 +48,8 @@ pub rest-over : (text : List ℕ) (p : ℕ) → length text ≤ p → rest text 
 unfolding rest
 rest-over text p h = over (length text) text p h
 
--- what holds at the end of the text, and at the start of a cluster if at its end, holds at every start
+-- what holds at the end of the text, and at the start of a cluster if at its end, holds at every
+-- start
 module _ (P : ℕ → Type 0) (text : List ℕ) (last : P (length text)) (step : (p : ℕ) → p < length text → P (clusterEnd text p) → P p) where
   back : (f p : ℕ) → p ≤ length text → length text ≤ p + f → P p
   back zero p h i = let e : p ≡ length text = omega arith in rw e last

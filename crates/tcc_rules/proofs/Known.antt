@@ -7,9 +7,9 @@ use mathlib.Core.List.{List, [], _∷_}
 use lib.ListN.{length, getD, List·getD-eq-default}
 use lib.Dec.{T, ltb, leb}
 use borrow.Author.Tests.{ltb-true, ltb-false, leb-true, le-leb, lt-ltb, le-ltb}
-use Rattle.basics.specs.Scans.{within}
+use Rattle.lists.specs.Scans.{within}
 use Rattle.tcc_rules.specs.Patterns.{Range, holds, holdsAt}
-use Rattle.tcc_rules.specs.Inner.{Known, exact, among, Fact}
+use Rattle.tcc_rules.specs.inner.Optional.{Known, exact, among, Fact}
 
 -- ---- tests
 

@@ -11,3 +11,4 @@ pub mod StartsConsonant
 pub mod Bounds
 pub mod Ends
 pub mod Rising
+pub mod Numbers

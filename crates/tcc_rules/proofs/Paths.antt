@@ -9,11 +9,12 @@ use lib.Dec.{T}
 use Rattle.tcc_rules.specs.Patterns.{Range, holds, Pattern, firstOf}
 use Rattle.tcc_rules.specs.Rules.{alternatives, lookahead}
 use Rattle.tcc_rules.specs.Clusters.{clusterEnd}
-use Rattle.tcc_rules.specs.Inner.{Known, Fact, place, KnownFrom, Begins}
+use Rattle.tcc_rules.specs.inner.Optional.{Known, Fact, place, KnownFrom, Begins}
 use Rattle.tcc_rules.proofs.Known.{T-left, T-right, real}
 use Rattle.tcc_rules.proofs.Steps.{stops, next, asked, prune, endBy, step, stay}
 
--- so much is known of the characters from the i-th behind p on, and the one behind them is in none of the classes
+-- so much is known of the characters from the i-th behind p on, and the one behind them is in none
+-- of the classes
 abbrev pub Path : List Known → List Range → List ℕ → ℕ → ℕ → Type 0
 Path [] outs text p i = holds outs (getD text (place p i) 0) ≡ false
 Path (k ∷ ks) outs text p i = Fact k (getD text (place p i) 0) × Path ks outs text p (suc i)

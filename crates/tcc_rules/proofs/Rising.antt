@@ -5,22 +5,9 @@ use mathlib.Core.Path.{_≡_, refl, _∙_, ap}
 use mathlib.Core.List.{List, [], _∷_}
 use lib.ListN.{length}
 use Rattle.tcc_rules.specs.Clusters.{endsFrom, clusterEnds}
+use Rattle.tcc_rules.specs.Rising.{Rise, lastOf, AtMost}
 use Rattle.tcc_rules.proofs.Bounds.{cluster}
 use Rattle.tcc_rules.proofs.Ends.{rest, rest-all, rest-next, rest-over, from-start, from-place}
-
--- each number is above the one before it, the first above p
-abbrev pub Rise : ℕ → List ℕ → Type 0
-Rise p [] = Unit
-Rise p (e ∷ es) = (p < e) × Rise e es
-
--- the last number, or p where there is none
-abbrev pub lastOf : ℕ → List ℕ → ℕ
-lastOf p [] = p
-lastOf p (e ∷ es) = lastOf e es
-
-abbrev pub AtMost : ℕ → List ℕ → Type 0
-AtMost n [] = Unit
-AtMost n (e ∷ es) = (e ≤ n) × AtMost n es
 
 pub rest-rises : (text : List ℕ) (p : ℕ) → p ≤ length text → Rise p (rest text p)
 rest-rises text p h =

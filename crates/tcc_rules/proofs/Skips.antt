@@ -7,7 +7,7 @@ use mathlib.Core.List.{List}
 use lib.ListN.{length, getD}
 use lib.Dec.{T}
 use Rattle.tcc_rules.specs.Patterns.{Range, holds, holdsAt, Pattern}
-use Rattle.tcc_rules.specs.Inner.{some, skipped}
+use Rattle.tcc_rules.specs.inner.Optional.{some, skipped}
 use Rattle.tcc_rules.proofs.Known.{T-left, T-right, there, at-inside, at-not}
 use Rattle.tcc_rules.proofs.Steps.{stops, next, asked, prune, endBy, end-sure, step, stay}
 

@@ -8,7 +8,7 @@ use lib.ListN.{getD}
 use Rattle.tcc_rules.specs.Patterns.{Range, holds, Pattern, end, fail, then, either, items, opt, optional}
 use Rattle.tcc_rules.specs.Rules.{is, upTo, consonant, tone, dOrI, c, ch, k}
 use Rattle.tcc_rules.specs.Clusters.{clusterEnd}
-use Rattle.tcc_rules.specs.Inner.{exact, among, some, Begins, skipped, kEnd}
+use Rattle.tcc_rules.specs.inner.Optional.{exact, among, some, Begins, skipped, kEnd}
 use Rattle.tcc_rules.proofs.Classes.{NoneOf, all, none-of}
 use Rattle.tcc_rules.proofs.Steps.{endBy, end-fail, end-end, end-either, stay, step}
 use Rattle.tcc_rules.proofs.Skips.{skip}

@@ -8,7 +8,7 @@ use lib.ListN.{getD}
 use Rattle.tcc_rules.specs.Patterns.{Range, holds, fail, Pattern, items, one, opt, optional}
 use Rattle.tcc_rules.specs.Rules.{is, consonant, tone, leading, ch, k}
 use Rattle.tcc_rules.specs.Clusters.{clusterEnd}
-use Rattle.tcc_rules.specs.Inner.{Known, exact, among, some, Begins, skipped, kEnd, shorter}
+use Rattle.tcc_rules.specs.inner.Optional.{Known, exact, among, some, Begins, skipped, kEnd, shorter}
 use Rattle.tcc_rules.proofs.Classes.{NoneOf, all, none-of}
 use Rattle.tcc_rules.proofs.Steps.{endBy, end-fail, end-end}
 use Rattle.tcc_rules.proofs.Skips.{skip}

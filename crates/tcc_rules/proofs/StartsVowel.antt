@@ -7,7 +7,7 @@ use lib.ListN.{getD}
 use Rattle.tcc_rules.specs.Patterns.{holds, fail}
 use Rattle.tcc_rules.specs.Rules.{is, upTo, consonant, tone}
 use Rattle.tcc_rules.specs.Clusters.{clusterEnd}
-use Rattle.tcc_rules.specs.Inner.{exact, some, Begins, skipped}
+use Rattle.tcc_rules.specs.inner.Optional.{exact, some, Begins, skipped}
 use Rattle.tcc_rules.proofs.Classes.{NoneOf, all, none-of}
 use Rattle.tcc_rules.proofs.Steps.{end-fail, end-end}
 use Rattle.tcc_rules.proofs.Skips.{skip}

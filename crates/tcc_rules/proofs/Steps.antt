@@ -1,4 +1,5 @@
--- What is left of a pattern once a character is known: a step over it, or a stay before it. Assumes nothing.
+-- What is left of a pattern once a character is known: a step over it, or a stay before it. Assumes
+-- nothing.
 use Prim.Native.Nat.{ℕ, _+_, _≤_}
 use native.Mathlib.Omega.{arith}
 use mathlib.Core.Path.{_≡_, refl, sym, _∙_, ap}
@@ -10,7 +11,7 @@ use lib.Dec.{T, ltb}
 use borrow.Author.Tests.{ltb-true, ltb-false}
 use Rattle.tcc_rules.specs.Patterns.{Range, holds, holdsAt, Pattern, end, fail, then, either, Match, none, upto, orElse, match, isMatch}
 use Rattle.tcc_rules.specs.Clusters.{ended}
-use Rattle.tcc_rules.specs.Inner.{Known, Fact}
+use Rattle.tcc_rules.specs.inner.Optional.{Known, Fact}
 use Rattle.tcc_rules.proofs.Known.{T-left, T-right, T-or, T-not, not-both, covered, covered-no, real, settled, gives, at-known, at-outside, at-not}
 
 -- ---- matches
@@ -188,7 +189,8 @@ match-prune outs text p f (either a b) = rw (match-prune outs text p f a, match-
 
 -- ---- the end of a cluster
 
--- where the cluster ends if `a` is left of the alternatives at p and `l` of the look-ahead; e where `a` doesn't match
+-- where the cluster ends if `a` is left of the alternatives at p and `l` of the look-ahead; e where
+-- `a` doesn't match
 unfoldable pub endBy : Pattern → Pattern → List ℕ → ℕ → ℕ → ℕ
 endBy a l text p e = ended l text p e (match a text p)
 

@@ -10,7 +10,7 @@ use borrow.Author.Tests.{lt-ltb, le-ltb}
 use Rattle.tcc_rules.specs.Patterns.{Range, holds, Pattern, end, fail, Match, none, upto, match, items, one, opt, optional}
 use Rattle.tcc_rules.specs.Rules.{is, consonant, leading, dOrI, ch, k}
 use Rattle.tcc_rules.specs.Clusters.{ended}
-use Rattle.tcc_rules.specs.Inner.{Known, exact, some, place, endOr, kEnd, shorter}
+use Rattle.tcc_rules.specs.inner.Optional.{Known, exact, some, place, endOr, kEnd, shorter}
 use Rattle.tcc_rules.proofs.Classes.{NoneOf, all, none-of}
 use Rattle.tcc_rules.proofs.Steps.{endBy, end-fail, end-end, end-sure, step, stay, sure, match-past}
 use Rattle.tcc_rules.proofs.Paths.{Path, left, count, other, clear, along}

@@ -1,4 +1,6 @@
 pub mod Patterns
 pub mod Rules
 pub mod Clusters
-pub mod Inner
+pub mod Rising
+pub mod Numbers
+pub mod inner

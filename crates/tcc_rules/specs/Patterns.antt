@@ -4,7 +4,7 @@ use mathlib.Core.Bool.{Bool, true, false, cond, _&&_, _||_}
 use mathlib.Core.List.{List, [], _∷_}
 use lib.ListN.{length, getD}
 use lib.Dec.{ltb}
-use Rattle.basics.specs.Scans.{within}
+use Rattle.lists.specs.Scans.{within}
 
 -- A class of characters: those of one or more ranges.
 pub record Range : Type 0 where
@@ -38,7 +38,8 @@ abbrev pub orElse : Match → Match → Match
 orElse none m = m
 orElse (upto e) m = upto e
 
--- The match that starts at p. Of two patterns the second is tried only where the first fails as a whole.
+-- The match that starts at p. Of two patterns the second is tried only where the first fails as a
+-- whole.
 unfoldable pub match : Pattern → List ℕ → ℕ → Match
 match end text p = upto p
 match fail text p = none
@@ -54,13 +55,15 @@ pub data Item : Type 0 where
   one : List Range → Item
   opt : List Range → Item
 
--- The items one after the other, and then the rest. An optional item is tried first with and then without a character.
+-- The items one after the other, and then the rest. An optional item is tried first with and then
+-- without a character.
 abbrev pub items : List Item → Pattern → Pattern
 items [] rest = rest
 items (one cl ∷ is) rest = then cl (items is rest)
 items (opt cl ∷ is) rest = either (then cl (items is rest)) (items is rest)
 
--- An alternative: its number, its items, and the items of the group behind them, which is optional as a whole.
+-- An alternative: its number, its items, and the items of the group behind them, which is optional
+-- as a whole.
 pub record Alternative : Type 0 where
   pub number : ℕ
   pub parts : List Item

@@ -1,4 +1,5 @@
--- 01, "Clusters": the alternatives of `NON_LOOKAHEAD_TCC` and `LOOKAHEAD_TCC`, in 01's numbers and shorthand.
+-- 01, "Clusters": the alternatives of `NON_LOOKAHEAD_TCC` and `LOOKAHEAD_TCC`, in 01's numbers and
+-- shorthand.
 use Prim.Native.Nat.{ℕ}
 use mathlib.Core.List.{List, [], _∷_, _++_}
 use Rattle.tcc_rules.specs.Patterns.{Range, Item, one, opt, Alternative}

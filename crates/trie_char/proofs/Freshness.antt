@@ -1,51 +1,24 @@
 -- The root alone is a dictionary without words. Assumes nothing.
-use Prim.Native.Nat.{ℕ, _+_, _-_, _*_, _/_, _≤_, _<_, min}
+use Prim.Native.Nat.{ℕ, _+_, _*_, _/_, _≤_, _<_, min}
 use native.Mathlib.Omega.{arith}
-use native.Mathlib.Decide.{decLt}
 use mathlib.Core.Path.{_≡_, sym, ap, subst, _∙_}
 use mathlib.Core.Bool.{Bool, false, cond}
 use mathlib.Core.List.{List, [], _∷_, _++_}
 use borrow.Author.Tests.{lt-ltb, le-ltb}
-use lib.ListN.{length, getD, drop, set, length-set, List·getD-eq-default}
-use lib.Seq.{getD-set-same, getD-set-other}
+use lib.ListN.{length, drop}
 use Rattle.refusal.specs.declared.Refusal.the-variants.{TooFewNodes}
 use Rattle.refusal.specs.declared.Answer.the-variants.{Accepted, Refused}
 use Rattle.refusal.specs.Answers.{answer}
-use Rattle.pool.specs.Cells.{scalarAt, firstAt, countAt, markAt, used}
-use Rattle.pool.specs.Words.{none, on-place, scan, child, walk, marked, holds}
-use Rattle.pool.specs.Sound.{Shaped, Sound}
-use Rattle.pool.specs.Meaning.{noWord}
-use Rattle.pool_read.proofs.Whole.{stay, ends-start}
-use Rattle.trie_char.specs.Refusals.{freshRows}
-use Rattle.trie_char.specs.Changes.{Became, RootAlone}
-use Rattle.pool_lent.proofs.Parts.{long}
+use Rattle.trie_pool.specs.Cells.{scalarAt, firstAt, countAt, markAt, used}
+use Rattle.trie_pool.specs.Words.{none, on-place, scan, child, walk, marked, holds}
+use Rattle.trie_pool.specs.inner.Sound.{Shaped, Sound}
+use Rattle.trie_pool.specs.Meaning.{noWord}
+use Rattle.trie_check.proofs.Whole.{stay, ends-start}
+use Rattle.trie_char.specs.Refusals.{freshCauses}
+use Rattle.trie_change.specs.inner.Resetting.{RootAlone}
+use Rattle.trie_char.specs.Changes.{Became}
+use Rattle.trie_check.proofs.Parts.{long}
 use Rattle.trie_char.proofs.Changing.{became}
-
--- ---- the loop
-
--- the first k cells are 0
-pub record Cleared (p₀ p : List ℕ) (k : ℕ) : Type 0 where
-  pub long : length p ≡ length p₀
-  pub front : (i : ℕ) → i < k → getD p i 0 ≡ 0
-  pub some : 8 ≤ length p
-
-pub cleared-more : (p₀ p : List ℕ) (k : ℕ) → Cleared p₀ p k → k < length p → Cleared p₀ (set p k 0) (k + 1)
-cleared-more p₀ p k v l = record { long = length-set p k 0 ∙ v .long; front = λ i h. go i h (decLt i k); some = omega (arith, v .some, length-set p k 0) }
-  where
-    go : (i : ℕ) → i < k + 1 → Dec (i < k) → getD (set p k 0) i 0 ≡ 0
-    go i h (yes q) = getD-set-other p k i 0 0 (omega arith) ∙ v .front i q
-    go i h (no q) = let e : i ≡ k = omega arith in ap (λ (z : ℕ). getD (set p k 0) z 0) e ∙ getD-set-same p k 0 0 l
-
-pub cleared-all : (p₀ p : List ℕ) (k : ℕ) → Cleared p₀ p k → length p ≤ k → RootAlone (set (set p 1 1) 4 1)
-cleared-all p₀ p k v l = record {
-  first = getD-set-other (set p 1 1) 4 1 1 0 (omega arith) ∙ getD-set-same p 1 1 0 (omega (arith, v .some));
-  used = getD-set-same (set p 1 1) 4 1 0 (omega (arith, v .some, length-set p 1 1));
-  others = λ i a b. getD-set-other (set p 1 1) 4 i 1 0 b ∙ getD-set-other p 1 i 1 0 a ∙ go i (decLt i k);
-}
-  where
-    go : (i : ℕ) → Dec (i < k) → getD p i 0 ≡ 0
-    go i (yes q) = v .front i q
-    go i (no q) = List·getD-eq-default p 0 {n = i} (omega arith)
 
 -- ---- the pool
 
@@ -95,11 +68,11 @@ module _ (p : List ℕ) (h : RootAlone p) (some : 8 ≤ length p) where
 
 -- ---- the answer
 
-pub fresh-short : (old : List ℕ) → length old < 8 → Refused (TooFewNodes 1) ≡ answer (freshRows old) 0
+pub fresh-short : (old : List ℕ) → length old < 8 → Refused (TooFewNodes 1) ≡ answer (freshCauses old) 0
 fresh-short old l = sym (ap (λ (b : Bool). cond b (Refused (TooFewNodes 1)) (Accepted 0)) (lt-ltb (length old) 8 l))
 
 pub fresh-done : (old : List ℕ) (n : ℕ) → n ≡ min (length old / 8) 1048576 → 8 ≤ length old → (new : List ℕ) → length new ≡ 8 * n → RootAlone new
-    → (Accepted 0 ≡ answer (freshRows old) 0) × Became old (new ++ drop (8 * n) old) noWord
+    → (Accepted 0 ≡ answer (freshCauses old) 0) × Became old (new ++ drop (8 * n) old) noWord
 fresh-done old n n-is l new k h = (
   sym (ap (λ (b : Bool). cond b (Refused (TooFewNodes 1)) (Accepted 0)) (le-ltb (length old) 8 l)),
   became old n n-is new noWord k (alone-sound new h (omega arith)) (alone-holds new h (omega arith)),

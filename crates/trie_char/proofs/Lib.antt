@@ -1,4 +1,4 @@
-pub mod Rows
+pub mod LongWords
 pub mod Reading
 pub mod Changing
 pub mod Freshness

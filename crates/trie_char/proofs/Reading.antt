@@ -3,29 +3,27 @@ use Prim.Native.Nat.{ℕ, _*_, _/_, _≤_, _<_, min}
 use native.Mathlib.Omega.{arith}
 use mathlib.Core.Path.{_≡_, sym, ap, _∙_}
 use mathlib.Core.Bool.{Bool, true, false, cond}
-use mathlib.Core.List.{List, _++_}
-use borrow.Author.Tests.{lt-ltb, le-ltb}
-use lib.Dec.{ltb}
+use mathlib.Core.List.{List, [], _∷_, _++_}
 use lib.ListN.{length, take, drop}
 use Rattle.refusal.specs.declared.Refusal.{Refusal}
 use Rattle.refusal.specs.declared.Refusal.the-variants.{NotADictionary, OutputTooShort}
 use Rattle.refusal.specs.declared.Answer.{Answer}
 use Rattle.refusal.specs.declared.Answer.the-variants.{Accepted, Refused}
-use Rattle.refusal.specs.Answers.{Row, answer, output}
-use Rattle.refusal.proofs.Order.{refused-first}
-use Rattle.pool.specs.Words.{holds}
-use Rattle.pool.specs.Rules.{cellsOf, isDictionary}
-use Rattle.pool.specs.Meaning.{Words, meaning, prefixLengths, amount}
-use Rattle.pool_read.specs.Search.{Asks, Wrote, Counts}
-use Rattle.pool_lent.specs.Refusals.{held, poolRows, readRows}
-use Rattle.trie_char.specs.Refusals.{outRows, prefixRows}
-use Rattle.pool_lent.proofs.Rows.{again, still, row-yes, row-no, read-of}
-use Rattle.pool_lent.proofs.Parts.{known-is, is-none, cells-are, sound-part, readable, held-part}
+use Rattle.refusal.specs.Answers.{answer, output, outCause}
+use Rattle.trie_pool.specs.Words.{holds}
+use Rattle.trie_pool.specs.Rules.{cellsOf, isDictionary}
+use Rattle.trie_pool.specs.Meaning.{Words, meaning, prefixLengths, amount}
+use Rattle.trie_search.specs.inner.Search.{Asks, Wrote, Counts}
+use Rattle.trie_check.specs.Refusals.{held, poolCauses, readCauses}
+use Rattle.trie_char.specs.Refusals.{prefixCauses}
+use Rattle.refusal.proofs.Causes.{again, handed, handed-same, out-short, out-fits}
+use Rattle.trie_check.proofs.Refusals.{read-of}
+use Rattle.trie_check.proofs.Parts.{known-is, is-none, cells-are, sound-part, readable, held-part}
 
 -- ---- an accepted text
 
-module _ (pool text : List ℕ) {a : Answer} {k : ℕ} (is : a ≡ answer (readRows text (meaning pool)) (length text)) (yes′ : a ≡ Accepted k) where
-  first : answer (readRows text (meaning pool)) (length text) ≡ Accepted k
+module _ (pool text : List ℕ) {a : Answer} {k : ℕ} (is : a ≡ answer (readCauses text (meaning pool)) (length text)) (yes′ : a ≡ Accepted k) where
+  first : answer (readCauses text (meaning pool)) (length text) ≡ Accepted k
   first = sym is ∙ yes′
 
   pub known : isDictionary pool ≡ true
@@ -35,58 +33,54 @@ module _ (pool text : List ℕ) {a : Answer} {k : ℕ} (is : a ≡ answer (readR
     words : held (meaning pool) ≡ holds (take (8 * n) pool)
     words = held-part pool n n-is known
 
-    pub contain-yes : (b : Bool) → b ≡ holds (take (8 * n) pool) text → b ≡ true → Accepted 1 ≡ answer (readRows text (meaning pool)) (cond (held (meaning pool) text) 1 0)
-    contain-yes b e t = again (readRows text (meaning pool)) (length text) 1 first
-        ∙ sym (ap (λ (f : Words). answer (readRows text (meaning pool)) (cond (f text) 1 0)) words ∙ ap (λ (z : Bool). answer (readRows text (meaning pool)) (cond z 1 0)) (sym e ∙ t))
+    pub contain-yes : (b : Bool) → b ≡ holds (take (8 * n) pool) text → b ≡ true → Accepted 1 ≡ answer (readCauses text (meaning pool)) (cond (held (meaning pool) text) 1 0)
+    contain-yes b e t = again (readCauses text (meaning pool)) (length text) 1 first
+        ∙ sym (ap (λ (f : Words). answer (readCauses text (meaning pool)) (cond (f text) 1 0)) words ∙ ap (λ (z : Bool). answer (readCauses text (meaning pool)) (cond z 1 0)) (sym e ∙ t))
 
-    pub contain-no : (b : Bool) → b ≡ holds (take (8 * n) pool) text → b ≡ false → Accepted 0 ≡ answer (readRows text (meaning pool)) (cond (held (meaning pool) text) 1 0)
-    contain-no b e t = again (readRows text (meaning pool)) (length text) 0 first
-        ∙ sym (ap (λ (f : Words). answer (readRows text (meaning pool)) (cond (f text) 1 0)) words ∙ ap (λ (z : Bool). answer (readRows text (meaning pool)) (cond z 1 0)) (sym e ∙ t))
+    pub contain-no : (b : Bool) → b ≡ holds (take (8 * n) pool) text → b ≡ false → Accepted 0 ≡ answer (readCauses text (meaning pool)) (cond (held (meaning pool) text) 1 0)
+    contain-no b e t = again (readCauses text (meaning pool)) (length text) 0 first
+        ∙ sym (ap (λ (f : Words). answer (readCauses text (meaning pool)) (cond (f text) 1 0)) words ∙ ap (λ (z : Bool). answer (readCauses text (meaning pool)) (cond z 1 0)) (sym e ∙ t))
 
     lengths : prefixLengths (held (meaning pool)) text ≡ prefixLengths (holds (take (8 * n) pool)) text
     lengths = ap (λ (f : Words). prefixLengths f text) words
-
-    abbrev row : List ℕ → Row
-    row out = record { refusal = OutputTooShort (length (prefixLengths (held (meaning pool)) text)); holds = ltb (length out) (length (prefixLengths (held (meaning pool)) text)) }
 
     module _ (out : List ℕ) (m : ℕ) (m-is : m ≡ length (prefixLengths (holds (take (8 * n) pool)) text)) where
       count : m ≡ length (prefixLengths (held (meaning pool)) text)
       count = m-is ∙ sym (ap length lengths)
 
-      pub prefix-short : (q : ℕ) → length out < m → Refused (OutputTooShort m) ≡ answer (prefixRows text (meaning pool) out) q
-      prefix-short q l = ap (λ (z : ℕ). Refused (OutputTooShort z)) count
-          ∙ row-yes (readRows text (meaning pool)) (row out) (length text) q first (lt-ltb (length out) (length (prefixLengths (held (meaning pool)) text)) (omega (arith, count)))
+      pub prefix-short : (q : ℕ) → length out < m → Refused (OutputTooShort m) ≡ answer (prefixCauses text (meaning pool) out) q
+      prefix-short q = out-short (readCauses text (meaning pool)) (length (prefixLengths (held (meaning pool)) text)) (length out) (length text) q m first count
 
       pub asks : m ≤ length out → Asks (take (8 * n) pool) text out
       asks l = record { here = readable pool n n-is known; short = read-of text (meaning pool) (length text) k first .short; room = omega (arith, m-is) }
 
       pub prefix-done : m ≤ length out → (new : List ℕ) (r : ℕ) → Wrote out (prefixLengths (holds (take (8 * n) pool)) text) new r
-          → (Accepted r ≡ answer (prefixRows text (meaning pool) out) (length (prefixLengths (held (meaning pool)) text))) × (new ≡ output (Accepted r) (prefixLengths (held (meaning pool)) text) out)
+          → (Accepted r ≡ answer (prefixCauses text (meaning pool) out) (length (prefixLengths (held (meaning pool)) text))) × (new ≡ output (Accepted r) (prefixLengths (held (meaning pool)) text) out)
       prefix-done l new r w = (
-        ap Accepted (w .count ∙ sym (ap length lengths))
-            ∙ row-no (readRows text (meaning pool)) (row out) (length text) (length (prefixLengths (held (meaning pool)) text)) first (le-ltb (length out) (length (prefixLengths (held (meaning pool)) text)) (omega (arith, count))),
+        out-fits (readCauses text (meaning pool)) (length (prefixLengths (held (meaning pool)) text)) (length out) (length text) r first (w .count ∙ sym (ap length lengths)) (omega (arith, w .count, m-is)),
         w .is ∙ sym (ap (λ (z : List ℕ). z ++ drop (length z) out) lengths),
       )
 
 -- ---- a refused one
 
-module _ (pool text : List ℕ) {a : Answer} {r : Refusal} (is : a ≡ answer (readRows text (meaning pool)) (length text)) (no′ : a ≡ Refused r) where
-  pub contain-refused : (q : ℕ) → Refused r ≡ answer (readRows text (meaning pool)) q
-  contain-refused q = still (readRows text (meaning pool)) (length text) q (sym is ∙ no′)
+module _ (pool text : List ℕ) {a : Answer} {r : Refusal} (is : a ≡ answer (readCauses text (meaning pool)) (length text)) (no′ : a ≡ Refused r) where
+  pub contain-refused : (q : ℕ) → a ≡ answer (readCauses text (meaning pool)) q
+  contain-refused q = handed-same (readCauses text (meaning pool)) (length text) q is no′
 
-  pub prefix-refused : (out : List ℕ) (q : ℕ) → Refused r ≡ answer (prefixRows text (meaning pool) out) q
-  prefix-refused out q = sym (refused-first (readRows text (meaning pool)) (outRows (prefixLengths (held (meaning pool)) text) out) (length text) q (sym is ∙ no′))
+  pub prefix-refused : (out : List ℕ) (q : ℕ) → a ≡ answer (prefixCauses text (meaning pool) out) q
+  prefix-refused out q =
+      handed (readCauses text (meaning pool)) (outCause (length (prefixLengths (held (meaning pool)) text)) (length out) ∷ []) (length text) q is no′
 
 -- ---- the word count
 
 module _ (pool : List ℕ) (b : Bool) (is : b ≡ isDictionary pool) where
-  pub amount-refused : b ≡ false → (q : ℕ) → Refused NotADictionary ≡ answer (poolRows (meaning pool)) q
+  pub amount-refused : b ≡ false → (q : ℕ) → Refused NotADictionary ≡ answer (poolCauses (meaning pool)) q
   amount-refused e q = sym (ap (λ (z : Bool). cond z (Refused NotADictionary) (Accepted q)) (is-none pool false (sym e ∙ is)))
 
   module _ (e : b ≡ true) (n : ℕ) (n-is : n ≡ min (length pool / 8) 1048576) where
     pub counts : Counts (take (8 * n) pool)
     counts = let s = sound-part pool n n-is (sym is ∙ e) in record { some = omega (arith, s .fits, s .shaped .some); fits = s .fits }
 
-    pub amount-is : (m : ℕ) → m ≡ amount (take (8 * n) pool) → Accepted m ≡ answer (poolRows (meaning pool)) (amount (cellsOf pool))
+    pub amount-is : (m : ℕ) → m ≡ amount (take (8 * n) pool) → Accepted m ≡ answer (poolCauses (meaning pool)) (amount (cellsOf pool))
     amount-is m h = ap Accepted (h ∙ ap amount (cells-are pool n n-is))
         ∙ sym (ap (λ (z : Bool). cond z (Refused NotADictionary) (Accepted (amount (cellsOf pool)))) (is-none pool true (sym e ∙ is)))

@@ -1,4 +1,5 @@
-// The dictionary, after trie_char.rs: a trie in a lent pool. No function asks anything of what it is lent.
+// The dictionary, after trie_char.rs: a trie in a lent pool. No function asks anything of what it
+// is lent.
 mod change;
 mod read;
 mod words;

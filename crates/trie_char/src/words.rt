@@ -1,29 +1,28 @@
 // The refusals that add and remove share.
 use char_string::trim;
-use pool::MAX_WORD;
-use pool_lent::check;
 use refusal::Answer;
 use refusal::Refusal;
+use trie_check::check;
+use trie_pool::MAX_WORD;
 ghost use mathlib.Core.Path.{_≡_};
 ghost use lib.ListN.{length};
 ghost use Rattle.refusal.specs.Answers.{answer};
-ghost use Rattle.pool.specs.Meaning.{meaning};
-ghost use Rattle.trie_char.specs.Refusals.{removeRows};
+ghost use Rattle.trie_pool.specs.Meaning.{meaning};
+ghost use Rattle.trie_char.specs.Refusals.{removeCauses};
 
 // Refusals 2, 3, 4 and 7, accepted with the word's length.
 pub fn check_word(pool: &[u32], word: &[u32]) -> Answer
-    ensures { λ r. ⌜ r ≡ answer (removeRows (now (word .entry)) (meaning (now (pool .entry)))) (length (now (word .entry))) ⌝ }
+    ensures { λ r. ⌜ r ≡
+        answer (removeCauses (now (word .entry)) (meaning (now (pool .entry)))) (length (now (word .entry))) ⌝ }
 {
-    let first = check(pool, word);
-    match first {
-        Answer::Refused(r) => Answer::Refused(r),
-        Answer::Accepted(n) => {
-            let span = trim(word);
-            let kept = span.end - span.start;
-            if MAX_WORD < kept {
-                return Answer::Refused(Refusal::WordTooLong(kept));
-            }
-            Answer::Accepted(n)
-        }
+    let checked = check(pool, word);
+    let Answer::Accepted(n) = checked else {
+        return checked;
+    };
+    let span = trim(word);
+    let kept = span.end - span.start;
+    if MAX_WORD < kept {
+        return Answer::Refused(Refusal::WordTooLong(kept));
     }
+    Answer::Accepted(n)
 }

@@ -9,12 +9,13 @@ use borrow.Author.Tests.{lt-ltb, le-ltb}
 use Rattle.refusal.specs.declared.Answer.the-variants.{Accepted, Refused}
 use Rattle.refusal.specs.declared.Refusal.the-variants.{IllFormed, TooManyScalars, OutputTooShort}
 use Rattle.utf8.specs.declared.Counted.{Counted}
-use Rattle.refusal.specs.Answers.{numbers}
-use Rattle.utf8.specs.Decoding.{runAll, scalarsOf, decodeRows, decoded}
-use Rattle.utf8.specs.Passes.{countedOf}
+use Rattle.refusal.specs.Answers.{answer, numbers}
+use Rattle.refusal.proofs.Causes.{out-short, out-fits}
+use Rattle.utf8.specs.Decoding.{runAll, scalarsOf, bytesCauses, decodeCauses, decoded}
+use Rattle.utf8.specs.inner.Passes.{countedOf}
 
 -- Decoding: 1, 2, 6.
-pub decoding : (bytes : List ℕ) (room : ℕ) → numbers (decodeRows bytes room) ≡ 1 ∷ 2 ∷ 6 ∷ []
+pub decoding : (bytes : List ℕ) (room : ℕ) → numbers (decodeCauses bytes room) ≡ 1 ∷ 2 ∷ 6 ∷ []
 decoding bytes room = refl
 
 module _ (bytes : List ℕ) (room : ℕ) (c : Counted) (h : c ≡ countedOf (runAll bytes)) where
@@ -30,10 +31,12 @@ module _ (bytes : List ℕ) (room : ℕ) (c : Counted) (h : c ≡ countedOf (run
   pub long : c .whole ≡ true → 65535 < c .scalars → Refused (TooManyScalars (c .scalars)) ≡ decoded bytes room
   long e i = simp (whole-is e, number-is, lt-ltb 65535 (length (scalarsOf bytes)) (omega (arith, number-is)))
 
-  pub tight : c .whole ≡ true → c .scalars ≤ 65535 → room < c .scalars → Refused (OutputTooShort (c .scalars)) ≡ decoded bytes room
-  tight e i j =
-      simp (whole-is e, number-is, le-ltb 65535 (length (scalarsOf bytes)) (omega (arith, number-is)), lt-ltb room (length (scalarsOf bytes)) (omega (arith, number-is)))
+  module _ (e : c .whole ≡ true) (i : c .scalars ≤ 65535) where
+    early : answer (bytesCauses bytes) 0 ≡ Accepted 0
+    early = simp (whole-is e, le-ltb 65535 (length (scalarsOf bytes)) (omega (arith, number-is)))
 
-  pub taken : c .whole ≡ true → c .scalars ≤ 65535 → c .scalars ≤ room → Accepted (c .scalars) ≡ decoded bytes room
-  taken e i j =
-      simp (whole-is e, number-is, le-ltb 65535 (length (scalarsOf bytes)) (omega (arith, number-is)), le-ltb room (length (scalarsOf bytes)) (omega (arith, number-is)))
+    pub tight : room < c .scalars → Refused (OutputTooShort (c .scalars)) ≡ decoded bytes room
+    tight = out-short (bytesCauses bytes) (length (scalarsOf bytes)) room 0 (length (scalarsOf bytes)) (c .scalars) early number-is
+
+    pub taken : c .scalars ≤ room → Accepted (c .scalars) ≡ decoded bytes room
+    taken = out-fits (bytesCauses bytes) (length (scalarsOf bytes)) room 0 (c .scalars) early number-is

@@ -7,7 +7,7 @@ use mathlib.Core.List.{List, [], _∷_}
 use lib.ListN.{length}
 use lib.Dec.{ltb}
 use borrow.Author.Tests.{le-leb, lt-leb, ltb-true, ltb-false}
-use Rattle.basics.specs.Scans.{within}
+use Rattle.lists.specs.Scans.{within}
 use Rattle.utf8.specs.Utf8.{Range, _‥_, table37, fits, fitsAny, isSequence}
 use Rattle.utf8.specs.Decoding.{packed, leadIn, leadOf, starts, sizeIn, sizeOf}
 

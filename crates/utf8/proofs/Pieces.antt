@@ -1,4 +1,5 @@
--- The first scalar of bytes that start with a well-formed sequence: its first byte tells the rest. Assumes nothing.
+-- The first scalar of bytes that start with a well-formed sequence: its first byte tells the rest.
+-- Assumes nothing.
 use Prim.Native.Nat.{ℕ, suc, _+_, _-_, _*_, _%_, _≤_, _<_}
 use native.Mathlib.Omega.{arith}
 use native.Mathlib.Nat.{add-zero}
@@ -12,7 +13,7 @@ use borrow.Author.Tests.{ltb-true, ltb-false}
 use Rattle.utf8.specs.declared.Piece.{Piece}
 use Rattle.utf8.specs.Utf8.{Range, scalarOf}
 use Rattle.utf8.specs.Decoding.{starts, sizeOf}
-use Rattle.utf8.specs.Passes.{pieceOf}
+use Rattle.utf8.specs.inner.Passes.{pieceOf}
 use Rattle.utf8.proofs.FirstBytes.{Opens, Kind, shut, one, two, three, four, kind-of}
 use Rattle.utf8.proofs.Sizes.{third-range, fourth-range, size-inside}
 

@@ -9,12 +9,12 @@ use lib.ListN.{length, getD, set, take, drop, length-drop, length-set}
 use lib.Seq.{drop-drop, drop-cons, take-length}
 use lib.Dec.{eqb}
 use borrow.Author.Tests.{eqb-true, eqb-false, eq-eqb, ne-eqb}
-use Rattle.basics.proofs.Rows.{store}
+use Rattle.lists.proofs.Rows.{store}
 use Rattle.utf8.specs.declared.Piece.{Piece}
 use Rattle.utf8.specs.declared.Counted.{Counted}
 use Rattle.utf8.specs.Utf8.{scalarOf}
 use Rattle.utf8.specs.Decoding.{sizeOf, Run, run, runAll, scalarsOf, more, stop}
-use Rattle.utf8.specs.Passes.{pieceOf, countedOf}
+use Rattle.utf8.specs.inner.Passes.{pieceOf, countedOf}
 use Rattle.utf8.proofs.Sizes.{size-inside}
 
 run-empty-at : (f : ℕ) (s : List ℕ) → length s ≡ 0 → run f s ≡ stop true

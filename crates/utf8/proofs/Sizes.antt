@@ -1,4 +1,5 @@
--- The length of the sequence at the start of bytes, from its first byte's entry and the bytes behind it. Assumes nothing.
+-- The length of the sequence at the start of bytes, from its first byte's entry and the bytes
+-- behind it. Assumes nothing.
 use Prim.Native.Nat.{ℕ, suc, _+_, _-_, _*_, _/_, _%_, _≤_, _<_}
 use native.Mathlib.Omega.{arith}
 use native.Mathlib.Nat.{add-zero}
@@ -9,12 +10,13 @@ use lib.ListN.{length, getD, drop, length-drop}
 use lib.Seq.{getD-drop}
 use lib.Dec.{leb, ltb, eqb}
 use borrow.Author.Tests.{lt-ltb, le-ltb, leb-true, leb-false}
-use Rattle.basics.specs.Scans.{within}
+use Rattle.lists.specs.Scans.{within}
 use Rattle.utf8.specs.Utf8.{Range, _‥_, table37}
 use Rattle.utf8.specs.Decoding.{leadOf, starts, sizeIn, sizeOf}
 use Rattle.utf8.proofs.FirstBytes.{Third, e0, e1, ed, ee, Fourth, f0, f1, f4, trail, Kind, shut, one, two, three, four, kind-of}
 
--- the decoder's tests, one after the other: the size that the first byte asks, its second byte's range, n bytes in all
+-- the decoder's tests, one after the other: the size that the first byte asks, its second byte's
+-- range, n bytes in all
 unfoldable pub sizeBy : (size lo hi n b c d : ℕ) → ℕ
 sizeBy size lo hi n b c d =
     cond (ltb n size) 0

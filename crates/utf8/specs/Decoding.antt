@@ -2,16 +2,17 @@
 use Prim.Native.Nat.{ℕ, zero, suc, _+_, _*_, _<_}
 use mathlib.Core.Path.{_≡_}
 use mathlib.Core.Bool.{Bool, true, false, not, cond, _&&_}
-use mathlib.Core.List.{List, [], _∷_}
+use mathlib.Core.List.{List, [], _∷_, _++_}
 use lib.ListN.{length, getD, take, drop}
-use lib.Dec.{ltb, eqb}
-use Rattle.basics.specs.Scans.{within}
+use lib.Dec.{eqb}
+use Rattle.lists.specs.Scans.{within}
 use Rattle.refusal.specs.declared.Answer.{Answer}
-use Rattle.refusal.specs.declared.Refusal.the-variants.{IllFormed, TooManyScalars, OutputTooShort}
-use Rattle.refusal.specs.Answers.{Row, answer}
+use Rattle.refusal.specs.declared.Refusal.the-variants.{IllFormed}
+use Rattle.refusal.specs.Answers.{Cause, answer, longCause, outCause}
 use Rattle.utf8.specs.Utf8.{Range, table37, scalarOf}
 
--- The entry of a first byte: the sequence length (0 for none) and the allowed second-byte range, as one number, a byte each.
+-- The entry of a first byte: the sequence length (0 for none) and the allowed second-byte range,
+-- as one number, a byte each.
 abbrev pub packed : List Range → ℕ
 packed [] = 0
 packed (a ∷ []) = 1 * 65536
@@ -46,7 +47,8 @@ sizeIn (row ∷ rows) s = cond (starts row s) (length row) (sizeIn rows s)
 unfoldable pub sizeOf : List ℕ → ℕ
 sizeOf s = sizeIn table37 s
 
--- What reading sequence after sequence finds: the scalars, the bytes that they take, and whether these are all.
+-- What reading sequence after sequence finds: the scalars, the bytes that they take, and whether
+-- these are all.
 pub record Run : Type 0 where
   pub scalars : List ℕ
   pub taken : ℕ
@@ -71,14 +73,17 @@ runAll bytes = run (length bytes) bytes
 abbrev pub scalarsOf : List ℕ → List ℕ
 scalarsOf bytes = runAll bytes .scalars
 
--- Decoding: 1, 2, 6.
-abbrev pub decodeRows : List ℕ → ℕ → List Row
-decodeRows bytes room =
+-- 1: the bytes aren't well-formed; length of the longest well-formed prefix. Then 2.
+abbrev pub bytesCauses : List ℕ → List Cause
+bytesCauses bytes =
     record { refusal = IllFormed (runAll bytes .taken); holds = not (runAll bytes .whole) }
-    ∷ record { refusal = TooManyScalars (length (scalarsOf bytes)); holds = ltb 65535 (length (scalarsOf bytes)) }
-    ∷ record { refusal = OutputTooShort (length (scalarsOf bytes)); holds = ltb room (length (scalarsOf bytes)) }
+    ∷ longCause (length (scalarsOf bytes))
     ∷ []
+
+-- Decoding: 1, 2, 6. `room` is the number of output cells.
+abbrev pub decodeCauses : List ℕ → ℕ → List Cause
+decodeCauses bytes room = bytesCauses bytes ++ (outCause (length (scalarsOf bytes)) room ∷ [])
 
 -- accepted with the number of scalars
 abbrev pub decoded : List ℕ → ℕ → Answer
-decoded bytes room = answer (decodeRows bytes room) (length (scalarsOf bytes))
+decoded bytes room = answer (decodeCauses bytes room) (length (scalarsOf bytes))

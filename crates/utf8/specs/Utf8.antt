@@ -3,7 +3,7 @@ use Prim.Native.Nat.{ℕ, _+_, _*_, _/_, _%_}
 use mathlib.Core.Bool.{Bool, true, false, cond, _&&_, _||_}
 use mathlib.Core.List.{List, [], _∷_, _++_}
 use lib.Dec.{T, ltb}
-use Rattle.basics.specs.Scans.{within}
+use Rattle.lists.specs.Scans.{within}
 
 pub record Range : Type 0 where
   pub lo : ℕ
@@ -42,7 +42,8 @@ fitsAny (row ∷ rows) q = fits row q || fitsAny rows q
 unfoldable pub isSequence : List ℕ → Bool
 isSequence q = fitsAny table37 q
 
--- Table 3-6, row by row: the scalar value of a sequence, from the bits that are its own in each byte.
+-- Table 3-6, row by row: the scalar value of a sequence, from the bits that are its own in each
+-- byte.
 abbrev pub scalarOf : List ℕ → ℕ
 scalarOf [] = 0
 scalarOf (a ∷ []) = a
@@ -66,4 +67,5 @@ encode (v ∷ vs) = bytesOf v ++ encode vs
 -- Well-formed UTF-8, with the scalars that it encodes: one well-formed sequence after the other.
 pub data Utf8 : List ℕ → List ℕ → Type 0 where
   empty : Utf8 [] []
-  next : (q : List ℕ) {bytes scalars : List ℕ} → T (isSequence q) → Utf8 bytes scalars → Utf8 (q ++ bytes) (scalarOf q ∷ scalars)
+  next : (q : List ℕ) {bytes scalars : List ℕ} → T (isSequence q) → Utf8 bytes scalars
+      → Utf8 (q ++ bytes) (scalarOf q ∷ scalars)

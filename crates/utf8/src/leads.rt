@@ -2,7 +2,8 @@
 ghost use mathlib.Core.Path.{_≡_};
 ghost use Rattle.utf8.specs.Decoding.{leadOf, Leads};
 
-// The length of the sequence that the byte starts (0 for none), and the range of its second byte, a byte each.
+// The length of the sequence that the byte starts (0 for none), and the range of its second byte, a
+// byte each.
 const LEAD: [u32; 256] = [
     0x010000,
     0x010000,
@@ -262,7 +263,8 @@ const LEAD: [u32; 256] = [
     0x000000,
 ];
 
-// The table. A constant is made anew wherever it stands, so a pass over bytes takes it once and lends it.
+// The table. A constant is made anew wherever it stands, so a pass over bytes takes it once and
+// lends it.
 pub fn lead_table() -> [u32; 256]
     ensures { λ r. ⌜ Leads r ⌝ }
 {

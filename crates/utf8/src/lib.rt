@@ -11,10 +11,10 @@ ghost use mathlib.Core.Bool.{true};
 ghost use Prim.Native.Nat.{_<_, _≤_};
 ghost use lib.ListN.{length, drop};
 ghost use mathlib.Core.List.{_++_};
-ghost use Rattle.basics.specs.Scans.{within};
+ghost use Rattle.lists.specs.Scans.{within};
 ghost use Rattle.refusal.specs.Answers.{output};
 ghost use Rattle.utf8.specs.Decoding.{Leads, sizeOf, runAll, scalarsOf, decoded};
-ghost use Rattle.utf8.specs.Passes.{pieceOf, countedOf};
+ghost use Rattle.utf8.specs.inner.Passes.{pieceOf, countedOf};
 
 // The scalar at a place, and the number of bytes of its sequence.
 pub struct Piece {
@@ -22,7 +22,8 @@ pub struct Piece {
     pub size: usize,
 }
 
-// What the first pass finds: how many scalars the longest well-formed prefix has, its length in bytes, and whether it is all.
+// What the first pass finds: how many scalars the longest well-formed prefix has, its length in
+// bytes, and whether it is all.
 pub struct Counted {
     pub scalars: usize,
     pub taken: usize,
@@ -139,7 +140,8 @@ fn piece_at(s: &[u8], at: usize) -> Piece
 fn fill(s: &[u8], out: &mut [u32])
     requires { ⌜ runAll (now s) .whole ≡ true ⌝ }
     requires { ⌜ length (scalarsOf (now s)) ≤ length (now out) ⌝ }
-    ensures { λ _. ⌜ now (out .exit) ≡ scalarsOf (now (s .entry)) ++ drop (length (scalarsOf (now (s .entry)))) (now (out .entry)) ⌝ }
+    ensures { λ _. ⌜ now (out .exit) ≡
+        scalarsOf (now (s .entry)) ++ drop (length (scalarsOf (now (s .entry)))) (now (out .entry)) ⌝ }
 {
     let mut at = 0;
     let mut n = 0;
@@ -151,7 +153,8 @@ fn fill(s: &[u8], out: &mut [u32])
     }
 }
 
-// Writes the scalars of the bytes to the front of `out`, and answers how many there are. Refusals 1, 2, 6.
+// Writes the scalars of the bytes to the front of `out`, and answers how many there are. Refusals
+// 1, 2, 6.
 pub fn decode(bytes: &[u8], out: &mut [u32]) -> Answer
     ensures { λ r. ⌜ r ≡ decoded (now (bytes .entry)) (length (now (out .entry))) ⌝ }
     ensures { λ r. ⌜ now (out .exit) ≡ output r (scalarsOf (now (bytes .entry))) (now (out .entry)) ⌝ }

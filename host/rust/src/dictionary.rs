@@ -5,8 +5,9 @@ pub const MAX_NODES: usize = 1_048_576;
 
 const NODE_CELLS: usize = 8;
 
-/// A set of words, in a pool of its own that grows as words need it. Every call reads the whole pool once.
-#[derive(Clone, Debug, PartialEq, Eq)]
+/// A set of words, in a pool of its own that grows as words need it. Every call checks the whole pool. Two dictionaries are
+/// equal if they hold the same words, whatever the sizes of their pools.
+#[derive(Clone, Debug)]
 pub struct Dictionary {
     pool: Vec<u32>,
 }
@@ -81,6 +82,11 @@ impl Dictionary {
         self.len() == 0
     }
 
+    /// The cells of the nodes in use, which the root tells the number of.
+    fn in_use(&self) -> &[u32] {
+        &self.pool[..NODE_CELLS * self.pool[4] as usize]
+    }
+
     /// Gives the pool at least so many more nodes, where it may have them. New nodes are zero, as those not in use must be.
     fn grow(&mut self, missing: usize) -> bool {
         let nodes = self.pool.len() / NODE_CELLS;
@@ -92,6 +98,15 @@ impl Dictionary {
         true
     }
 }
+
+/// The nodes in use stand in an order that the words alone decide (docs/POOL.md), and behind them no cell means anything.
+impl PartialEq for Dictionary {
+    fn eq(&self, other: &Dictionary) -> bool {
+        self.in_use() == other.in_use()
+    }
+}
+
+impl Eq for Dictionary {}
 
 impl Default for Dictionary {
     fn default() -> Dictionary {

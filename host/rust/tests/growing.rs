@@ -28,6 +28,26 @@ fn a_pool_grows_with_its_words() {
 }
 
 #[test]
+fn dictionaries_are_equal_by_their_words_alone() {
+    let mut small = Dictionary::with_nodes(1);
+    let mut large = Dictionary::with_nodes(4096);
+    assert_eq!(small, large);
+    for word in ["กข", "ก", "กขค", "ง"] {
+        small.add(word).unwrap();
+        assert_ne!(small, large);
+        large.add(word).unwrap();
+        assert_eq!(small, large);
+    }
+    assert_ne!(small.pool().len(), large.pool().len());
+    // the same nodes, and one word fewer; the same words again, added in another order; a part node behind
+    assert_eq!(large.remove("กข"), Ok(true));
+    assert_ne!(small, large);
+    assert_eq!(Dictionary::from_words(["ง", "กขค", "กข", "ก"]), Ok(small.clone()));
+    let cells = [small.pool(), &[0; 16], &[7; 3]].concat();
+    assert_eq!(Dictionary::from_pool(cells), Ok(small));
+}
+
+#[test]
 fn a_pool_that_is_no_dictionary_is_refused() {
     let words = Dictionary::from_words(["กข", "กขค"]).unwrap();
     assert_eq!(Dictionary::from_pool(words.pool().to_vec()), Ok(words.clone()));

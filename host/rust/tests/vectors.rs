@@ -107,7 +107,7 @@ fn told<T>(answer: Result<T, Error>, accepted: impl FnOnce(T) -> String) -> Stri
 
 #[test]
 fn decoding() {
-    hold(lines("char_string_tests", "decode"), 5000, |line| {
+    hold(lines("test_char_string", "decode"), 5000, |line| {
         roomy(&line[2])?;
         Some(told(decode(&bytes(&line[1])), |out| format!("{} {}", out.len(), spelled(&out))))
     });
@@ -115,7 +115,7 @@ fn decoding() {
 
 #[test]
 fn cluster_ends() {
-    hold(lines("tcc_tests", "clusters"), 1000, |line| {
+    hold(lines("test_tcc", "clusters"), 1000, |line| {
         roomy(&line[2])?;
         Some(told(clusters(&text(&line[1])?), |ends| row(&ends, ",")))
     });
@@ -123,7 +123,7 @@ fn cluster_ends() {
 
 #[test]
 fn prefixes() {
-    hold(lines("trie_char_tests", "prefix"), 100, |line| {
+    hold(lines("test_trie_char", "prefix"), 100, |line| {
         roomy(&line[3])?;
         Some(told(words(&line[1])?.prefix_lengths(&text(&line[2])?), |lengths| row(&lengths, ",")))
     });
@@ -152,7 +152,7 @@ fn step(dictionary: &mut Dictionary, step: &str) -> Option<String> {
 fn dictionaries() {
     // a pool of a fixed size meets refusals 4 and 8, and this crate's doesn't
     let grown = |expected: &str| !expected.contains("!4") && !expected.contains("!8");
-    let lines = lines("trie_char_tests", "dict").into_iter().filter(|(_, expected)| grown(expected)).collect();
+    let lines = lines("test_trie_char", "dict").into_iter().filter(|(_, expected)| grown(expected)).collect();
     hold(lines, 300, |line| {
         let mut dictionary = Dictionary::new();
         let answers: Option<Vec<_>> = line[2].split(';').map(|part| step(&mut dictionary, part)).collect();
@@ -163,7 +163,7 @@ fn dictionaries() {
 #[test]
 fn cuts() {
     let mut cutter = Cutter::new();
-    hold(lines("cut_tests", "cut"), 2000, |line| {
+    hold(lines("test_cut", "cut"), 2000, |line| {
         roomy(&line[4]).and(roomy(&line[5]))?;
         let (words, text) = (words(&line[2])?, text(&line[3])?);
         let mode = if line[1] == "safe" { Mode::Safe } else { Mode::Plain };

@@ -1,7 +1,6 @@
 -- Assumes nothing.
 use native.Mathlib.Omega.{arith}
-use mathlib.Core.Path.{refl}
-use Rattle.newmm.proofs.Calls.{refused-early, size-is, short, refused-scratch, accepted-early}
+use Rattle.newmm.proofs.Calls.{refused-early, short, refused-scratch, accepted-early}
 use borrow.Author.Needs.{needs}
 use Rattle.newmm.proofs.check_cut.Statement.{statement}
 use Rattle.newmm.proofs.check_cut.Tie as tie
@@ -9,36 +8,48 @@ use Rattle.newmm.proofs.check_cut.Tie as tie
 check-requires : tie.Need-check-requires
 check-requires c κs = search needs
 
-enum-known-first : tie.Need-enum-known-first
-enum-known-first c = search needs
+enum-known-checked : tie.Need-enum-known-checked
+enum-known-checked c = search needs
 
-enum-known-first-2 : tie.Need-enum-known-first-2
-enum-known-first-2 c = search needs
-
-mul-needed : tie.Need-mul-needed
-mul-needed c = omega (arith, size-is (c .before .before .before .before .before .before .args .text .now) (c .before .before .before .before .before .before .args .pool .now) 0 (c .before .before .before .check .ensures) (c .before .first2 .given .1), short (c .before .before .before .before .before .before .args .text .now) (c .before .before .before .before .before .before .args .pool .now) 0 (c .before .before .before .check .ensures) (c .before .first2 .given .1))
-
-add-needed : tie.Need-add-needed
-add-needed c = omega (arith, size-is (c .before .before .before .before .before .before .args .text .now) (c .before .before .before .before .before .before .args .pool .now) 0 (c .before .before .before .check .ensures) (c .before .first2 .given .1), short (c .before .before .before .before .before .before .args .text .now) (c .before .before .before .before .before .before .args .pool .now) 0 (c .before .before .before .check .ensures) (c .before .first2 .given .1))
+enum-told : tie.Need-enum-told
+enum-told c = search needs
 
 returns : tie.Need-returns
-returns c = refused-scratch (c .before .before .before .before .before .before .before .args .text .now) (c .before .before .before .before .before .before .before .args .pool .now) (c .before .before .before .before .before .before .before .args .cells) (c .before .before .before .before .check .ensures) (c .before .before .first2 .given .1) _ refl (c .if1 .taken)
+returns c =
+    let c2 = c .before .before in
+    let c5 = c2 .before .before .before in
+    refused-early (c5 .args .text .now) (c5 .args .pool .now) (c5 .args .cells) (c2 .check .ensures) (c .enum-told .given .1)
+
+scratch-for-requires : tie.Need-scratch-for-requires
+scratch-for-requires c κs =
+    let c3 = c .before .before .before in
+    let c6 = c3 .before .before .before in
+    omega (arith, short (c6 .args .text .now) (c6 .args .pool .now) 0 (c3 .check .ensures) (c .before .checked .given .1))
 
 returns-2 : tie.Need-returns-2
-returns-2 c = refused-early (c .before .before .before .before .before .before .args .text .now) (c .before .before .before .before .before .before .args .pool .now) (c .before .before .before .before .before .before .args .cells) (c .before .before .before .check .ensures) (c .before .first .given .1)
+returns-2 c =
+    let c3 = c .before .before .before in
+    let c5 = c3 .before .before in
+    let c8 = c5 .before .before .before in
+    refused-scratch (c8 .args .text .now) (c8 .args .pool .now) (c8 .args .cells) (c5 .check .ensures)
+    (c3 .checked .given .1) (c .before .scratch-for .ensures) (c .if1 .taken)
 
 returns-3 : tie.Need-returns-3
-returns-3 c = accepted-early (c .before .before .before .before .before .before .before .args .text .now) (c .before .before .before .before .before .before .before .args .pool .now) (c .before .before .before .before .before .before .before .args .cells) (c .before .before .before .before .check .ensures) (c .before .before .first2 .given .1) _ refl (c .if1 .left)
+returns-3 c =
+    let c3 = c .before .before .before in
+    let c5 = c3 .before .before in
+    let c8 = c5 .before .before .before in
+    accepted-early (c8 .args .text .now) (c8 .args .pool .now) (c8 .args .cells) (c5 .check .ensures)
+    (c3 .checked .given .1) (c .before .scratch-for .ensures) (c .if1 .left)
 
 pub check-cut-spec : {M : Type 1} → statement M
 check-cut-spec =
     tie.close
     (tie.spec
     check-requires
-    enum-known-first
-    enum-known-first-2
-    mul-needed
-    add-needed
+    enum-known-checked
+    enum-told
     returns
+    scratch-for-requires
     returns-2
     returns-3)

@@ -4,11 +4,11 @@ use native.Mathlib.Omega.{arith}
 use mathlib.Core.Path.{_≡_, refl, ap, _∙_}
 use mathlib.Core.List.{List}
 use lib.ListN.{length, take, drop, length-drop}
-use Rattle.basics.proofs.Parts.{tail-drop}
-use Rattle.sheets.specs.declared.input.Fed.{Fed}
-use Rattle.sheets.specs.Lines.{lineEnd}
-use Rattle.sheets.specs.Feeding.{hasEnd, fedWith}
-use Rattle.sheets.proofs.Feeding.{taken-some}
+use Rattle.lists.proofs.Parts.{tail-drop}
+use Rattle.sheet_replies.specs.declared.input.Fed.{Fed}
+use Rattle.sheet_replies.specs.Lines.{lineEnd}
+use Rattle.sheet_replies.specs.Feeding.{hasEnd, fedWith}
+use Rattle.sheet_replies.proofs.Feeding.{taken-some}
 use borrow.Author.Needs.{needs}
 use Rattle.sheet_lines.proofs.feed_all.Statement.{statement}
 use Rattle.sheet_lines.proofs.feed_all.Tie as tie
@@ -20,61 +20,56 @@ moves bytes at n k e h =
     (omega arith, omega arith)
 
 abbrev Inv-loop : tie.InvT-loop
-Inv-loop bytes line₀ kept pool₀ scalars₀ ends₀ scratch₀ out₀ n₀ at₀ line pool scalars ends scratch out n at = (length line ≡ length line₀) × (length pool ≡ length pool₀) × (length scalars ≡ length scalars₀) × (length ends ≡ length ends₀) × (length scratch ≡ length scratch₀) × (length out ≡ length out₀)
+Inv-loop bytes line₀ kept pool₀ scalars₀ ends₀ scratch₀ out₀ n₀ at₀ line pool scalars ends scratch out n at = Unit {0}
 
 abbrev μ-loop : tie.MeasureT-loop
 μ-loop bytes line₀ kept pool₀ scalars₀ ends₀ scratch₀ out₀ n₀ at₀ line pool scalars ends scratch out n at = length bytes - at
 
 loop-holds : tie.Need-loop-holds Inv-loop μ-loop
-loop-holds c = (refl, refl, refl, refl, refl, refl)
+loop-holds c = tt
 
-sub-feed : tie.Need-sub-feed Inv-loop μ-loop
-sub-feed c = search needs
+sub-step : tie.Need-sub-step Inv-loop μ-loop
+sub-step c = search needs
 
-part-feed-start : tie.Need-part-feed-start Inv-loop μ-loop
-part-feed-start c = search needs
+part-step-start : tie.Need-part-step-start Inv-loop μ-loop
+part-step-start c = search needs
 
-part-feed-end : tie.Need-part-feed-end Inv-loop μ-loop
-part-feed-end c = search needs
+part-step-end : tie.Need-part-step-end Inv-loop μ-loop
+part-step-end c = search needs
 
-feed-requires : tie.Need-feed-requires Inv-loop μ-loop
-feed-requires c κs = search needs
+step-requires : tie.Need-step-requires Inv-loop μ-loop
+step-requires c κs = search needs
 
 front-requires : tie.Need-front-requires Inv-loop μ-loop
 front-requires c κs = search needs
 
-print-requires : tie.Need-print-requires Inv-loop μ-loop
-print-requires c κs = search needs
-
-add-at : tie.Need-add-at Inv-loop μ-loop
-add-at c = let m = moves (c .before .before .before .before .before .before .before .before .before .before .before .before .before .before .before .before .before .before .before .before .before .before .before .before .before .before .before .before .before .before .before .before .before .args .bytes .now) (c .before .before .before .before .before .before .before .before .before .before .before .before .before .before .before .before .before .before .before .before .before .before .before .before .before .loop .at) _ _ (c .before .before .before .before .before .before .before .before .before .before .before .before .before .before .before .before .feed .ensures .0) (c .before .before .before .before .before .before .before .before .before .before .before .before .before .before .before .before .before .before .before .before .before .before .before .before .loop-test .taken) in let b = c .before .before .before .before .before .before .before .before .before .before .before .before .before .before .before .before .before .before .before .before .before .before .before .before .before .before .before .before .before .before .before .before .before .good in omega arith
-
-loop-less : tie.Need-loop-less Inv-loop μ-loop
-loop-less c = let m = moves (c .before .before .before .before .before .before .before .before .before .before .before .before .before .before .before .before .before .before .before .before .before .before .before .before .before .before .before .before .before .before .before .before .before .args .bytes .now) (c .before .before .before .before .before .before .before .before .before .before .before .before .before .before .before .before .before .before .before .before .before .before .before .before .before .loop .at) _ _ (c .before .before .before .before .before .before .before .before .before .before .before .before .before .before .before .before .feed .ensures .0) (c .before .before .before .before .before .before .before .before .before .before .before .before .before .before .before .before .before .before .before .before .before .before .before .before .loop-test .taken) in omega arith
-
-loop-again : tie.Need-loop-again Inv-loop μ-loop
-loop-again c = search needs
-
-same-length : tie.Need-same-length Inv-loop μ-loop
-same-length c = search needs
-
-same-length-2 : tie.Need-same-length-2 Inv-loop μ-loop
-same-length-2 c = search needs
-
-same-length-3 : tie.Need-same-length-3 Inv-loop μ-loop
-same-length-3 c = search needs
-
-same-length-4 : tie.Need-same-length-4 Inv-loop μ-loop
-same-length-4 c = search needs
-
-same-length-5 : tie.Need-same-length-5 Inv-loop μ-loop
-same-length-5 c = search needs
-
-same-length-6 : tie.Need-same-length-6 Inv-loop μ-loop
-same-length-6 c = search needs
+write-whole-requires : tie.Need-write-whole-requires Inv-loop μ-loop
+write-whole-requires c κs = search needs
 
 returns : tie.Need-returns Inv-loop μ-loop
 returns c = search needs
+
+add-at : tie.Need-add-at Inv-loop μ-loop
+add-at c =
+    let c6 = c .before .before .before .before .before .before in
+    let c14 = c6 .before .before .before .before .before .before .before .before in
+    let c15 = c14 .before in
+    let c17 = c15 .before .before in
+    let m = moves (c17 .args .bytes .now) (c15 .loop .at) _ _ (c6 .step .ensures .1 .0) (c14 .loop-test .taken) in let b = c17 .good in omega arith
+
+loop-less : tie.Need-loop-less Inv-loop μ-loop
+loop-less c =
+    let c6 = c .before .before .before .before .before .before in
+    let c14 = c6 .before .before .before .before .before .before .before .before in
+    let c15 = c14 .before in
+    let c17 = c15 .before .before in
+    let m = moves (c17 .args .bytes .now) (c15 .loop .at) _ _ (c6 .step .ensures .1 .0) (c14 .loop-test .taken) in omega arith
+
+loop-again : tie.Need-loop-again Inv-loop μ-loop
+loop-again c = tt
+
+returns-2 : tie.Need-returns-2 Inv-loop μ-loop
+returns-2 c = search needs
 
 pub feed-all-spec : {M : Type 1} → statement M
 feed-all-spec =
@@ -83,19 +78,14 @@ feed-all-spec =
     Inv-loop
     μ-loop
     loop-holds
-    sub-feed
-    part-feed-start
-    part-feed-end
-    feed-requires
+    sub-step
+    part-step-start
+    part-step-end
+    step-requires
     front-requires
-    print-requires
+    write-whole-requires
+    returns
     add-at
     loop-less
     loop-again
-    same-length
-    same-length-2
-    same-length-3
-    same-length-4
-    same-length-5
-    same-length-6
-    returns)
+    returns-2)

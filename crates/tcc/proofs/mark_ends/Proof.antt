@@ -20,16 +20,37 @@ cluster-end-requires : tie.Need-cluster-end-requires Inv-loop μ-loop
 cluster-end-requires c κs = c .loop-test .taken
 
 mul-row : tie.Need-mul-row Inv-loop μ-loop
-mul-row c = omega (arith, c .before .before .loop .inv .long, matched (c .before .loop-test .taken) (c .cluster-end .ensures) .inside, c .before .before .before .before .before .pre .0)
+mul-row c =
+    let c2 = c .before .before in
+    let c5 = c2 .before .before .before in
+    omega (
+      arith,
+      c2 .loop .inv .long,
+      matched (c .before .loop-test .taken)
+          (c .cluster-end .ensures) .inside,
+      c5 .pre .0,
+    )
 
 slice-write-row : tie.Need-slice-write-row Inv-loop μ-loop
-slice-write-row c = omega (arith, c .before .before .loop .inv .long, matched (c .before .loop-test .taken) (c .cluster-end .ensures) .inside, c .before .before .before .before .before .pre .0)
+slice-write-row c =
+    let c2 = c .before .before in
+    let c5 = c2 .before .before .before in
+    omega (
+      arith,
+      c2 .loop .inv .long,
+      matched (c .before .loop-test .taken)
+          (c .cluster-end .ensures) .inside,
+      c5 .pre .0,
+    )
 
 loop-less : tie.Need-loop-less Inv-loop μ-loop
 loop-less c = omega (arith, matched (c .before .loop-test .taken) (c .cluster-end .ensures) .past, c .before .loop-test .taken)
 
 loop-again : tie.Need-loop-again Inv-loop μ-loop
-loop-again c = marked-next (c .before .before .before .before .before .pre .0) (c .before .before .loop .inv) (c .before .loop-test .taken) (c .cluster-end .ensures)
+loop-again c =
+    let c2 = c .before .before in
+    let c5 = c2 .before .before .before in
+    marked-next (c5 .pre .0) (c2 .loop .inv) (c .before .loop-test .taken) (c .cluster-end .ensures)
 
 same-length : tie.Need-same-length Inv-loop μ-loop
 same-length c = c .before .loop .inv .long

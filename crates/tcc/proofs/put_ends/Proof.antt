@@ -19,13 +19,21 @@ cluster-end-requires : tie.Need-cluster-end-requires Inv-loop μ-loop
 cluster-end-requires c κs = c .loop-test .taken
 
 cast-out : tie.Need-cast-out Inv-loop μ-loop
-cast-out c = omega (arith, matched (c .before .loop-test .taken) (c .cluster-end .ensures) .inside, c .before .before .before .before .before .pre .0)
+cast-out c =
+    let c5 = c .before .before .before .before .before in
+    omega (arith, matched (c .before .loop-test .taken) (c .cluster-end .ensures) .inside, c5 .pre .0)
 
 mul-out : tie.Need-mul-out Inv-loop μ-loop
-mul-out c = omega (arith, written-room (c .before .before .loop .inv) (c .before .loop-test .taken), c .before .before .loop .inv .long, c .before .before .before .before .before .pre .1)
+mul-out c =
+    let c2 = c .before .before in
+    let c5 = c2 .before .before .before in
+    omega (arith, written-room (c2 .loop .inv) (c .before .loop-test .taken), c2 .loop .inv .long, c5 .pre .1)
 
 slice-write-out : tie.Need-slice-write-out Inv-loop μ-loop
-slice-write-out c = omega (arith, written-room (c .before .before .loop .inv) (c .before .loop-test .taken), c .before .before .loop .inv .long, c .before .before .before .before .before .pre .1)
+slice-write-out c =
+    let c2 = c .before .before in
+    let c5 = c2 .before .before .before in
+    omega (arith, written-room (c2 .loop .inv) (c .before .loop-test .taken), c2 .loop .inv .long, c5 .pre .1)
 
 add-n : tie.Need-add-n Inv-loop μ-loop
 add-n c = omega (arith, c .before .before .loop .inv .counted .few, c .before .before .loop .inv .counted .inside)
@@ -34,7 +42,10 @@ loop-less : tie.Need-loop-less Inv-loop μ-loop
 loop-less c = omega (arith, matched (c .before .loop-test .taken) (c .cluster-end .ensures) .past, c .before .loop-test .taken)
 
 loop-again : tie.Need-loop-again Inv-loop μ-loop
-loop-again c = written-next (c .before .before .before .before .before .pre .1) (c .before .before .loop .inv) (c .before .loop-test .taken) (c .cluster-end .ensures)
+loop-again c =
+    let c2 = c .before .before in
+    let c5 = c2 .before .before .before in
+    written-next (c5 .pre .1) (c2 .loop .inv) (c .before .loop-test .taken) (c .cluster-end .ensures)
 
 same-length : tie.Need-same-length Inv-loop μ-loop
 same-length c = c .before .loop .inv .long

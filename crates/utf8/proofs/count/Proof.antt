@@ -24,7 +24,10 @@ size-at-requires : tie.Need-size-at-requires Inv-loop μ-loop
 size-at-requires c κs = search needs
 
 returns : tie.Need-returns Inv-loop μ-loop
-returns c = read-broken (c .before .before .before .before .loop .inv) (c .before .before .before .loop-test .taken) (sym (c .before .size-at .ensures) ∙ c .if1 .taken)
+returns c =
+    let c3 = c .before .before .before in
+    let c4 = c3 .before in
+    read-broken (c4 .loop .inv) (c3 .loop-test .taken) (sym (c .before .size-at .ensures) ∙ c .if1 .taken)
 
 add-at : tie.Need-add-at Inv-loop μ-loop
 add-at c = let z = read-inside _ _ _ (c .before .before .before .before .loop .inv .inside) (c .before .size-at .ensures) in omega arith

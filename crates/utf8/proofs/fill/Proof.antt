@@ -21,26 +21,53 @@ piece-at-requires c κs = filled-next (c .before .before .before .before .pre .0
 
 mul-out : tie.Need-mul-out Inv-loop μ-loop
 mul-out c =
-    let z = filled-room _ (c .before .before .loop .inv) (filled-next (c .before .before .before .before .before .pre .0) (c .before .before .loop .inv) (c .before .loop-test .taken)) (c .piece-at .ensures) in
-    let y : c .before .before .loop .n < length (c .before .before .before .before .before .args .out .now) = omega (arith, c .before .before .before .before .before .pre .1) in
+    let c2 = c .before .before in
+    let c5 = c2 .before .before .before in
+    let z = filled-room _ (c2 .loop .inv) (filled-next (c5 .pre .0) (c2 .loop .inv) (c .before .loop-test .taken))
+    (c .piece-at .ensures) in
+    let y : c2 .loop .n < length (c5 .args .out .now) = omega (arith, c5 .pre .1) in
     search needs
 
 slice-write-out : tie.Need-slice-write-out Inv-loop μ-loop
 slice-write-out c =
-    let z = filled-room _ (c .before .before .loop .inv) (filled-next (c .before .before .before .before .before .pre .0) (c .before .before .loop .inv) (c .before .loop-test .taken)) (c .piece-at .ensures) in
-    omega (arith, c .before .before .before .before .before .pre .1, c .before .before .loop .inv .long)
+    let c2 = c .before .before in
+    let c5 = c2 .before .before .before in
+    let z = filled-room _ (c2 .loop .inv) (filled-next (c5 .pre .0) (c2 .loop .inv) (c .before .loop-test .taken))
+    (c .piece-at .ensures) in
+    omega (arith, c5 .pre .1, c2 .loop .inv .long)
 
 add-at : tie.Need-add-at Inv-loop μ-loop
-add-at c = let z = filled-inside _ (c .before .before .before .loop .inv) (filled-next (c .before .before .before .before .before .before .pre .0) (c .before .before .before .loop .inv) (c .before .before .loop-test .taken)) (c .before .piece-at .ensures) in omega arith
+add-at c =
+    let c2 = c .before .before in
+    let c3 = c2 .before in
+    let c6 = c3 .before .before .before in
+    let z = filled-inside _ (c3 .loop .inv) (filled-next (c6 .pre .0) (c3 .loop .inv) (c2 .loop-test .taken))
+    (c .before .piece-at .ensures) in
+    omega arith
 
 add-n : tie.Need-add-n Inv-loop μ-loop
-add-n c = let z = c .before .before .before .loop .inv .read .few in let y = c .before .before .before .loop .inv .read .inside in search needs
+add-n c =
+    let c3 = c .before .before .before in
+    let z = c3 .loop .inv .read .few in
+    let y = c3 .loop .inv .read .inside in
+    search needs
 
 loop-less : tie.Need-loop-less Inv-loop μ-loop
-loop-less c = let z = filled-inside _ (c .before .before .before .loop .inv) (filled-next (c .before .before .before .before .before .before .pre .0) (c .before .before .before .loop .inv) (c .before .before .loop-test .taken)) (c .before .piece-at .ensures) in omega arith
+loop-less c =
+    let c2 = c .before .before in
+    let c3 = c2 .before in
+    let c6 = c3 .before .before .before in
+    let z = filled-inside _ (c3 .loop .inv) (filled-next (c6 .pre .0) (c3 .loop .inv) (c2 .loop-test .taken))
+    (c .before .piece-at .ensures) in
+    omega arith
 
 loop-again : tie.Need-loop-again Inv-loop μ-loop
-loop-again c = filled-more _ (c .before .before .before .loop .inv) (filled-next (c .before .before .before .before .before .before .pre .0) (c .before .before .before .loop .inv) (c .before .before .loop-test .taken)) (c .before .piece-at .ensures) (c .before .before .before .before .before .before .pre .1)
+loop-again c =
+    let c2 = c .before .before in
+    let c3 = c2 .before in
+    let c6 = c3 .before .before .before in
+    filled-more _ (c3 .loop .inv) (filled-next (c6 .pre .0) (c3 .loop .inv) (c2 .loop-test .taken))
+    (c .before .piece-at .ensures) (c6 .pre .1)
 
 same-length : tie.Need-same-length Inv-loop μ-loop
 same-length c = c .before .loop .inv .long

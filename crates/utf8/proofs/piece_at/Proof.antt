@@ -11,13 +11,21 @@ wide-requires : tie.Need-wide-requires
 wide-requires c κs = search needs
 
 returns : tie.Need-returns
-returns c = is-1 (c .before .before .before .before .args .s .now) (c .before .before .before .before .args .at) (c .before .before .before .before .pre) _ (c .before .wide .ensures) (c .if1 .taken)
+returns c =
+    let c4 = c .before .before .before .before in
+    is-1 (c4 .args .s .now) (c4 .args .at) (c4 .pre) _ (c .before .wide .ensures) (c .if1 .taken)
 
 add-wide : tie.Need-add-wide
-add-wide c = let h = room-2 (c .before .before .before .before .args .s .now) (c .before .before .before .before .args .at) (c .before .before .before .before .pre) _ (c .before .wide .ensures) (c .if1 .left) in search needs
+add-wide c =
+    let c4 = c .before .before .before .before in
+    let h = room-2 (c4 .args .s .now) (c4 .args .at) (c4 .pre) _ (c .before .wide .ensures) (c .if1 .left) in
+    search needs
 
 shared-slice-read-wide-2 : tie.Need-shared-slice-read-wide-2
-shared-slice-read-wide-2 c = room-2 (c .before .before .before .before .before .args .s .now) (c .before .before .before .before .before .args .at) (c .before .before .before .before .before .pre) _ (c .before .before .wide .ensures) (c .before .if1 .left)
+shared-slice-read-wide-2 c =
+    let c2 = c .before .before in
+    let c5 = c2 .before .before .before in
+    room-2 (c5 .args .s .now) (c5 .args .at) (c5 .pre) _ (c2 .wide .ensures) (c .before .if1 .left)
 
 wide-requires-2 : tie.Need-wide-requires-2
 wide-requires-2 c κs = search needs
@@ -29,13 +37,27 @@ add-t15 : tie.Need-add-t15
 add-t15 c = search needs
 
 returns-2 : tie.Need-returns-2
-returns-2 c = is-2 (c .before .before .before .before .before .before .before .args .s .now) (c .before .before .before .before .before .before .before .args .at) (c .before .before .before .before .before .before .before .pre) _ (c .before .before .before .before .wide .ensures) (c .before .before .before .if1 .left) _ (c .before .wide2 .ensures) (c .if2 .taken)
+returns-2 c =
+    let c3 = c .before .before .before in
+    let c4 = c3 .before in
+    let c7 = c4 .before .before .before in
+    is-2 (c7 .args .s .now) (c7 .args .at) (c7 .pre) _ (c4 .wide .ensures) (c3 .if1 .left) _
+    (c .before .wide2 .ensures) (c .if2 .taken)
 
 add-wide-2 : tie.Need-add-wide-2
-add-wide-2 c = let h = room-3 (c .before .before .before .before .before .before .before .args .s .now) (c .before .before .before .before .before .before .before .args .at) (c .before .before .before .before .before .before .before .pre) _ (c .before .before .before .before .wide .ensures) (c .before .before .before .if1 .left) (c .if2 .left) in search needs
+add-wide-2 c =
+    let c3 = c .before .before .before in
+    let c4 = c3 .before in
+    let c7 = c4 .before .before .before in
+    let h = room-3 (c7 .args .s .now) (c7 .args .at) (c7 .pre) _ (c4 .wide .ensures) (c3 .if1 .left) (c .if2 .left) in
+    search needs
 
 shared-slice-read-wide-3 : tie.Need-shared-slice-read-wide-3
-shared-slice-read-wide-3 c = room-3 (c .before .before .before .before .before .before .before .before .args .s .now) (c .before .before .before .before .before .before .before .before .args .at) (c .before .before .before .before .before .before .before .before .pre) _ (c .before .before .before .before .before .wide .ensures) (c .before .before .before .before .if1 .left) (c .before .if2 .left)
+shared-slice-read-wide-3 c =
+    let c4 = c .before .before .before .before in
+    let c5 = c4 .before in
+    let c8 = c5 .before .before .before in
+    room-3 (c8 .args .s .now) (c8 .args .at) (c8 .pre) _ (c5 .wide .ensures) (c4 .if1 .left) (c .before .if2 .left)
 
 wide-requires-3 : tie.Need-wide-requires-3
 wide-requires-3 c κs = search needs
@@ -53,13 +75,30 @@ add-t21 : tie.Need-add-t21
 add-t21 c = search needs
 
 returns-3 : tie.Need-returns-3
-returns-3 c = is-3 (c .before .before .before .before .before .before .before .before .before .before .args .s .now) (c .before .before .before .before .before .before .before .before .before .before .args .at) (c .before .before .before .before .before .before .before .before .before .before .pre) _ (c .before .before .before .before .before .before .before .wide .ensures) (c .before .before .before .before .before .before .if1 .left) _ (c .before .before .before .before .wide2 .ensures) (c .before .before .before .if2 .left) _ (c .before .wide3 .ensures) (c .if3 .taken)
+returns-3 c =
+    let c3 = c .before .before .before in
+    let c4 = c3 .before in
+    let c6 = c4 .before .before in
+    let c7 = c6 .before in
+    let c10 = c7 .before .before .before in
+    is-3 (c10 .args .s .now) (c10 .args .at) (c10 .pre) _ (c7 .wide .ensures) (c6 .if1 .left) _ (c4 .wide2 .ensures)
+    (c3 .if2 .left) _ (c .before .wide3 .ensures) (c .if3 .taken)
 
 add-wide-3 : tie.Need-add-wide-3
-add-wide-3 c = let h = room-4 (c .before .before .before .before .before .before .before .before .before .before .args .s .now) (c .before .before .before .before .before .before .before .before .before .before .args .at) (c .before .before .before .before .before .before .before .before .before .before .pre) _ (c .before .before .before .before .before .before .before .wide .ensures) (c .before .before .before .before .before .before .if1 .left) (c .if3 .left) in search needs
+add-wide-3 c =
+    let c6 = c .before .before .before .before .before .before in
+    let c7 = c6 .before in
+    let c10 = c7 .before .before .before in
+    let h = room-4 (c10 .args .s .now) (c10 .args .at) (c10 .pre) _ (c7 .wide .ensures) (c6 .if1 .left)
+    (c .if3 .left) in
+    search needs
 
 shared-slice-read-wide-4 : tie.Need-shared-slice-read-wide-4
-shared-slice-read-wide-4 c = room-4 (c .before .before .before .before .before .before .before .before .before .before .before .args .s .now) (c .before .before .before .before .before .before .before .before .before .before .before .args .at) (c .before .before .before .before .before .before .before .before .before .before .before .pre) _ (c .before .before .before .before .before .before .before .before .wide .ensures) (c .before .before .before .before .before .before .before .if1 .left) (c .before .if3 .left)
+shared-slice-read-wide-4 c =
+    let c7 = c .before .before .before .before .before .before .before in
+    let c8 = c7 .before in
+    let c11 = c8 .before .before .before in
+    room-4 (c11 .args .s .now) (c11 .args .at) (c11 .pre) _ (c8 .wide .ensures) (c7 .if1 .left) (c .before .if3 .left)
 
 wide-requires-4 : tie.Need-wide-requires-4
 wide-requires-4 c κs = search needs
@@ -83,7 +122,16 @@ add-t28 : tie.Need-add-t28
 add-t28 c = search needs
 
 returns-4 : tie.Need-returns-4
-returns-4 c = is-4 (c .before .before .before .before .before .before .before .before .before .before .before .before .args .s .now) (c .before .before .before .before .before .before .before .before .before .before .before .before .args .at) (c .before .before .before .before .before .before .before .before .before .before .before .before .pre) _ (c .before .before .before .before .before .before .before .before .before .wide .ensures) (c .before .before .before .before .before .before .before .before .if1 .left) _ (c .before .before .before .before .before .before .wide2 .ensures) (c .before .before .before .before .before .if2 .left) _ (c .before .before .before .wide3 .ensures) (c .before .before .if3 .left) _ (c .wide4 .ensures)
+returns-4 c =
+    let c2 = c .before .before in
+    let c3 = c2 .before in
+    let c5 = c3 .before .before in
+    let c6 = c5 .before in
+    let c8 = c6 .before .before in
+    let c9 = c8 .before in
+    let c12 = c9 .before .before .before in
+    is-4 (c12 .args .s .now) (c12 .args .at) (c12 .pre) _ (c9 .wide .ensures) (c8 .if1 .left) _ (c6 .wide2 .ensures)
+    (c5 .if2 .left) _ (c3 .wide3 .ensures) (c2 .if3 .left) _ (c .wide4 .ensures)
 
 pub piece-at-spec : {M : Type 1} → statement M
 piece-at-spec =

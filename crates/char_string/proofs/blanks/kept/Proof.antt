@@ -2,7 +2,7 @@
 use Prim.Native.Nat.{_-_}
 use mathlib.Core.Path.{refl, sym, _∙_, ap}
 use mathlib.Core.Bool.{not}
-use Rattle.basics.proofs.Scans.{Left, left-all, left-less, left-stop, left-none}
+use Rattle.lists.proofs.Scans.{Left, left-all, left-less, left-stop, left-none}
 use Rattle.char_string.specs.Blanks.{stays}
 use borrow.Author.Needs.{needs}
 use Rattle.char_string.proofs.blanks.kept.Statement.{statement}
@@ -30,7 +30,10 @@ is-trimmed-requires : tie.Need-is-trimmed-requires Inv-loop μ-loop
 is-trimmed-requires c κs = search needs
 
 returns : tie.Need-returns Inv-loop μ-loop
-returns c = left-stop (c .before .before .before .before .loop .inv) (c .before .before .before .loop-test .taken) (ap not (sym (c .before .is-trimmed .ensures)) ∙ c .if1 .taken)
+returns c =
+    let c3 = c .before .before .before in
+    let c4 = c3 .before in
+    left-stop (c4 .loop .inv) (c3 .loop-test .taken) (ap not (sym (c .before .is-trimmed .ensures)) ∙ c .if1 .taken)
 
 sub-e : tie.Need-sub-e Inv-loop μ-loop
 sub-e c = search needs
@@ -39,7 +42,10 @@ loop-less : tie.Need-loop-less Inv-loop μ-loop
 loop-less c = search needs
 
 loop-again : tie.Need-loop-again Inv-loop μ-loop
-loop-again c = left-less (c .before .before .before .before .loop .inv) (c .before .before .before .loop-test .taken) (ap not (sym (c .before .is-trimmed .ensures)) ∙ c .if1 .left)
+loop-again c =
+    let c3 = c .before .before .before in
+    let c4 = c3 .before in
+    left-less (c4 .loop .inv) (c3 .loop-test .taken) (ap not (sym (c .before .is-trimmed .ensures)) ∙ c .if1 .left)
 
 returns-2 : tie.Need-returns-2 Inv-loop μ-loop
 returns-2 c = left-none (c .before .loop .inv) (c .loop-test .left)

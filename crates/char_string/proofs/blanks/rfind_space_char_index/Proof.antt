@@ -1,7 +1,7 @@
 -- Assumes nothing.
 use mathlib.Core.Path.{refl}
 use borrow.Author.Tests.{eq-eqb, ne-eqb}
-use Rattle.basics.proofs.Scans.{Left, left-all, left-less, left-stop, left-none}
+use Rattle.lists.proofs.Scans.{Left, left-all, left-less, left-stop, left-none}
 use Rattle.char_string.specs.Blanks.{isSpace}
 use Rattle.char_string.proofs.Trimming.{before-some, before-none}
 use borrow.Author.Needs.{needs}
@@ -30,7 +30,11 @@ sub-t8 : tie.Need-sub-t8 Inv-loop μ-loop
 sub-t8 c = search needs
 
 returns : tie.Need-returns Inv-loop μ-loop
-returns c = before-some _ _ (left-stop (c .before .before .before .loop .inv) (c .before .before .loop-test .taken) (eq-eqb _ _ (c .if1 .taken))) (c .before .before .loop-test .taken)
+returns c =
+    let c2 = c .before .before in
+    let c3 = c2 .before in
+    before-some _ _ (left-stop (c3 .loop .inv) (c2 .loop-test .taken) (eq-eqb _ _ (c .if1 .taken)))
+    (c2 .loop-test .taken)
 
 sub-i : tie.Need-sub-i Inv-loop μ-loop
 sub-i c = search needs

@@ -23,7 +23,11 @@ kept-requires : tie.Need-kept-requires
 kept-requires c κs = search needs
 
 add-t4 : tie.Need-add-t4
-add-t4 c = let h = span-inside (c .before .before .before .before .args .word .now) _ _ (c .before .before .trim-start .ensures) (c .kept .ensures) in search needs
+add-t4 c =
+    let c2 = c .before .before in
+    let c4 = c2 .before .before in
+    let h = span-inside (c4 .args .word .now) _ _ (c2 .trim-start .ensures) (c .kept .ensures) in
+    search needs
 
 returns : tie.Need-returns
 returns c = span-is _ _ _ (c .before .before .trim-start .ensures) (c .kept .ensures)

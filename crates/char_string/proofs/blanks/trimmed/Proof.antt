@@ -14,10 +14,12 @@ substring-requires : tie.Need-substring-requires
 substring-requires c κs = search needs
 
 returns : tie.Need-returns
-returns c = (
-  c .substring .ensures .0 ∙ part-is (c .before .before .before .args .word .now) _ (c .before .trim .ensures),
-  c .substring .ensures .1 ∙ ap (λ (i : ℕ). cellAt (c .before .before .before .args .word .ptr) i) (start-is (c .before .before .before .args .word .now) _ (c .before .trim .ensures)),
-)
+returns c =
+    let c3 = c .before .before .before in (
+      c .substring .ensures .0 ∙ part-is (c3 .args .word .now) _ (c .before .trim .ensures),
+      c .substring .ensures .1
+          ∙ ap (λ (i : ℕ). cellAt (c3 .args .word .ptr) i) (start-is (c3 .args .word .now) _ (c .before .trim .ensures)),
+    )
 
 pub trimmed-spec : {M : Type 1} → statement M
 trimmed-spec = tie.close (tie.spec trim-requires substring-requires returns)

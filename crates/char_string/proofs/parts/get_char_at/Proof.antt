@@ -19,10 +19,17 @@ shared-slice-read-t10 : tie.Need-shared-slice-read-t10
 shared-slice-read-t10 c = search needs
 
 returns : tie.Need-returns
-returns c = char-some (c .before .before .substring .result .now) _ (c .before .if1 .taken) ∙ ap (λ (l : List ℕ). charAt l (c .before .before .before .before .args .index)) (c .before .before .substring .ensures .0)
+returns c =
+    let c2 = c .before .before in
+    let c4 = c2 .before .before in
+    char-some (c2 .substring .result .now) _ (c .before .if1 .taken) ∙ ap (λ (l : List ℕ). charAt l (c4 .args .index))
+    (c2 .substring .ensures .0)
 
 returns-2 : tie.Need-returns-2
-returns-2 c = char-none (c .before .substring .result .now) _ (c .if1 .left) ∙ ap (λ (l : List ℕ). charAt l (c .before .before .before .args .index)) (c .before .substring .ensures .0)
+returns-2 c =
+    let c3 = c .before .before .before in
+    char-none (c .before .substring .result .now) _ (c .if1 .left) ∙ ap (λ (l : List ℕ). charAt l (c3 .args .index))
+    (c .before .substring .ensures .0)
 
 pub get-char-at-spec : {M : Type 1} → statement M
 get-char-at-spec =

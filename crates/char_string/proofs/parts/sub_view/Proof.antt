@@ -14,13 +14,36 @@ fit-requires-2 : tie.Need-fit-requires-2
 fit-requires-2 c κs = search needs
 
 add-t9 : tie.Need-add-t9
-add-t9 c = let h = sub-within (c .before .before .before .before .before .before .args .text .now) (c .before .before .before .substring .result .now) (c .before .before .before .before .before .before .args .start) (c .before .before .before .before .before .before .args .end) (c .before .before .before .before .before .before .args .from) (c .before .before .before .before .before .before .args .to) (c .before .before .before .before .fit .result) (c .before .before .fit2 .result) (c .before .before .before .before .fit .ensures) (c .before .before .before .substring .ensures .0) (c .before .before .fit2 .ensures) in search needs
+add-t9 c =
+    let c2 = c .before .before in
+    let c3 = c2 .before in
+    let c4 = c3 .before in
+    let c6 = c4 .before .before in
+    let h = sub-within (c6 .args .text .now) (c3 .substring .result .now) (c6 .args .start) (c6 .args .end)
+    (c6 .args .from) (c6 .args .to) (c4 .fit .result) (c2 .fit2 .result) (c4 .fit .ensures)
+    (c3 .substring .ensures .0) (c2 .fit2 .ensures) in
+    search needs
 
 add-t10 : tie.Need-add-t10
-add-t10 c = let h = sub-within (c .before .before .before .before .before .before .before .before .args .text .now) (c .before .before .before .before .before .substring .result .now) (c .before .before .before .before .before .before .before .before .args .start) (c .before .before .before .before .before .before .before .before .args .end) (c .before .before .before .before .before .before .before .before .args .from) (c .before .before .before .before .before .before .before .before .args .to) (c .before .before .before .before .before .before .fit .result) (c .before .before .before .before .fit2 .result) (c .before .before .before .before .before .before .fit .ensures) (c .before .before .before .before .before .substring .ensures .0) (c .before .before .before .before .fit2 .ensures) in search needs
+add-t10 c =
+    let c4 = c .before .before .before .before in
+    let c5 = c4 .before in
+    let c6 = c5 .before in
+    let c8 = c6 .before .before in
+    let h = sub-within (c8 .args .text .now) (c5 .substring .result .now) (c8 .args .start) (c8 .args .end)
+    (c8 .args .from) (c8 .args .to) (c6 .fit .result) (c4 .fit2 .result) (c6 .fit .ensures)
+    (c5 .substring .ensures .0) (c4 .fit2 .ensures) in
+    search needs
 
 returns : tie.Need-returns
-returns c = sub-is (c .before .before .before .before .before .before .before .before .args .text .now) (c .before .before .before .before .before .substring .result .now) (c .before .before .before .before .before .before .before .before .args .start) (c .before .before .before .before .before .before .before .before .args .end) (c .before .before .before .before .before .before .before .before .args .from) (c .before .before .before .before .before .before .before .before .args .to) (c .before .before .before .before .before .before .fit .result) (c .before .before .before .before .fit2 .result) (c .before .before .before .before .before .before .fit .ensures) (c .before .before .before .before .before .substring .ensures .0) (c .before .before .before .before .fit2 .ensures)
+returns c =
+    let c4 = c .before .before .before .before in
+    let c5 = c4 .before in
+    let c6 = c5 .before in
+    let c8 = c6 .before .before in
+    sub-is (c8 .args .text .now) (c5 .substring .result .now) (c8 .args .start) (c8 .args .end) (c8 .args .from)
+    (c8 .args .to) (c6 .fit .result) (c4 .fit2 .result) (c6 .fit .ensures) (c5 .substring .ensures .0)
+    (c4 .fit2 .ensures)
 
 pub sub-view-spec : {M : Type 1} → statement M
 sub-view-spec =

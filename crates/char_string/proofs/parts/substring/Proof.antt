@@ -23,7 +23,12 @@ part-result-end : tie.Need-part-result-end
 part-result-end c = within-is _ _ (c .fit .ensures) .inside
 
 returns : tie.Need-returns
-returns c = (ap (between (c .before .before .before .args .text .now)) (c .before .fit .ensures), ap (λ (s : Span). cellAt (c .before .before .before .args .text .ptr) (s .start)) (c .before .fit .ensures))
+returns c =
+    let c3 = c .before .before .before in (
+      ap (between (c3 .args .text .now)) (c .before .fit .ensures),
+      ap
+          (λ (s : Span). cellAt (c3 .args .text .ptr) (s .start)) (c .before .fit .ensures),
+    )
 
 pub substring-spec : {M : Type 1} → statement M
 substring-spec =

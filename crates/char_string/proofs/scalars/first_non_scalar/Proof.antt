@@ -3,7 +3,7 @@ use Prim.Native.Nat.{_-_}
 use mathlib.Core.Path.{sym, _∙_}
 use lib.ListN.{length}
 use borrow.Author.Tests.{not-true, not-false}
-use Rattle.basics.proofs.Scans.{Passed, passed-none, passed-more, passed-stop, passed-all}
+use Rattle.lists.proofs.Scans.{Passed, passed-none, passed-more, passed-stop, passed-all}
 use Rattle.char_string.specs.Scalars.{isScalar}
 use borrow.Author.Needs.{needs}
 use Rattle.char_string.proofs.scalars.first_non_scalar.Statement.{statement}
@@ -28,7 +28,11 @@ is-scalar-requires : tie.Need-is-scalar-requires Inv-loop μ-loop
 is-scalar-requires c κs = search needs
 
 returns : tie.Need-returns Inv-loop μ-loop
-returns c = passed-stop (c .before .before .before .before .loop .inv) (c .before .before .before .loop-test .taken) (sym (c .before .is-scalar .ensures) ∙ not-true _ (c .if1 .taken))
+returns c =
+    let c3 = c .before .before .before in
+    let c4 = c3 .before in
+    passed-stop (c4 .loop .inv) (c3 .loop-test .taken)
+    (sym (c .before .is-scalar .ensures) ∙ not-true _ (c .if1 .taken))
 
 add-i : tie.Need-add-i Inv-loop μ-loop
 add-i c = search needs
@@ -37,7 +41,11 @@ loop-less : tie.Need-loop-less Inv-loop μ-loop
 loop-less c = search needs
 
 loop-again : tie.Need-loop-again Inv-loop μ-loop
-loop-again c = passed-more (c .before .before .before .before .loop .inv) (c .before .before .before .loop-test .taken) (sym (c .before .is-scalar .ensures) ∙ not-false _ (c .if1 .left))
+loop-again c =
+    let c3 = c .before .before .before in
+    let c4 = c3 .before in
+    passed-more (c4 .loop .inv) (c3 .loop-test .taken)
+    (sym (c .before .is-scalar .ensures) ∙ not-false _ (c .if1 .left))
 
 returns-2 : tie.Need-returns-2 Inv-loop μ-loop
 returns-2 c = passed-all (c .before .loop .inv) (c .loop-test .left)

@@ -23,7 +23,10 @@ is-consonant-requires : tie.Need-is-consonant-requires
 is-consonant-requires c κs = search needs
 
 add-skip-final-vowel : tie.Need-add-skip-final-vowel
-add-skip-final-vowel c = omega (arith, c .before .before .before .before .before .pre .0, c .before .before .before .skip-tone .ensures, skip-near tone (c .before .before .before .before .before .args .text .now) (c .before .before .before .before .before .args .p + 2))
+add-skip-final-vowel c =
+    let c3 = c .before .before .before in
+    let c5 = c3 .before .before in
+    omega (arith, c5 .pre .0, c3 .skip-tone .ensures, skip-near tone (c5 .args .text .now) (c5 .args .p + 2))
 
 skip-final-vowel-requires : tie.Need-skip-final-vowel-requires
 skip-final-vowel-requires c κs = search needs
@@ -32,10 +35,23 @@ group-k-requires : tie.Need-group-k-requires
 group-k-requires c κs = search needs
 
 returns : tie.Need-returns
-returns c = c .group-k .ensures ∙ closed-yes (c .before .before .before .before .before .before .before .args .text .now) (c .before .before .before .before .before .before .before .args .p) (c .before .before .before .before .before .before .before .pre) _ (c .before .before .before .before .before .skip-tone .ensures) (seen consonant (c .before .before .before .before .at .ensures) (c .before .before .before .is-consonant .ensures) (c .before .before .if1 .taken)) (c .before .skip-final-vowel .ensures)
+returns c =
+    let c2 = c .before .before in
+    let c3 = c2 .before in
+    let c4 = c3 .before in
+    let c5 = c4 .before in
+    let c7 = c5 .before .before in
+    c .group-k .ensures ∙ closed-yes (c7 .args .text .now) (c7 .args .p) (c7 .pre) _ (c5 .skip-tone .ensures)
+    (seen consonant (c4 .at .ensures) (c3 .is-consonant .ensures) (c2 .if1 .taken))
+    (c .before .skip-final-vowel .ensures)
 
 returns-2 : tie.Need-returns-2
-returns-2 c = closed-no (c .before .before .before .before .before .args .text .now) (c .before .before .before .before .before .args .p) (c .before .before .before .before .before .pre) _ (c .before .before .before .skip-tone .ensures) (seen consonant (c .before .before .at .ensures) (c .before .is-consonant .ensures) (c .if1 .left))
+returns-2 c =
+    let c2 = c .before .before in
+    let c3 = c2 .before in
+    let c5 = c3 .before .before in
+    closed-no (c5 .args .text .now) (c5 .args .p) (c5 .pre) _ (c3 .skip-tone .ensures)
+    (seen consonant (c2 .at .ensures) (c .before .is-consonant .ensures) (c .if1 .left))
 
 pub from-closed-spec : {M : Type 1} → statement M
 from-closed-spec =

@@ -20,7 +20,11 @@ group-k-requires : tie.Need-group-k-requires
 group-k-requires c κs = search needs
 
 returns : tie.Need-returns
-returns c = c .group-k .ensures ∙ d-mark (c .before .before .before .before .args .text .now) (c .before .before .before .before .args .p) (c .before .before .before .before .pre) (sym (c .before .before .at .ensures) ∙ c .before .if1 .taken)
+returns c =
+    let c2 = c .before .before in
+    let c4 = c2 .before .before in
+    c .group-k .ensures ∙ d-mark (c4 .args .text .now) (c4 .args .p) (c4 .pre)
+    (sym (c2 .at .ensures) ∙ c .before .if1 .taken)
 
 add-skip-tone : tie.Need-add-skip-tone
 add-skip-tone c = omega (arith, c .before .before .before .pre .0)
@@ -32,7 +36,12 @@ group-k-requires-2 : tie.Need-group-k-requires-2
 group-k-requires-2 c κs = search needs
 
 returns-2 : tie.Need-returns-2
-returns-2 c = c .group-k2 .ensures ∙ d-none (c .before .before .before .before .before .args .text .now) (c .before .before .before .before .before .args .p) (c .before .before .before .before .before .pre) (unlike 0xE4C (c .before .before .before .at .ensures) (c .before .before .if1 .left)) (c .before .skip-tone .ensures)
+returns-2 c =
+    let c2 = c .before .before in
+    let c3 = c2 .before in
+    let c5 = c3 .before .before in
+    c .group-k2 .ensures ∙ d-none (c5 .args .text .now) (c5 .args .p) (c5 .pre)
+    (unlike 0xE4C (c3 .at .ensures) (c2 .if1 .left)) (c .before .skip-tone .ensures)
 
 pub from-d-or-i-spec : {M : Type 1} → statement M
 from-d-or-i-spec =

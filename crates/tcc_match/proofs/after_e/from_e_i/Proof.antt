@@ -19,7 +19,21 @@ is-tone-requires : tie.Need-is-tone-requires
 is-tone-requires c κs = search needs
 
 from-e-i-tone-requires : tie.Need-from-e-i-tone-requires
-from-e-i-tone-requires c κs = (c .before .before .before .before .pre .0, (c .before .before .before .before .pre .1 .0, (c .before .before .before .before .pre .1 .1 .0, (c .before .before .before .before .pre .1 .1 .1 .0, (((seen tone (c .before .before .at .ensures) (c .before .is-tone .ensures) (c .if1 .taken)), refl), tt)))))
+from-e-i-tone-requires c κs =
+    let c2 = c .before .before in
+    let c4 = c2 .before .before in (
+      c4 .pre .0,
+      (
+        c4 .pre .1 .0,
+        (
+          c4 .pre .1 .1 .0,
+          (
+            c4 .pre .1 .1 .1 .0,
+            (((seen tone (c2 .at .ensures) (c .before .is-tone .ensures) (c .if1 .taken)), refl), tt),
+          ),
+        ),
+      ),
+    )
 
 returns : tie.Need-returns
 returns c = c .from-e-i-tone .ensures
@@ -31,7 +45,15 @@ add-result : tie.Need-add-result
 add-result c = omega (arith, c .before .before .before .before .before .before .pre .0)
 
 returns-2 : tie.Need-returns-2
-returns-2 c = i-none (c .before .before .before .before .before .before .args .text .now) (c .before .before .before .before .before .before .args .p) (c .before .before .before .before .before .before .pre) ((seen tone (c .before .before .before .before .at .ensures) (c .before .before .before .is-tone .ensures) (c .before .before .if1 .left)), ((seen consonant (c .before .before .before .before .at .ensures) (c .before .is-consonant .ensures) (not-true _ (c .if2 .taken))), tt))
+returns-2 c =
+    let c2 = c .before .before in
+    let c3 = c2 .before in
+    let c4 = c3 .before in
+    let c6 = c4 .before .before in
+    i-none (c6 .args .text .now) (c6 .args .p) (c6 .pre) (
+      (seen tone (c4 .at .ensures) (c3 .is-tone .ensures) (c2 .if1 .left)),
+      ((seen consonant (c4 .at .ensures) (c .before .is-consonant .ensures) (not-true _ (c .if2 .taken))), tt),
+    )
 
 add-at-2 : tie.Need-add-at-2
 add-at-2 c = omega (arith, c .before .before .before .before .before .before .pre .0)
@@ -55,13 +77,36 @@ group-k-requires : tie.Need-group-k-requires
 group-k-requires c κs = search needs
 
 returns-3 : tie.Need-returns-3
-returns-3 c = c .group-k .ensures ∙ i-mark (c .before .before .before .before .before .before .before .before .before .before .before .before .args .text .now) (c .before .before .before .before .before .before .before .before .before .before .before .before .args .p) (c .before .before .before .before .before .before .before .before .before .before .before .before .pre) (seen consonant (c .before .before .before .before .before .before .before .before .before .before .at .ensures) (c .before .before .before .before .before .before .before .is-consonant .ensures) (not-false _ (c .before .before .before .before .before .before .if2 .left))) (sym (c .before .before .before .before .before .at2 .ensures) ∙ c .before .before .before .before .if3 .taken) (seen consonant (c .before .before .before .at3 .ensures) (c .before .before .is-consonant2 .ensures) (c .before .if4 .taken))
+returns-3 c =
+    let c2 = c .before .before in
+    let c3 = c2 .before in
+    let c4 = c3 .before in
+    let c5 = c4 .before in
+    let c6 = c5 .before in
+    let c7 = c6 .before in
+    let c10 = c7 .before .before .before in
+    let c12 = c10 .before .before in
+    c .group-k .ensures ∙ i-mark (c12 .args .text .now) (c12 .args .p) (c12 .pre)
+    (seen consonant (c10 .at .ensures) (c7 .is-consonant .ensures) (not-false _ (c6 .if2 .left)))
+    (sym (c5 .at2 .ensures) ∙ c4 .if3 .taken)
+    (seen consonant (c3 .at3 .ensures) (c2 .is-consonant2 .ensures) (c .before .if4 .taken))
 
 add-result-2 : tie.Need-add-result-2
 add-result-2 c = omega (arith, c .before .before .before .before .before .before .before .before .before .before .before .pre .0)
 
 returns-4 : tie.Need-returns-4
-returns-4 c = i-mark-no (c .before .before .before .before .before .before .before .before .before .before .before .args .text .now) (c .before .before .before .before .before .before .before .before .before .before .before .args .p) (c .before .before .before .before .before .before .before .before .before .before .before .pre) (seen consonant (c .before .before .before .before .before .before .before .before .before .at .ensures) (c .before .before .before .before .before .before .is-consonant .ensures) (not-false _ (c .before .before .before .before .before .if2 .left))) (sym (c .before .before .before .before .at2 .ensures) ∙ c .before .before .before .if3 .taken) (seen consonant (c .before .before .at3 .ensures) (c .before .is-consonant2 .ensures) (c .if4 .left))
+returns-4 c =
+    let c2 = c .before .before in
+    let c3 = c2 .before in
+    let c4 = c3 .before in
+    let c5 = c4 .before in
+    let c6 = c5 .before in
+    let c9 = c6 .before .before .before in
+    let c11 = c9 .before .before in
+    i-mark-no (c11 .args .text .now) (c11 .args .p) (c11 .pre)
+    (seen consonant (c9 .at .ensures) (c6 .is-consonant .ensures) (not-false _ (c5 .if2 .left)))
+    (sym (c4 .at2 .ensures) ∙ c3 .if3 .taken)
+    (seen consonant (c2 .at3 .ensures) (c .before .is-consonant2 .ensures) (c .if4 .left))
 
 add-shorter-k : tie.Need-add-shorter-k
 add-shorter-k c = omega (arith, c .before .before .before .before .before .before .before .before .before .pre .0)
@@ -70,7 +115,13 @@ shorter-k-requires : tie.Need-shorter-k-requires
 shorter-k-requires c κs = search needs
 
 returns-5 : tie.Need-returns-5
-returns-5 c = c .shorter-k .ensures ∙ i-yo (c .before .before .before .before .before .before .before .before .before .before .args .text .now) (c .before .before .before .before .before .before .before .before .before .before .args .p) (c .before .before .before .before .before .before .before .before .before .before .pre) (sym (c .before .before .before .before .before .before .before .before .at .ensures) ∙ c .before .if5 .taken) (unlike 0xE4C (c .before .before .before .at2 .ensures) (c .before .before .if3 .left))
+returns-5 c =
+    let c2 = c .before .before in
+    let c3 = c2 .before in
+    let c8 = c3 .before .before .before .before .before in
+    let c10 = c8 .before .before in
+    c .shorter-k .ensures ∙ i-yo (c10 .args .text .now) (c10 .args .p) (c10 .pre)
+    (sym (c8 .at .ensures) ∙ c .before .if5 .taken) (unlike 0xE4C (c3 .at2 .ensures) (c2 .if3 .left))
 
 add-group-k-2 : tie.Need-add-group-k-2
 add-group-k-2 c = omega (arith, c .before .before .before .before .before .before .before .before .before .pre .0)
@@ -79,7 +130,16 @@ group-k-requires-2 : tie.Need-group-k-requires-2
 group-k-requires-2 c κs = search needs
 
 returns-6 : tie.Need-returns-6
-returns-6 c = c .group-k2 .ensures ∙ i-plain (c .before .before .before .before .before .before .before .before .before .before .args .text .now) (c .before .before .before .before .before .before .before .before .before .before .args .p) (c .before .before .before .before .before .before .before .before .before .before .pre) (seen consonant (c .before .before .before .before .before .before .before .before .at .ensures) (c .before .before .before .before .before .is-consonant .ensures) (not-false _ (c .before .before .before .before .if2 .left))) (unlike 0xE22 (c .before .before .before .before .before .before .before .before .at .ensures) (c .before .if5 .left)) (unlike 0xE4C (c .before .before .before .at2 .ensures) (c .before .before .if3 .left))
+returns-6 c =
+    let c2 = c .before .before in
+    let c3 = c2 .before in
+    let c4 = c3 .before in
+    let c5 = c4 .before in
+    let c8 = c5 .before .before .before in
+    let c10 = c8 .before .before in
+    c .group-k2 .ensures ∙ i-plain (c10 .args .text .now) (c10 .args .p) (c10 .pre)
+    (seen consonant (c8 .at .ensures) (c5 .is-consonant .ensures) (not-false _ (c4 .if2 .left)))
+    (unlike 0xE22 (c8 .at .ensures) (c .before .if5 .left)) (unlike 0xE4C (c3 .at2 .ensures) (c2 .if3 .left))
 
 pub from-e-i-spec : {M : Type 1} → statement M
 from-e-i-spec =

@@ -24,13 +24,22 @@ group-k-requires : tie.Need-group-k-requires
 group-k-requires c κs = search needs
 
 returns : tie.Need-returns
-returns c = c .group-k .ensures ∙ e-short-yes (c .before .before .before .before .before .args .text .now) (c .before .before .before .before .before .args .p) (c .before .before .before .before .before .pre) (seen consonant (c .before .before .before .at .ensures) (c .before .before .is-consonant .ensures) (c .before .if1 .taken))
+returns c =
+    let c2 = c .before .before in
+    let c3 = c2 .before in
+    let c5 = c3 .before .before in
+    c .group-k .ensures ∙ e-short-yes (c5 .args .text .now) (c5 .args .p) (c5 .pre)
+    (seen consonant (c3 .at .ensures) (c2 .is-consonant .ensures) (c .before .if1 .taken))
 
 add-result : tie.Need-add-result
 add-result c = omega (arith, c .before .before .before .before .pre .0)
 
 returns-2 : tie.Need-returns-2
-returns-2 c = e-short-no (c .before .before .before .before .args .text .now) (c .before .before .before .before .args .p) (c .before .before .before .before .pre) (seen consonant (c .before .before .at .ensures) (c .before .is-consonant .ensures) (c .if1 .left))
+returns-2 c =
+    let c2 = c .before .before in
+    let c4 = c2 .before .before in
+    e-short-no (c4 .args .text .now) (c4 .args .p) (c4 .pre)
+    (seen consonant (c2 .at .ensures) (c .before .is-consonant .ensures) (c .if1 .left))
 
 pub from-e-short-spec : {M : Type 1} → statement M
 from-e-short-spec =

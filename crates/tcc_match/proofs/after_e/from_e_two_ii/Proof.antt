@@ -16,9 +16,6 @@ add-skip-tone c = omega (arith, c .before .pre .0)
 skip-tone-requires : tie.Need-skip-tone-requires
 skip-tone-requires c κs = search needs
 
-add-open : tie.Need-add-open
-add-open c = omega (arith, c .before .before .pre .0)
-
 at-requires : tie.Need-at-requires
 at-requires c κs = search needs
 
@@ -26,25 +23,51 @@ add-result : tie.Need-add-result
 add-result c = omega (arith, c .before .before .before .before .pre .0)
 
 returns : tie.Need-returns
-returns c = e-two-ii-no (c .before .before .before .before .args .text .now) (c .before .before .before .before .args .p) (c .before .before .before .before .pre) _ (c .before .before .skip-tone .ensures) (unlike 0xE22 (c .before .at .ensures) (c .if1 .taken))
+returns c =
+    let c2 = c .before .before in
+    let c4 = c2 .before .before in
+    e-two-ii-no (c4 .args .text .now) (c4 .args .p) (c4 .pre) _ (c2 .skip-tone .ensures)
+    (unlike 0xE22 (c .before .at .ensures) (c .if1 .taken))
 
 add-at : tie.Need-add-at
-add-at c = omega (arith, c .before .before .before .before .pre .0, c .before .before .skip-tone .ensures, skip-near tone (c .before .before .before .before .args .text .now) (c .before .before .before .before .args .p + 4))
+add-at c =
+    let c2 = c .before .before in
+    let c4 = c2 .before .before in
+    omega (arith, c4 .pre .0, c2 .skip-tone .ensures, skip-near tone (c4 .args .text .now) (c4 .args .p + 4))
 
 at-requires-2 : tie.Need-at-requires-2
 at-requires-2 c κs = search needs
 
 add-group-k : tie.Need-add-group-k
-add-group-k c = omega (arith, c .before .before .before .before .before .before .pre .0, c .before .before .before .before .skip-tone .ensures, skip-near tone (c .before .before .before .before .before .before .args .text .now) (c .before .before .before .before .before .before .args .p + 4))
+add-group-k c =
+    let c4 = c .before .before .before .before in
+    let c6 = c4 .before .before in
+    omega (arith, c6 .pre .0, c4 .skip-tone .ensures, skip-near tone (c6 .args .text .now) (c6 .args .p + 4))
 
 group-k-requires : tie.Need-group-k-requires
 group-k-requires c κs = search needs
 
 returns-2 : tie.Need-returns-2
-returns-2 c = c .group-k .ensures ∙ e-two-ii (c .before .before .before .before .before .before .before .args .text .now) (c .before .before .before .before .before .before .before .args .p) (c .before .before .before .before .before .before .before .pre) _ (c .before .before .before .before .before .skip-tone .ensures) (sym (c .before .before .before .before .at .ensures) ∙ c .before .before .before .if1 .left) (sym (c .before .before .at2 .ensures) ∙ c .before .if2 .taken)
+returns-2 c =
+    let c2 = c .before .before in
+    let c3 = c2 .before in
+    let c4 = c3 .before in
+    let c5 = c4 .before in
+    let c7 = c5 .before .before in
+    c .group-k .ensures ∙ e-two-ii (c7 .args .text .now) (c7 .args .p) (c7 .pre) _ (c5 .skip-tone .ensures)
+    (sym (c4 .at .ensures) ∙ c3 .if1 .left) (sym (c2 .at2 .ensures) ∙ c .before .if2 .taken)
+
+add-result-2 : tie.Need-add-result-2
+add-result-2 c = omega (arith, c .before .before .before .before .before .before .pre .0)
 
 returns-3 : tie.Need-returns-3
-returns-3 c = e-two-ii-yo (c .before .before .before .before .before .before .args .text .now) (c .before .before .before .before .before .before .args .p) (c .before .before .before .before .before .before .pre) _ (c .before .before .before .before .skip-tone .ensures) (sym (c .before .before .before .at .ensures) ∙ c .before .before .if1 .left) (unlike 0xE30 (c .before .at2 .ensures) (c .if2 .left))
+returns-3 c =
+    let c2 = c .before .before in
+    let c3 = c2 .before in
+    let c4 = c3 .before in
+    let c6 = c4 .before .before in
+    e-two-ii-yo (c6 .args .text .now) (c6 .args .p) (c6 .pre) _ (c4 .skip-tone .ensures)
+    (sym (c3 .at .ensures) ∙ c2 .if1 .left) (unlike 0xE30 (c .before .at2 .ensures) (c .if2 .left))
 
 pub from-e-two-ii-spec : {M : Type 1} → statement M
 from-e-two-ii-spec =
@@ -52,7 +75,6 @@ from-e-two-ii-spec =
     (tie.spec
     add-skip-tone
     skip-tone-requires
-    add-open
     at-requires
     add-result
     returns
@@ -61,4 +83,5 @@ from-e-two-ii-spec =
     add-group-k
     group-k-requires
     returns-2
+    add-result-2
     returns-3)

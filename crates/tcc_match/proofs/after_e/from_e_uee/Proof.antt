@@ -23,10 +23,17 @@ add-result : tie.Need-add-result
 add-result c = omega (arith, c .before .before .before .before .pre .0)
 
 returns : tie.Need-returns
-returns c = uee-no (c .before .before .before .before .args .text .now) (c .before .before .before .before .args .p) (c .before .before .before .before .pre) _ (c .before .before .skip-tone .ensures) (unlike 0xE2D (c .before .at .ensures) (c .if1 .taken))
+returns c =
+    let c2 = c .before .before in
+    let c4 = c2 .before .before in
+    uee-no (c4 .args .text .now) (c4 .args .p) (c4 .pre) _ (c2 .skip-tone .ensures)
+    (unlike 0xE2D (c .before .at .ensures) (c .if1 .taken))
 
 add-skip-sara-a : tie.Need-add-skip-sara-a
-add-skip-sara-a c = omega (arith, c .before .before .before .before .pre .0, c .before .before .skip-tone .ensures, skip-near tone (c .before .before .before .before .args .text .now) (c .before .before .before .before .args .p + 3))
+add-skip-sara-a c =
+    let c2 = c .before .before in
+    let c4 = c2 .before .before in
+    omega (arith, c4 .pre .0, c2 .skip-tone .ensures, skip-near tone (c4 .args .text .now) (c4 .args .p + 3))
 
 skip-sara-a-requires : tie.Need-skip-sara-a-requires
 skip-sara-a-requires c κs = search needs
@@ -35,7 +42,13 @@ group-k-requires : tie.Need-group-k-requires
 group-k-requires c κs = search needs
 
 returns-2 : tie.Need-returns-2
-returns-2 c = c .group-k .ensures ∙ uee-yes (c .before .before .before .before .before .before .args .text .now) (c .before .before .before .before .before .before .args .p) (c .before .before .before .before .before .before .pre) _ (c .before .before .before .before .skip-tone .ensures) (sym (c .before .before .before .at .ensures) ∙ c .before .before .if1 .left) (c .before .skip-sara-a .ensures)
+returns-2 c =
+    let c2 = c .before .before in
+    let c3 = c2 .before in
+    let c4 = c3 .before in
+    let c6 = c4 .before .before in
+    c .group-k .ensures ∙ uee-yes (c6 .args .text .now) (c6 .args .p) (c6 .pre) _ (c4 .skip-tone .ensures)
+    (sym (c3 .at .ensures) ∙ c2 .if1 .left) (c .before .skip-sara-a .ensures)
 
 pub from-e-uee-spec : {M : Type 1} → statement M
 from-e-uee-spec =

@@ -20,13 +20,21 @@ add-result : tie.Need-add-result
 add-result c = omega (arith, c .before .before .before .before .pre .0)
 
 returns : tie.Need-returns
-returns c = ae-short-yes (c .before .before .before .before .args .text .now) (c .before .before .before .before .args .p) (c .before .before .before .before .pre) (seen consonant (c .before .before .at .ensures) (c .before .is-consonant .ensures) (c .if1 .taken))
+returns c =
+    let c2 = c .before .before in
+    let c4 = c2 .before .before in
+    ae-short-yes (c4 .args .text .now) (c4 .args .p) (c4 .pre)
+    (seen consonant (c2 .at .ensures) (c .before .is-consonant .ensures) (c .if1 .taken))
 
 add-result-2 : tie.Need-add-result-2
 add-result-2 c = omega (arith, c .before .before .before .before .pre .0)
 
 returns-2 : tie.Need-returns-2
-returns-2 c = ae-short-no (c .before .before .before .before .args .text .now) (c .before .before .before .before .args .p) (c .before .before .before .before .pre) (seen consonant (c .before .before .at .ensures) (c .before .is-consonant .ensures) (c .if1 .left))
+returns-2 c =
+    let c2 = c .before .before in
+    let c4 = c2 .before .before in
+    ae-short-no (c4 .args .text .now) (c4 .args .p) (c4 .pre)
+    (seen consonant (c2 .at .ensures) (c .before .is-consonant .ensures) (c .if1 .left))
 
 pub from-ae-short-spec : {M : Type 1} → statement M
 from-ae-short-spec =

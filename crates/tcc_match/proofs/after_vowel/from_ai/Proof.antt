@@ -21,7 +21,11 @@ add-result : tie.Need-add-result
 add-result c = omega (arith, c .before .before .before .before .pre .0)
 
 returns : tie.Need-returns
-returns c = ai-alone (c .before .before .before .before .args .text .now) (c .before .before .before .before .args .p) (c .before .before .before .before .pre) (seen consonant (c .before .before .at .ensures) (c .before .is-consonant .ensures) (not-true _ (c .if1 .taken)))
+returns c =
+    let c2 = c .before .before in
+    let c4 = c2 .before .before in
+    ai-alone (c4 .args .text .now) (c4 .args .p) (c4 .pre)
+    (seen consonant (c2 .at .ensures) (c .before .is-consonant .ensures) (not-true _ (c .if1 .taken)))
 
 add-skip-tone : tie.Need-add-skip-tone
 add-skip-tone c = omega (arith, c .before .before .before .before .pre .0)
@@ -30,7 +34,13 @@ skip-tone-requires : tie.Need-skip-tone-requires
 skip-tone-requires c κs = search needs
 
 returns-2 : tie.Need-returns-2
-returns-2 c = ai-open (c .before .before .before .before .before .args .text .now) (c .before .before .before .before .before .args .p) (c .before .before .before .before .before .pre) (seen consonant (c .before .before .before .at .ensures) (c .before .before .is-consonant .ensures) (not-false _ (c .before .if1 .left))) (c .skip-tone .ensures)
+returns-2 c =
+    let c2 = c .before .before in
+    let c3 = c2 .before in
+    let c5 = c3 .before .before in
+    ai-open (c5 .args .text .now) (c5 .args .p) (c5 .pre)
+    (seen consonant (c3 .at .ensures) (c2 .is-consonant .ensures) (not-false _ (c .before .if1 .left)))
+    (c .skip-tone .ensures)
 
 pub from-ai-spec : {M : Type 1} → statement M
 from-ai-spec =

@@ -21,7 +21,11 @@ add-result : tie.Need-add-result
 add-result c = omega (arith, c .before .before .before .before .pre .0)
 
 returns : tie.Need-returns
-returns c = o-alone (c .before .before .before .before .args .text .now) (c .before .before .before .before .args .p) (c .before .before .before .before .pre) (seen consonant (c .before .before .at .ensures) (c .before .is-consonant .ensures) (not-true _ (c .if1 .taken)))
+returns c =
+    let c2 = c .before .before in
+    let c4 = c2 .before .before in
+    o-alone (c4 .args .text .now) (c4 .args .p) (c4 .pre)
+    (seen consonant (c2 .at .ensures) (c .before .is-consonant .ensures) (not-true _ (c .if1 .taken)))
 
 add-skip-tone : tie.Need-add-skip-tone
 add-skip-tone c = omega (arith, c .before .before .before .before .pre .0)
@@ -33,7 +37,14 @@ skip-sara-a-requires : tie.Need-skip-sara-a-requires
 skip-sara-a-requires c κs = search needs
 
 returns-2 : tie.Need-returns-2
-returns-2 c = o-open (c .before .before .before .before .before .before .args .text .now) (c .before .before .before .before .before .before .args .p) (c .before .before .before .before .before .before .pre) (seen consonant (c .before .before .before .before .at .ensures) (c .before .before .before .is-consonant .ensures) (not-false _ (c .before .before .if1 .left))) (c .before .skip-tone .ensures) (c .skip-sara-a .ensures)
+returns-2 c =
+    let c2 = c .before .before in
+    let c3 = c2 .before in
+    let c4 = c3 .before in
+    let c6 = c4 .before .before in
+    o-open (c6 .args .text .now) (c6 .args .p) (c6 .pre)
+    (seen consonant (c4 .at .ensures) (c3 .is-consonant .ensures) (not-false _ (c2 .if1 .left)))
+    (c .before .skip-tone .ensures) (c .skip-sara-a .ensures)
 
 pub from-o-spec : {M : Type 1} → statement M
 from-o-spec =

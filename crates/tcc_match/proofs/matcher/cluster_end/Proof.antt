@@ -16,7 +16,9 @@ is-consonant-requires : tie.Need-is-consonant-requires
 is-consonant-requires c κs = search needs
 
 from-consonant-requires : tie.Need-from-consonant-requires
-from-consonant-requires c κs = (c .before .before .before .before .pre, (((sym (c .before .is-consonant .ensures) ∙ c .if1 .taken), refl), tt))
+from-consonant-requires c κs =
+    let c4 = c .before .before .before .before in
+    (c4 .pre, (((sym (c .before .is-consonant .ensures) ∙ c .if1 .taken), refl), tt))
 
 returns : tie.Need-returns
 returns c = c .from-consonant .ensures
@@ -43,7 +45,9 @@ is-sara-ai-requires : tie.Need-is-sara-ai-requires
 is-sara-ai-requires c κs = search needs
 
 from-ai-requires : tie.Need-from-ai-requires
-from-ai-requires c κs = (c .before .before .before .before .before .before .before .before .before .pre, (((sym (c .before .is-sara-ai .ensures) ∙ c .if5 .taken), refl), tt))
+from-ai-requires c κs =
+    let c9 = c .before .before .before .before .before .before .before .before .before in
+    (c9 .pre, (((sym (c .before .is-sara-ai .ensures) ∙ c .if5 .taken), refl), tt))
 
 returns-5 : tie.Need-returns-5
 returns-5 c = c .from-ai .ensures
@@ -52,7 +56,15 @@ add-result : tie.Need-add-result
 add-result c = omega (arith, c .before .before .before .before .before .before .before .before .before .pre)
 
 returns-6 : tie.Need-returns-6
-returns-6 c = alone (c .before .before .before .before .before .before .before .before .before .args .text .now) (c .before .before .before .before .before .before .before .before .before .args .p) (c .before .before .before .before .before .before .before .before .before .pre) (sym (c .before .before .before .before .before .before .is-consonant .ensures) ∙ c .before .before .before .before .before .if1 .left) (c .before .before .before .before .if2 .left) (c .before .before .before .if3 .left) (c .before .before .if4 .left) (sym (c .before .is-sara-ai .ensures) ∙ c .if5 .left)
+returns-6 c =
+    let c2 = c .before .before in
+    let c3 = c2 .before in
+    let c4 = c3 .before in
+    let c5 = c4 .before in
+    let c6 = c5 .before in
+    let c9 = c6 .before .before .before in
+    alone (c9 .args .text .now) (c9 .args .p) (c9 .pre) (sym (c6 .is-consonant .ensures) ∙ c5 .if1 .left)
+    (c4 .if2 .left) (c3 .if3 .left) (c2 .if4 .left) (sym (c .before .is-sara-ai .ensures) ∙ c .if5 .left)
 
 pub cluster-end-spec : {M : Type 1} → statement M
 cluster-end-spec =

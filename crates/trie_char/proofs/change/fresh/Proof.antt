@@ -1,7 +1,7 @@
 -- Assumes nothing.
 use mathlib.Core.Path.{refl, sym, _∙_}
 use native.Mathlib.Omega.{arith}
-use Rattle.pool_lent.proofs.Parts.{long}
+use Rattle.trie_check.proofs.Parts.{long}
 use Rattle.trie_char.proofs.Freshness.{fresh-short, fresh-done}
 use borrow.Author.Needs.{needs}
 use Rattle.trie_char.proofs.change.fresh.Statement.{statement}
@@ -23,13 +23,28 @@ slice-aggregate-reset : tie.Need-slice-aggregate-reset
 slice-aggregate-reset c = sym (long (c .before .before .before .before .args .pool .now) _ (c .before .capacity .ensures))
 
 reset-requires : tie.Need-reset-requires
-reset-requires c κs = omega (arith, long (c .before .before .before .before .args .pool .now) _ (c .before .capacity .ensures), c .before .capacity .ensures, c .before .before .if1 .left)
+reset-requires c κs =
+    let c2 = c .before .before in
+    let c4 = c2 .before .before in
+    omega (
+      arith,
+      long (c4 .args .pool .now) _
+          (c .before .capacity .ensures),
+      c .before .capacity .ensures,
+      c2 .if1 .left,
+    )
 
 same-length : tie.Need-same-length
 same-length c = search needs
 
 returns-2 : tie.Need-returns-2
-returns-2 c = fresh-done (c .before .before .before .before .before .before .before .args .pool .now) _ (c .before .before .before .before .capacity .ensures) (c .before .before .before .before .before .if1 .left) _ (c .before .before .reset .kept .0 ∙ long (c .before .before .before .before .before .before .before .args .pool .now) _ (c .before .before .before .before .capacity .ensures)) (c .before .before .reset .ensures)
+returns-2 c =
+    let c2 = c .before .before in
+    let c4 = c2 .before .before in
+    let c5 = c4 .before in
+    let c7 = c5 .before .before in
+    fresh-done (c7 .args .pool .now) _ (c4 .capacity .ensures) (c5 .if1 .left) _
+    (c2 .reset .kept .0 ∙ long (c7 .args .pool .now) _ (c4 .capacity .ensures)) (c2 .reset .ensures)
 
 pub fresh-spec : {M : Type 1} → statement M
 fresh-spec =

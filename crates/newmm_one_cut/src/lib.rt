@@ -1,0 +1,126 @@
+// Plain cutting, after newmm.rs: the loop over candidates.
+use cells::clear_from;
+use cells::narrow;
+use newmm_bfs::CANDIDATES;
+use newmm_bfs::CLUSTER_ENDS;
+use newmm_bfs::EDGE_ENDS;
+use newmm_bfs::STRIPS;
+use newmm_bfs::bfs_paths_graph;
+use newmm_edges::Progress;
+use newmm_edges::record_words;
+use newmm_rules::MAX_GRAPH_SIZE;
+use newmm_skip::token_end;
+use tcc::tcc_flags;
+ghost use mathlib.Core.Path.{_≡_};
+ghost use Prim.Native.Nat.{_<_};
+ghost use lib.ListN.{set};
+ghost use Rattle.newmm_rules.specs.NonDictionary.{tokenEnd};
+ghost use Rattle.newmm_bfs.specs.inner.Strips.{Sized, candidateCell};
+ghost use Rattle.newmm_word_step.specs.inner.Walks.{givenBy};
+ghost use Rattle.newmm_one_cut.specs.inner.Strips.{NextIs, TokenAt, Fresh, Lent, Done};
+
+// The number of ends, and the number of edges recorded in the whole call.
+pub struct Ends {
+    pub ends: usize,
+    pub edges: usize,
+}
+
+// The first candidate above b, or m where there is none.
+fn next_candidate(row: &[u32], m: usize, b: usize) -> usize
+    requires { ⌜ Sized (now row) m ⌝ }
+    requires { ⌜ b < m ⌝ }
+    ensures { λ r. ⌜ NextIs (now (row .entry)) m b r ⌝ }
+{
+    let mut c = b + 1;
+    while c < m {
+        if row[CANDIDATES * m + c] != 0 {
+            return c;
+        }
+        c += 1;
+    }
+    c
+}
+
+// One token from b, by the non-dictionary rule: its end becomes an end and a candidate.
+fn put_token(text: &[u32], pool: &[u32], row: &mut [u32], m: usize, b: usize, ends: usize) -> usize
+    requires { ⌜ TokenAt (now text) (now pool) (now row) m b ends ⌝ }
+    ensures { λ r. ⌜ r ≡ tokenEnd (givenBy (now (text .entry)) (now (pool .entry))) b ⌝ }
+    ensures { λ r. ⌜ now (row .exit) ≡ set (set (now (row .entry)) (candidateCell m r) 1) ends r ⌝ }
+{
+    let flags = CLUSTER_ENDS * m;
+    let flags_end = EDGE_ENDS * m;
+    let e = token_end(text, pool, &row[flags..flags_end], b);
+    row[CANDIDATES * m + e] = 1;
+    row[ends] = narrow(e);
+    e
+}
+
+// The cut, in a row of just the cells that it takes.
+fn cut_strips(text: &[u32], pool: &[u32], row: &mut [u32]) -> Ends
+    requires { ⌜ Fresh (now text) (now pool) (now row) ⌝ }
+    ensures { λ r. ⌜ Done (givenBy (now (text .entry)) (now (pool .entry))) (now (row .entry)) (now (row .exit)) r ⌝ }
+{
+    let n = text.len();
+    let m = n + 1;
+    let flags = CLUSTER_ENDS * m;
+    let flags_end = EDGE_ENDS * m;
+    tcc_flags(text, &mut row[flags..flags_end]);
+    row[CANDIDATES * m] = 1;
+    let mut b = 0;
+    let mut committed = 0;
+    let mut ends = 0;
+    let mut p = Progress {
+        edges: 0,
+        left: 0,
+        total: 0,
+    };
+    while b < n {
+        let q = record_words(text, pool, row, m, b, p);
+        let left = q.left;
+        let edges = q.edges;
+        let total = q.total;
+        if left == 0 {
+            b = put_token(text, pool, row, m, b, ends);
+            committed = b;
+            ends += 1;
+            p = Progress {
+                edges: 0,
+                left: 0,
+                total,
+            };
+            continue;
+        }
+        b = next_candidate(row, m, b);
+        if left == 1 {
+            ends = bfs_paths_graph(row, m, committed, b, ends);
+            committed = b;
+            p = Progress {
+                edges: 0,
+                left: 0,
+                total,
+            };
+            continue;
+        }
+        p = Progress {
+            edges,
+            left: left - 1,
+            total,
+        };
+    }
+    clear_from(row, ends);
+    Ends {
+        ends,
+        edges: p.total,
+    }
+}
+
+// The plain cut of a text: its ends stand at the front of the row then, and the rest of it is as it
+// was. The cells that its strips take are 0; 9n + 128 cells are always enough.
+pub fn one_cut(text: &[u32], pool: &[u32], row: &mut [u32]) -> Ends
+    requires { ⌜ Lent (now text) (now pool) (now row) ⌝ }
+    ensures { λ r. ⌜ Done (givenBy (now (text .entry)) (now (pool .entry))) (now (row .entry)) (now (row .exit)) r ⌝ }
+{
+    let m = text.len() + 1;
+    let cells = STRIPS * m + MAX_GRAPH_SIZE;
+    cut_strips(text, pool, &mut row[..cells])
+}

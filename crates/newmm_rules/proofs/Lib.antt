@@ -1,0 +1,15 @@
+pub mod Positions
+pub mod Counting
+pub mod Spans
+pub mod Lengths
+pub mod Search
+pub mod Edges
+pub mod Tokens
+pub mod Recording
+pub mod Turns
+pub mod Result
+pub mod SameWords
+pub mod Climbing
+pub mod Samples
+pub mod Parts
+pub mod Modes

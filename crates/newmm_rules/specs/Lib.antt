@@ -1,0 +1,14 @@
+-- In 01's order: rows of positions, words, the steps of plain cutting, the search of step 2, the
+-- non-dictionary rule of step 3, tokens, safe mode. Before them the numbers.
+pub mod Limits
+pub mod Positions
+pub mod Words
+pub mod Cutting
+pub mod Search
+pub mod NonThai
+pub mod NonDictionary
+pub mod Tokens
+pub mod Longest
+pub mod Parts
+pub mod Modes
+pub mod inner

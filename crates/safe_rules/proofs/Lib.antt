@@ -1,4 +1,0 @@
-pub mod Climbing
-pub mod Samples
-pub mod Parts
-pub mod Modes

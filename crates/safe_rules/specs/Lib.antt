@@ -1,4 +1,0 @@
-pub mod Climbing
-pub mod Longest
-pub mod Parts
-pub mod Modes

@@ -1,0 +1,178 @@
+// Replays the test vectors of the cut: a line with the answer for each line of standard input.
+//
+// Output and scratch are lent full of leftovers. Where a call leaves a cell otherwise than document
+// 01 says, a `?` is written.
+use newmm::cut;
+use newmm_answers::CutAnswer;
+use newmm_answers::scratch_for;
+use newmm_rules::Mode;
+use test_lines::behind;
+use test_lines::field;
+use test_lines::first;
+use test_lines::is;
+use test_lines::lent;
+use test_lines::part_at;
+use test_lines::print;
+use test_lines::print_number;
+use test_lines::print_numbers;
+use test_lines::print_refusal;
+use test_lines::read_cells;
+use test_lines::read_input;
+use test_words::hold;
+ghost use Prim.Native.Nat.{_≤_};
+
+const INPUT: usize = 589824;
+
+// Words with a node for each of their characters.
+const POOL: usize = 262144;
+
+// More than the longest text that is accepted.
+const TEXT: usize = 70000;
+
+const SCRATCH: usize = 589952;
+
+fn main() {
+    let mut input = [0u8; INPUT];
+    let mut pool = [0u32; POOL];
+    let mut text = [0u32; TEXT];
+    let mut out = [0u32; TEXT];
+    let mut scratch = [0u32; SCRATCH];
+    let n = read_input(&mut input);
+    replay(&input[..n], &mut pool, &mut text, &mut out, &mut scratch);
+}
+
+fn replay(input: &[u8], pool: &mut [u32], text: &mut [u32], out: &mut [u32], scratch: &mut [u32]) {
+    let mut at = 0;
+    while at < input.len() {
+        answer(part_at(input, at, b'\n'), pool, text, out, scratch);
+        print(b"\n");
+        at = behind(input, at, b'\n');
+    }
+}
+
+fn answer(line: &[u8], pool: &mut [u32], text: &mut [u32], out: &mut [u32], scratch: &mut [u32]) {
+    let op = field(line, 0);
+    if is(op, b"cut") {
+        let cells = hold(field(line, 2), text, pool);
+        lend(line, first(pool, cells), text, out, scratch);
+        return;
+    }
+    if is(op, b"cut_pool") {
+        let cells = read_cells(field(line, 2), pool);
+        lend(line, first(pool, cells), text, out, scratch);
+        return;
+    }
+    print(b"?");
+}
+
+// cut mode, words, scalars, scratch cells, out cells => ok ends edges
+// cut_pool mode, the pool's cells, scalars, scratch cells, out cells => ok ends edges
+fn lend(line: &[u8], pool: &[u32], text: &mut [u32], out: &mut [u32], scratch: &mut [u32]) {
+    let n = read_cells(field(line, 3), text);
+    let cells = scratch_cells(field(line, 4), n, scratch.len());
+    let room = lent(field(line, 5), out.len());
+    let mode = field(line, 1);
+    if is(mode, b"plain") {
+        call(
+            first(text, n),
+            pool,
+            &mut out[0..room],
+            &mut scratch[0..cells],
+            Mode::Plain,
+        );
+        return;
+    }
+    if is(mode, b"safe") {
+        call(
+            first(text, n),
+            pool,
+            &mut out[0..room],
+            &mut scratch[0..cells],
+            Mode::Safe,
+        );
+        return;
+    }
+    print(b"?");
+}
+
+// As many scratch cells as a text of n characters needs for `*`, at most `most`.
+fn scratch_cells(text: &[u8], n: usize, most: usize) -> usize
+    ensures { λ r. ⌜ r ≤ most ⌝ }
+{
+    if is(text, b"*") {
+        if n <= 65536 {
+            let needed = scratch_for(n);
+            if needed < most {
+                return needed;
+            }
+        }
+        return most;
+    }
+    lent(text, most)
+}
+
+fn call(text: &[u32], pool: &[u32], out: &mut [u32], scratch: &mut [u32], mode: Mode) {
+    smear(out);
+    smear(scratch);
+    let answer = cut(text, pool, out, scratch, mode);
+    match answer {
+        CutAnswer::Ends(n, edges) => {
+            expect_zero(scratch);
+            expect_leftovers(out, n);
+            print(b"ok ");
+            print_numbers(first(out, n), b',');
+            print(b" ");
+            print_number(edges);
+        }
+        CutAnswer::Refused(r) => {
+            let number = refusal::number(r);
+            if number == 6 {
+                expect_zero(scratch);
+            } else {
+                expect_leftovers(scratch, 0);
+            }
+            expect_leftovers(out, 0);
+            print_refusal(r);
+        }
+    }
+}
+
+// What an earlier call may have left: positions, and cells that are no position.
+fn leftover(k: usize) -> u32 {
+    if k % 2 == 0 {
+        return 4294967295;
+    }
+    3
+}
+
+fn smear(row: &mut [u32]) {
+    let mut k = 0;
+    while k < row.len() {
+        row[k] = leftover(k);
+        k += 1;
+    }
+}
+
+// Writes a `?` where a cell from `start` on isn't what `smear` put there.
+fn expect_leftovers(row: &[u32], start: usize) {
+    let mut k = start;
+    while k < row.len() {
+        if row[k] != leftover(k) {
+            print(b"?");
+            return;
+        }
+        k += 1;
+    }
+}
+
+// Writes a `?` where a cell isn't zero.
+fn expect_zero(row: &[u32]) {
+    let mut k = 0;
+    while k < row.len() {
+        if row[k] != 0 {
+            print(b"?");
+            return;
+        }
+        k += 1;
+    }
+}

@@ -1,0 +1,10 @@
+pub mod Reaching
+pub mod Dictionary
+pub mod Demand3
+pub mod Ends
+pub mod Search
+pub mod Safe
+pub mod Cases
+pub mod Grown
+pub mod Orders
+pub mod Counts

@@ -1,0 +1,86 @@
+-- 01, "The lowest number that applies to an operation is given": the numbers of each operation's
+-- causes, in order. Which of them is given, and that none is exactly if the call is accepted:
+-- crates/refusal/proofs/Firsts.antt (`first-that-holds`, `accepted-exactly-if-none`). Assumes
+-- nothing.
+use Prim.Native.Nat.{ℕ}
+use native.Mathlib.Omega.{arith}
+use mathlib.Core.Path.{_≡_, refl}
+use mathlib.Core.List.{List, [], _∷_}
+use Rattle.refusal.specs.Answers.{numbers}
+use Rattle.refusal.specs.Firsts.{Rising}
+use Rattle.utf8.specs.Decoding.{decodeCauses}
+use Rattle.utf8.proofs.Decoded.{decoding}
+use Rattle.tcc.specs.Answers.{clusterCauses}
+use Rattle.tcc.proofs.Deciding.{order}
+use Rattle.trie_pool.specs.Meaning.{meaning}
+use Rattle.trie_check.specs.Refusals.{poolCauses, readCauses}
+use Rattle.trie_char.specs.Refusals.{prefixCauses, removeCauses, addCauses, freshCauses}
+use Rattle.newmm_rules.specs.declared.Mode.{Mode}
+use Rattle.newmm_answers.specs.Answers.{cutCauses}
+
+-- Decoding: 1, 2, 6.
+pub decode-order : (bytes : List ℕ) (room : ℕ) → numbers (decodeCauses bytes room) ≡ 1 ∷ 2 ∷ 6 ∷ []
+decode-order bytes room = decoding bytes room
+
+-- Clusters: 2, 3, 6.
+pub clusters-order : (text : List ℕ) (room : ℕ) → numbers (clusterCauses text room) ≡ 2 ∷ 3 ∷ 6 ∷ []
+clusters-order text room = order text room
+
+-- Prefix lengths: 2, 3, 4, 6.
+pub prefix-order : (text pool out : List ℕ) → numbers (prefixCauses text (meaning pool) out) ≡ 2 ∷ 3 ∷ 4 ∷ 6 ∷ []
+prefix-order text pool out = refl
+
+-- Cutting: 2, 3, 4, 5, 6.
+pub cut-order : (mode : Mode) (text pool : List ℕ) (cells room : ℕ)
+    → numbers (cutCauses mode text (meaning pool) cells room) ≡ 2 ∷ 3 ∷ 4 ∷ 5 ∷ 6 ∷ []
+cut-order mode text pool cells room = refl
+
+-- Add: 2, 3, 4, 7, 8.
+pub add-order : (word pool : List ℕ) → numbers (addCauses word pool) ≡ 2 ∷ 3 ∷ 4 ∷ 7 ∷ 8 ∷ []
+add-order word pool = refl
+
+-- Remove: 2, 3, 4, 7.
+pub remove-order : (word pool : List ℕ) → numbers (removeCauses word (meaning pool)) ≡ 2 ∷ 3 ∷ 4 ∷ 7 ∷ []
+remove-order word pool = refl
+
+-- Contains: 2, 3, 4.
+pub contains-order : (word pool : List ℕ) → numbers (readCauses word (meaning pool)) ≡ 2 ∷ 3 ∷ 4 ∷ []
+contains-order word pool = refl
+
+-- Word count: 4.
+pub count-order : (pool : List ℕ) → numbers (poolCauses (meaning pool)) ≡ 4 ∷ []
+count-order pool = refl
+
+-- Fresh pool: 8.
+pub fresh-order : (pool : List ℕ) → numbers (freshCauses pool) ≡ 8 ∷ []
+fresh-order pool = refl
+
+-- ---- Each of these lists rises, so the refusal that is given has the lowest number that applies
+-- (crates/refusal/proofs/Firsts.antt: lowest).
+
+pub decode-rises : Rising (1 ∷ 2 ∷ 6 ∷ [])
+decode-rises = ((omega arith, (omega arith, tt)), ((omega arith, tt), (tt, tt)))
+
+pub clusters-rises : Rising (2 ∷ 3 ∷ 6 ∷ [])
+clusters-rises = ((omega arith, (omega arith, tt)), ((omega arith, tt), (tt, tt)))
+
+pub prefix-rises : Rising (2 ∷ 3 ∷ 4 ∷ 6 ∷ [])
+prefix-rises = ((omega arith, (omega arith, (omega arith, tt))), ((omega arith, (omega arith, tt)), ((omega arith, tt), (tt, tt))))
+
+pub cut-rises : Rising (2 ∷ 3 ∷ 4 ∷ 5 ∷ 6 ∷ [])
+cut-rises = ((omega arith, (omega arith, (omega arith, (omega arith, tt)))), ((omega arith, (omega arith, (omega arith, tt))), ((omega arith, (omega arith, tt)), ((omega arith, tt), (tt, tt)))))
+
+pub add-rises : Rising (2 ∷ 3 ∷ 4 ∷ 7 ∷ 8 ∷ [])
+add-rises = ((omega arith, (omega arith, (omega arith, (omega arith, tt)))), ((omega arith, (omega arith, (omega arith, tt))), ((omega arith, (omega arith, tt)), ((omega arith, tt), (tt, tt)))))
+
+pub remove-rises : Rising (2 ∷ 3 ∷ 4 ∷ 7 ∷ [])
+remove-rises = ((omega arith, (omega arith, (omega arith, tt))), ((omega arith, (omega arith, tt)), ((omega arith, tt), (tt, tt))))
+
+pub contains-rises : Rising (2 ∷ 3 ∷ 4 ∷ [])
+contains-rises = ((omega arith, (omega arith, tt)), ((omega arith, tt), (tt, tt)))
+
+pub count-rises : Rising (4 ∷ [])
+count-rises = (tt, tt)
+
+pub fresh-rises : Rising (8 ∷ [])
+fresh-rises = (tt, tt)

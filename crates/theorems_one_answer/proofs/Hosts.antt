@@ -1,0 +1,80 @@
+-- The operations for hosts: what is told, and the rows. Each place of `s` is named by the parameter
+-- that stands there. Assumes nothing.
+use Prim.Native.Nat.{ℕ}
+use mathlib.Core.List.{List}
+use Rattle.fetlockice.proofs.fetlockice_decode.Kinds as decode-kinds
+use Rattle.fetlockice.proofs.fetlockice_decode.Reads as decode-contract
+use Rattle.fetlockice.proofs.fetlockice_clusters.Kinds as clusters-kinds
+use Rattle.fetlockice.proofs.fetlockice_clusters.Reads as clusters-contract
+use Rattle.fetlockice.proofs.fetlockice_fresh.Kinds as fresh-kinds
+use Rattle.fetlockice.proofs.fetlockice_fresh.Reads as fresh-contract
+use Rattle.fetlockice.proofs.fetlockice_add.Kinds as add-kinds
+use Rattle.fetlockice.proofs.fetlockice_add.Reads as add-contract
+use Rattle.fetlockice.proofs.fetlockice_remove.Kinds as remove-kinds
+use Rattle.fetlockice.proofs.fetlockice_remove.Reads as remove-contract
+use Rattle.fetlockice.proofs.fetlockice_contains.Kinds as contains-kinds
+use Rattle.fetlockice.proofs.fetlockice_contains.Reads as contains-contract
+use Rattle.fetlockice.proofs.fetlockice_prefix_lengths.Kinds as prefix-lengths-kinds
+use Rattle.fetlockice.proofs.fetlockice_prefix_lengths.Reads as prefix-lengths-contract
+use Rattle.fetlockice.proofs.fetlockice_word_count.Kinds as word-count-kinds
+use Rattle.fetlockice.proofs.fetlockice_word_count.Reads as word-count-contract
+use Rattle.fetlockice.proofs.fetlockice_cut_plain.Kinds as cut-plain-kinds
+use Rattle.fetlockice.proofs.fetlockice_cut_plain.Reads as cut-plain-contract
+use Rattle.fetlockice.proofs.fetlockice_cut_safe.Kinds as cut-safe-kinds
+use Rattle.fetlockice.proofs.fetlockice_cut_safe.Reads as cut-safe-contract
+use Rattle.trie_pool.specs.Meaning.{noWord}
+use Rattle.trie_char.proofs.One.{one-after}
+use Rattle.trie_char.specs.Answers.{freshAnswer, addAnswer, removeAnswer, added, removed}
+use Rattle.fetlockice.specs.Told.{Told, told, toldCut}
+use Rattle.theorems_one_answer.specs.OneAnswer.{OneAnswer}
+use Rattle.theorems_one_answer.proofs.Shapes.{answer, both, answer-and-two-rows}
+
+pub decode-one :
+    OneAnswer {A = Told × List ℕ} 4 decode-kinds.ps decode-kinds.r decode-contract.Post
+    (λ κs number s. let out = s .1 .0 .now in let count = s .1 .1 .0 .now in let detail = s .1 .1 .1 .0 .now in (told number count detail, out))
+decode-one κs a x y s t p q = both (answer (p .0) (q .0)) (answer (p .1) (q .1))
+
+pub clusters-one :
+    OneAnswer {A = Told × List ℕ} 4 clusters-kinds.ps clusters-kinds.r clusters-contract.Post
+    (λ κs number s. let out = s .1 .0 .now in let count = s .1 .1 .0 .now in let detail = s .1 .1 .1 .0 .now in (told number count detail, out))
+clusters-one κs a x y s t p q = both (answer (p .0) (q .0)) (answer (p .1) (q .1))
+
+pub fresh-one :
+    OneAnswer {A = Told × List ℕ} 3 fresh-kinds.ps fresh-kinds.r fresh-contract.Post
+    (λ κs number s. let pool = s .0 .now in let count = s .1 .0 .now in let detail = s .1 .1 .0 .now in (told number count detail, pool))
+fresh-one κs a x y s t p q = both (answer (p .0) (q .0)) (one-after (freshAnswer (a .0 .now)) (a .0 .now) _ _ noWord (p .1) (q .1))
+
+pub add-one :
+    OneAnswer {A = Told × List ℕ} 4 add-kinds.ps add-kinds.r add-contract.Post
+    (λ κs number s. let pool = s .0 .now in let count = s .1 .1 .0 .now in let detail = s .1 .1 .1 .0 .now in (told number count detail, pool))
+add-one κs a x y s t p q = both (answer (p .0) (q .0)) (one-after (addAnswer (a .1 .0 .now) (a .0 .now)) (a .0 .now) _ _ (added (a .1 .0 .now) (a .0 .now)) (p .1) (q .1))
+
+pub remove-one :
+    OneAnswer {A = Told × List ℕ} 4 remove-kinds.ps remove-kinds.r remove-contract.Post
+    (λ κs number s. let pool = s .0 .now in let count = s .1 .1 .0 .now in let detail = s .1 .1 .1 .0 .now in (told number count detail, pool))
+remove-one κs a x y s t p q = both (answer (p .0) (q .0)) (one-after (removeAnswer (a .1 .0 .now) (a .0 .now)) (a .0 .now) _ _ (removed (a .1 .0 .now) (a .0 .now)) (p .1) (q .1))
+
+pub contains-one :
+    OneAnswer {A = Told} 4 contains-kinds.ps contains-kinds.r contains-contract.Post
+    (λ κs number s. let count = s .1 .1 .0 .now in let detail = s .1 .1 .1 .0 .now in told number count detail)
+contains-one κs a x y s t p q = answer p q
+
+pub prefix-lengths-one :
+    OneAnswer {A = Told × List ℕ} 5 prefix-lengths-kinds.ps prefix-lengths-kinds.r prefix-lengths-contract.Post
+    (λ κs number s. let out = s .1 .1 .0 .now in let count = s .1 .1 .1 .0 .now in let detail = s .1 .1 .1 .1 .0 .now in (told number count detail, out))
+prefix-lengths-one κs a x y s t p q = both (answer (p .0) (q .0)) (answer (p .1) (q .1))
+
+pub word-count-one :
+    OneAnswer {A = Told} 3 word-count-kinds.ps word-count-kinds.r word-count-contract.Post
+    (λ κs number s. let count = s .1 .0 .now in let detail = s .1 .1 .0 .now in told number count detail)
+word-count-one κs a x y s t p q = answer p q
+
+pub cut-plain-one :
+    OneAnswer {A = Told × List ℕ × List ℕ} 7 cut-plain-kinds.ps cut-plain-kinds.r cut-plain-contract.Post
+    (λ κs number s. let out = s .1 .1 .0 .now in let scratch = s .1 .1 .1 .0 .now in let count = s .1 .1 .1 .1 .0 .now in let edges = s .1 .1 .1 .1 .1 .0 .now in let detail = s .1 .1 .1 .1 .1 .1 .0 .now in (toldCut number count edges detail, out, scratch))
+cut-plain-one κs a x y s t p q = answer-and-two-rows (p .0) (p .1 .0) (p .1 .1) (q .0) (q .1 .0) (q .1 .1)
+
+pub cut-safe-one :
+    OneAnswer {A = Told × List ℕ × List ℕ} 7 cut-safe-kinds.ps cut-safe-kinds.r cut-safe-contract.Post
+    (λ κs number s. let out = s .1 .1 .0 .now in let scratch = s .1 .1 .1 .0 .now in let count = s .1 .1 .1 .1 .0 .now in let edges = s .1 .1 .1 .1 .1 .0 .now in let detail = s .1 .1 .1 .1 .1 .1 .0 .now in (toldCut number count edges detail, out, scratch))
+cut-safe-one κs a x y s t p q = answer-and-two-rows (p .0) (p .1 .0) (p .1 .1) (q .0) (q .1 .0) (q .1 .1)

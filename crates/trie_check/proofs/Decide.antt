@@ -1,0 +1,31 @@
+-- A test's two answers, as `Decides`. Assumes nothing.
+use mathlib.Core.Path.{_≡_, refl, sym}
+use mathlib.Core.List.{List}
+use mathlib.Core.Bool.{Bool, true, false}
+use Prim.Native.Nat.{ℕ}
+use native.Mathlib.Omega.{arith}
+use Rattle.trie_pool.specs.Cells.{used}
+use Rattle.trie_pool.specs.inner.Sound.{Sound}
+use Rattle.trie_pool.specs.Rules.{wellFormed}
+use Rattle.trie_pool.proofs.Rules.{sound, passes}
+use Rattle.trie_check.specs.inner.Checks.{Decides}
+
+pub denied : {P : Type 0} → (P → ⊥) → Decides false P
+denied f = record { yes′ = λ e. let z : _≡_ {A = ℕ} 0 1 = cc in absurd (omega arith); no′ = λ e p. f p }
+
+pub granted : {P : Type 0} → P → Decides true P
+granted p = record { yes′ = λ e. p; no′ = λ e q. let z : _≡_ {A = ℕ} 0 1 = cc in omega arith }
+
+pub clash : {P : Type 0} → false ≡ true → P
+clash e = let z : _≡_ {A = ℕ} 0 1 = cc in absurd (omega arith)
+
+-- what is found of the cells is what the rules say
+pub refused : (p : List ℕ) → (Sound p (used p) 0 → ⊥) → false ≡ wellFormed p
+refused p f = go (wellFormed p) refl
+  where
+    go : (b : Bool) → wellFormed p ≡ b → false ≡ b
+    go false e = refl
+    go true e = absurd (f (sound p e))
+
+pub accepted : (p : List ℕ) → Sound p (used p) 0 → true ≡ wellFormed p
+accepted p h = sym (passes p h)

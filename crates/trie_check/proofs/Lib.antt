@@ -1,0 +1,4 @@
+pub mod Decide
+pub mod Whole
+pub mod Refusals
+pub mod Parts

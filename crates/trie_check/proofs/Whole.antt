@@ -1,0 +1,279 @@
+-- What `well_formed` decides, from what its parts decide. Assumes nothing.
+use mathlib.Core.Path.{_≡_, refl, sym, ap, subst, _∙_}
+use mathlib.Core.Bool.{Bool, true, false, not, cond}
+use mathlib.Core.List.{List}
+use Prim.Native.Nat.{ℕ, zero, suc, _+_, _-_, _*_, _≤_, _<_}
+use native.Mathlib.Omega.{arith}
+use native.Mathlib.Decide.{decLt}
+use borrow.Author.Tests.{lt-ltb, le-ltb, le-leb, lt-leb, ne-eqb, eqb-true, eqb-false, not-true, not-false, leb-true, leb-false}
+use lib.Dec.{eqb, leb}
+use lib.ListN.{length, getD}
+use Rattle.char_string.specs.Scalars.{isScalar}
+use Rattle.char_string.specs.Blanks.{isTrimmed}
+use Rattle.trie_pool.specs.Cells.{scalarAt, firstAt, countAt, markAt, used}
+use Rattle.trie_pool.specs.inner.Sound.{Shaped, Rising, Sound}
+use Rattle.trie_pool.specs.Levels.{hop, levelEnd}
+use Rattle.trie_check.specs.inner.Checks.{Decides, Inner, Each, Nodes}
+use Rattle.trie_pool.proofs.Shape.{within}
+use Rattle.trie_check.proofs.Decide.{clash}
+
+-- ---- rising
+
+pub rising-none : (p : List ℕ) (s e : ℕ) → e ≤ s + 1 → Rising p s e
+rising-none p s e h k a b = absurd (omega arith)
+
+pub rising-more : (p : List ℕ) (s k : ℕ) → s < k → Rising p s k → getD p (8 * k - 8) 0 < getD p (8 * k) 0 → Rising p s (k + 1)
+unfolding scalarAt
+rising-more p s k l r h i a b = pick (decLt (suc i) k)
+  where
+    pick : Dec (suc i < k) → scalarAt p i < scalarAt p (suc i)
+    pick (yes q) = r i a q
+    pick (no q) =
+        let e : suc i ≡ k = omega arith in
+        let u : 8 * k - 8 ≡ 8 * i = omega arith in
+        let v : 8 * k ≡ 8 * suc i = omega arith in
+        let x : getD p (8 * k - 8) 0 ≡ getD p (8 * i) 0 = ap (λ (z : ℕ). getD p z 0) u in
+        let y : getD p (8 * k) 0 ≡ getD p (8 * suc i) 0 = ap (λ (z : ℕ). getD p z 0) v in
+        omega arith
+
+pub rising-not : (p : List ℕ) (s e k : ℕ) → s < k → k < e → getD p (8 * k) 0 ≤ getD p (8 * k - 8) 0 → Rising p s e → ⊥
+unfolding scalarAt
+rising-not p s e k l h n r =
+    let q : suc (k - 1) ≡ k = omega arith in
+    let u : 8 * k - 8 ≡ 8 * (k - 1) = omega arith in
+    let v : 8 * k ≡ 8 * suc (k - 1) = omega arith in
+    let x : getD p (8 * k - 8) 0 ≡ getD p (8 * (k - 1)) 0 = ap (λ (z : ℕ). getD p z 0) u in
+    let y : getD p (8 * k) 0 ≡ getD p (8 * suc (k - 1)) 0 = ap (λ (z : ℕ). getD p z 0) v in
+    omega (arith, r (k - 1) (omega arith) (omega arith))
+
+-- ---- one node
+
+thai-legal : (c : ℕ) → 0xE00 ≤ c → c ≤ 0xE7F → isScalar c ≡ true
+unfolding isScalar
+thai-legal c l h = simp (lt-ltb c 0xD800 (omega arith))
+
+thai-stays : (c : ℕ) → 0xE00 ≤ c → c ≤ 0xE7F → isTrimmed c ≡ false
+unfolding isTrimmed
+thai-stays c l h = simp (le-leb 0x9 c (omega arith), lt-leb c 0xD (omega arith), ne-eqb c 0x20 (λ e. omega arith))
+
+module _ (c k m z : ℕ) (zero′ : z ≡ 0) (mark : m ≤ 1) (leaf : 1 ≤ k + m) where
+  pub inner-thai : (0xE00 ≤ c) × (c ≤ 0xE7F) → Inner c k m z
+  inner-thai h = record { fit = record { legal = thai-legal c (h .0) (h .1); mark = mark; stop = λ l. thai-stays c (h .0) (h .1) }; leaf = leaf; zero′ = zero′ }
+
+  pub inner-inside : isScalar c ≡ true → m ≡ 0 → Inner c k m z
+  inner-inside legal none = record { fit = record { legal = legal; mark = mark; stop = λ l. absurd (omega arith) }; leaf = leaf; zero′ = zero′ }
+
+  -- where a word ends, the scalar must not be trimmed
+  pub inner-end : isScalar c ≡ true → (t : Bool) → (m ≡ 0 → ⊥) → t ≡ isTrimmed c → Decides (not t) (Inner c k m z)
+  inner-end legal t some e = record {
+    yes′ = λ y. record { fit = record { legal = legal; mark = mark; stop = λ l. sym e ∙ not-true _ y }; leaf = leaf; zero′ = zero′ };
+    no′ = λ y h. clash (sym (h .fit .stop (omega arith)) ∙ sym e ∙ not-false _ y);
+  }
+
+pub three : (p : List ℕ) (a : ℕ) → getD p (a + 5) 0 ≡ 0 → getD p (a + 6) 0 ≡ 0 → getD p (a + 7) 0 ≡ 0 → (r : ℕ) → 5 ≤ r → r < 8 → getD p (a + r) 0 ≡ 0
+three p a x y z r l h = pick (decLt r 6) (decLt r 7)
+  where
+    pick : Dec (r < 6) → Dec (r < 7) → getD p (a + r) 0 ≡ 0
+    pick (yes u) v = let e : r ≡ 5 = omega arith in ap (λ (k : ℕ). getD p (a + k) 0) e ∙ x
+    pick (no u) (yes v) = let e : r ≡ 6 = omega arith in ap (λ (k : ℕ). getD p (a + k) 0) e ∙ y
+    pick (no u) (no v) = let e : r ≡ 7 = omega arith in ap (λ (k : ℕ). getD p (a + k) 0) e ∙ z
+
+-- ---- all nodes
+
+pub record Inv (p : List ℕ) (n i s : ℕ) : Type 0 where
+  pub upto : i ≤ n
+  pub low : 1 ≤ s
+  pub fits : s ≤ n
+  pub each : (k : ℕ) → k < i → Each p n k (firstAt p k)
+  pub next : (k : ℕ) → suc k < i → firstAt p (suc k) ≡ firstAt p k + countAt p k
+  pub start : 0 < i → firstAt p 0 ≡ 1
+  pub here : (k : ℕ) → suc k ≡ i → firstAt p k + countAt p k ≡ s
+  pub none : i ≡ 0 → s ≡ 1
+
+pub begin : (p : List ℕ) (n : ℕ) → 0 < n → Inv p n 0 1
+begin p n h = record {
+  upto = omega arith;
+  low = omega arith;
+  fits = h;
+  each = λ k l. absurd (omega arith);
+  next = λ k l. absurd (omega arith);
+  start = λ l. absurd (omega arith);
+  here = λ k e. absurd (omega arith);
+  none = λ e. refl;
+}
+
+pub turn : (p : List ℕ) (n i s c : ℕ) → Inv p n i s → i < n → Each p n i s → c ≡ getD p (8 * i + 2) 0 → Inv p n (i + 1) (s + c)
+unfolding countAt
+turn p n i s c v l h e = record {
+  upto = omega arith;
+  low = omega (arith, v .low);
+  fits = omega (arith, h .fits);
+  each = λ k q. all k q (decLt k i);
+  next = λ k q. nexts k q (decLt (suc k) i);
+  start = λ q. starts (decLt 0 i);
+  here = λ k q. let z : k ≡ i = omega arith in rw z (omega (arith, h .first));
+  none = λ q. absurd (omega arith);
+}
+  where
+    all : (k : ℕ) → k < i + 1 → Dec (k < i) → Each p n k (firstAt p k)
+    all k q (yes m) = v .each k m
+    all k q (no m) = let z : k ≡ i = omega arith in subst (λ (t : ℕ). Each p n t (firstAt p t)) (sym z) (subst (λ (t : ℕ). Each p n i t) (sym (h .first)) h)
+
+    nexts : (k : ℕ) → suc k < i + 1 → Dec (suc k < i) → firstAt p (suc k) ≡ firstAt p k + countAt p k
+    nexts k q (yes m) = v .next k m
+    nexts k q (no m) = let z : suc k ≡ i = omega arith in ap (firstAt p) z ∙ h .first ∙ sym (v .here k z)
+
+    starts : Dec (0 < i) → firstAt p 0 ≡ 1
+    starts (yes m) = v .start m
+    starts (no m) = let z : i ≡ 0 = omega arith in ap (firstAt p) (sym z) ∙ h .first ∙ v .none z
+
+-- in a pool whose nodes are all right, the children of i start at s
+at-s : (p : List ℕ) (n i s : ℕ) → Inv p n i s → i < n → Nodes p n → firstAt p i ≡ s
+at-s p n zero s v l h = h .shaped .start ∙ sym (v .none refl)
+at-s p n (suc i) s v l h = h .shaped .next i l ∙ v .here i refl
+
+pub refuse : (p : List ℕ) (n i s : ℕ) → Inv p n i s → i < n → (Each p n i s → ⊥) → Nodes p n → ⊥
+refuse p n i s v l no′ h = no′ (subst (λ (t : ℕ). Each p n i t) (at-s p n i s v l h) (h .each i l))
+
+pub done : (p : List ℕ) (n i s : ℕ) → Inv p n i s → 0 < n → n ≤ i → Decides (eqb s n) (Nodes p n)
+done p n i s v some l = record {
+  yes′ = λ e. record {
+    shaped = record {
+      some = some;
+      start = v .start (omega arith);
+      next = λ k q. v .next k (omega arith);
+      last = λ k q. v .here k (omega (arith, v .upto)) ∙ eqb-true s n e;
+      ahead = λ k q. v .each k (omega arith) .ahead;
+    };
+    each = λ k q. v .each k (omega arith);
+  };
+  no′ = λ e h. eqb-false s n e (sym (v .here (n - 1) (omega (arith, v .upto))) ∙ h .shaped .last (n - 1) (omega arith));
+}
+
+-- ---- levels
+
+pub stay : (p : List ℕ) (n k d : ℕ) → d ≤ k → levelEnd p n d ≡ n → levelEnd p n k ≡ n
+unfolding levelEnd
+stay p n zero d h e = let z : d ≡ 0 = omega arith in ap (levelEnd p n) (sym z) ∙ e
+stay p n (suc k) d h e = go (decLt k d) (stay p n k d)
+  where
+    go : Dec (k < d) → (d ≤ k → levelEnd p n d ≡ n → levelEnd p n k ≡ n) → levelEnd p n (suc k) ≡ n
+    go (yes l) ih = let z : d ≡ suc k = omega arith in ap (levelEnd p n) (sym z) ∙ e
+    go (no l) ih = let q : levelEnd p n k ≡ n = ih (omega arith) e in ap (hop p n) q ∙ ap (λ (t : Bool). cond t (firstAt p n) n) (le-ltb n n (omega arith))
+
+pub ends-start : (p : List ℕ) (n : ℕ) → levelEnd p n 0 ≡ 1
+unfolding levelEnd
+ends-start p n = refl
+
+pub ends-on : (p : List ℕ) (n d e : ℕ) → levelEnd p n d ≡ e → e < n → levelEnd p n (d + 1) ≡ firstAt p e
+unfolding levelEnd
+ends-on p n d e q l =
+    let z : d + 1 ≡ suc d = omega arith in
+    ap (levelEnd p n) z ∙ ap (hop p n) q ∙ ap (λ (t : Bool). cond t (firstAt p e) e) (lt-ltb e n l)
+
+pub record Levels (p : List ℕ) (n e d : ℕ) : Type 0 where
+  pub upto : d ≤ 255
+  pub fits : e ≤ n
+  pub is : levelEnd p n d ≡ e
+
+pub level-on : (p : List ℕ) (n e d f : ℕ) → Shaped p n → Levels p n e d → d < 255 → e < n → f ≡ getD p (8 * e + 1) 0 → Levels p n f (d + 1)
+unfolding firstAt
+level-on p n e d f s v l h q = record { upto = omega arith; fits = omega (arith, within p n s e h); is = ends-on p n d e (v .is) h ∙ sym q }
+
+pub level-done : (p : List ℕ) (n e d : ℕ) → Levels p n e d → 255 ≤ d → Decides (leb n e) (levelEnd p n 255 ≡ n)
+level-done p n e d v l =
+    let z : d ≡ 255 = omega (arith, v .upto) in
+    let is′ : levelEnd p n 255 ≡ e = ap (levelEnd p n) (sym z) ∙ v .is in
+    record { yes′ = λ t. omega (arith, leb-true n e t, v .fits); no′ = λ t q. omega (arith, leb-false n e t) }
+
+-- ---- the whole
+
+pub nodes-of : (p : List ℕ) (n : ℕ) → Sound p n 0 → Nodes p n
+nodes-of p n h = record {
+  shaped = h .shaped;
+  each = λ i l. record {
+    first = refl;
+    ahead = h .shaped .ahead i l;
+    fits = within p n (h .shaped) i l;
+    others = λ r a b. h .spare .others i r l a b;
+    rising = h .rising i l;
+    inner = λ q. record { fit = h .fit i q l; leaf = h .leaf i q l (omega arith); zero′ = h .spare .fifth i q l };
+  };
+}
+
+pub sound-of : (p : List ℕ) (n : ℕ) → Nodes p n → 8 * n ≤ length p → n ≤ 1048576 → getD p 0 0 ≡ 0 → getD p 3 0 ≡ 0 → getD p 4 0 ≡ n
+    → ((k : ℕ) → 8 * n ≤ k → getD p k 0 ≡ 0) → ((i : ℕ) → 0 < i → i ≤ countAt p 0 → isTrimmed (scalarAt p i) ≡ false) → levelEnd p n 255 ≡ n → Sound p n 0
+unfolding scalarAt markAt
+sound-of p n h fit small root um used blank starts deep = record {
+  shaped = h .shaped;
+  fits = fit;
+  small = small;
+  root = root;
+  unmarked = um;
+  spare = record { used = used; fifth = λ i a l. h .each i l .inner a .zero′; others = λ i r l a b. h .each i l .others r a b; blank = blank };
+  fit = λ i a l. h .each i l .inner a .fit;
+  start = starts;
+  leaf = λ i a l ne. h .each i l .inner a .leaf;
+  rising = λ i l. h .each i l .rising;
+  shallow = deep;
+}
+
+-- the nodes in use, as the code reads them
+pub at-n : (p : List ℕ) (n : ℕ) → n ≡ used p → Sound p (used p) 0 → Sound p n 0
+at-n p n e h = subst (λ (k : ℕ). Sound p k 0) (sym e) h
+
+pub of-n : (p : List ℕ) (n : ℕ) → n ≡ used p → Sound p n 0 → Sound p (used p) 0
+of-n p n e h = subst (λ (k : ℕ). Sound p k 0) e h
+
+-- ---- the first characters
+
+pub starts-none : (p : List ℕ) (i : ℕ) → 0 < i → i ≤ 0 → isTrimmed (scalarAt p i) ≡ false
+starts-none p i a b = absurd (omega arith)
+
+pub starts-more : (p : List ℕ) (k : ℕ) → ((i : ℕ) → 0 < i → i < k → isTrimmed (scalarAt p i) ≡ false) → isTrimmed (getD p (8 * k) 0) ≡ false → (i : ℕ) → 0 < i → i < k + 1 → isTrimmed (scalarAt p i) ≡ false
+unfolding scalarAt
+starts-more p k f h i a b = pick (decLt i k)
+  where
+    pick : Dec (i < k) → isTrimmed (scalarAt p i) ≡ false
+    pick (yes q) = f i a q
+    pick (no q) = let e : i ≡ k = omega arith in ap (λ (z : ℕ). isTrimmed (getD p (8 * z) 0)) e ∙ h
+
+pub starts-not : (p : List ℕ) (k i : ℕ) → isTrimmed (getD p (8 * i) 0) ≡ true → 0 < i → i ≤ k → ((j : ℕ) → 0 < j → j ≤ k → isTrimmed (scalarAt p j) ≡ false) → ⊥
+unfolding scalarAt
+starts-not p k i h a b f = clash (sym (f i a b) ∙ h)
+
+-- ---- the root
+
+pub root-of : (p : List ℕ) (n : ℕ) → Sound p n 0 → getD p 0 0 ≡ 0
+unfolding scalarAt
+root-of p n h = h .root
+
+pub mark-of : (p : List ℕ) (n : ℕ) → Sound p n 0 → getD p 3 0 ≡ 0
+unfolding markAt
+mark-of p n h = h .unmarked
+
+pub each-join : (p : List ℕ) (n i s f k : ℕ) → f ≡ getD p (8 * i + 1) 0 → f ≡ s → i < s → s ≤ n → k ≡ getD p (8 * i + 2) 0 → k ≤ n - s
+    → getD p (8 * i + 5) 0 ≡ 0 → getD p (8 * i + 6) 0 ≡ 0 → getD p (8 * i + 7) 0 ≡ 0 → Rising p s (s + k)
+    → (0 < i → Inner (getD p (8 * i) 0) (getD p (8 * i + 2) 0) (getD p (8 * i + 3) 0) (getD p (8 * i + 4) 0)) → Each p n i s
+unfolding scalarAt firstAt countAt markAt
+each-join p n i s f k e e′ ahead l q fit x y z r inner = record {
+  first = sym e ∙ e′;
+  ahead = ahead;
+  fits = omega arith;
+  others = three p (8 * i) x y z;
+  rising = λ j a b. r j a (omega arith);
+  inner = inner;
+}
+
+-- the root's children are nodes
+pub starts-fit : (p : List ℕ) (n k : ℕ) → Nodes p n → 8 * n ≤ length p → k ≡ getD p 2 0 → 8 * k < length p
+unfolding countAt
+starts-fit p n k h l e = omega (arith, h .each 0 (h .shaped .some) .fits, h .shaped .start)
+
+pub starts-at : (p : List ℕ) (k : ℕ) → k ≡ getD p 2 0 → ((i : ℕ) → 0 < i → i ≤ k → isTrimmed (scalarAt p i) ≡ false) → (i : ℕ) → 0 < i → i ≤ countAt p 0 → isTrimmed (scalarAt p i) ≡ false
+unfolding countAt
+starts-at p k e f i a b = f i a (omega arith)
+
+pub starts-from : (p : List ℕ) (k : ℕ) → k ≡ getD p 2 0 → ((i : ℕ) → 0 < i → i ≤ countAt p 0 → isTrimmed (scalarAt p i) ≡ false) → (i : ℕ) → 0 < i → i ≤ k → isTrimmed (scalarAt p i) ≡ false
+unfolding countAt
+starts-from p k e f i a b = f i a (omega arith)

@@ -1,0 +1,219 @@
+// Whether a pool is well-formed: the rules, decided by a few walks over its cells, without
+// recursion.
+use cells::wide;
+use char_string::is_scalar;
+use char_string::is_trimmed;
+use trie_pool::COUNT;
+use trie_pool::FIRST;
+use trie_pool::IN_USE;
+use trie_pool::MARK;
+use trie_pool::MAX_NODES;
+use trie_pool::MAX_WORD;
+use trie_pool::NODE;
+ghost use mathlib.Core.Path.{_≡_};
+ghost use mathlib.Core.Bool.{false};
+ghost use Prim.Native.Nat.{ℕ, _*_, _≤_, _<_};
+ghost use lib.ListN.{length, getD};
+ghost use Rattle.refusal.specs.Limits.{maxWord};
+ghost use Rattle.char_string.specs.Blanks.{isTrimmed};
+ghost use Rattle.trie_pool.specs.Cells.{nodeCells, scalarAt};
+ghost use Rattle.trie_pool.specs.inner.Sound.{Shaped, Rising};
+ghost use Rattle.trie_pool.specs.Levels.{levelEnd};
+ghost use Rattle.trie_pool.specs.Rules.{wellFormed};
+ghost use Rattle.trie_check.specs.inner.Checks.{Decides, Inner, Each, Nodes};
+
+// The Thai block, of which nearly all nodes are. None of it is trimmed.
+fn is_thai(x: u32) -> bool
+    ensures { λ r. ⌜ Decides r ((0xE00 ≤ x) × (x ≤ 0xE7F)) ⌝ }
+{
+    if x < 0xE00 {
+        return false;
+    }
+    if 0xE7F < x {
+        return false;
+    }
+    true
+}
+
+// Whether a node that is not the root may have this scalar, number of children, mark and fifth
+// cell.
+fn inner_ok(scalar: u32, count: u32, mark: u32, fifth: u32) -> bool
+    ensures { λ r. ⌜ Decides r (Inner scalar count mark fifth) ⌝ }
+{
+    if fifth != 0 {
+        return false;
+    }
+    if 1 < mark {
+        return false;
+    }
+    if wide(count) + wide(mark) == 0 {
+        return false;
+    }
+    if is_thai(scalar) {
+        return true;
+    }
+    if !is_scalar(scalar) {
+        return false;
+    }
+    if mark == 0 {
+        return true;
+    }
+    !is_trimmed(scalar)
+}
+
+// Whether the scalars of the nodes from s to e rise.
+fn rising(p: &[u32], s: usize, e: usize) -> bool
+    requires { ⌜ (s ≤ e) × (nodeCells * e ≤ length (now p)) ⌝ }
+    ensures { λ r. ⌜ Decides r (Rising (now (p .entry)) s e) ⌝ }
+{
+    if e - s < 2 {
+        return true;
+    }
+    let mut k = s + 1;
+    while k < e {
+        if p[NODE * k] <= p[NODE * k - NODE] {
+            return false;
+        }
+        k += 1;
+    }
+    true
+}
+
+// Whether node i may stand where it does, if its children start at s.
+fn each_ok(p: &[u32], n: usize, i: usize, s: usize) -> bool
+    requires { ⌜ (i < n) × (s ≤ n) × (nodeCells * n ≤ length (now p)) ⌝ }
+    ensures { λ r. ⌜ Decides r (Each (now (p .entry)) n i s) ⌝ }
+{
+    let a = NODE * i;
+    if wide(p[a + FIRST]) != s {
+        return false;
+    }
+    if s <= i {
+        return false;
+    }
+    let k = wide(p[a + COUNT]);
+    if n - s < k {
+        return false;
+    }
+    if p[a + 5] != 0 {
+        return false;
+    }
+    if p[a + 6] != 0 {
+        return false;
+    }
+    if p[a + 7] != 0 {
+        return false;
+    }
+    if !rising(p, s, s + k) {
+        return false;
+    }
+    if i == 0 {
+        return true;
+    }
+    if !inner_ok(p[a], p[a + COUNT], p[a + MARK], p[a + IN_USE]) {
+        return false;
+    }
+    true
+}
+
+// Whether all that is asked of single nodes holds of each of n, and each but the root is a child of
+// one.
+fn nodes_ok(p: &[u32], n: usize) -> bool
+    requires { ⌜ (0 < n) × (nodeCells * n ≤ length (now p)) ⌝ }
+    ensures { λ r. ⌜ Decides r (Nodes (now (p .entry)) n) ⌝ }
+{
+    let mut i: usize = 0;
+    let mut s: usize = 1;
+    while i < n {
+        if !each_ok(p, n, i, s) {
+            return false;
+        }
+        s += wide(p[NODE * i + COUNT]);
+        i += 1;
+    }
+    s == n
+}
+
+// Whether none of the nodes from 1 to k has a trimmed scalar.
+fn starts_ok(p: &[u32], k: usize) -> bool
+    requires { ⌜ nodeCells * k < length (now p) ⌝ }
+    ensures { λ r. ⌜ Decides r ((i : ℕ) → 0 < i → i ≤ k → isTrimmed (scalarAt (now (p .entry)) i) ≡ false) ⌝ }
+{
+    let mut i: usize = 1;
+    while i <= k {
+        if is_trimmed(p[NODE * i]) {
+            return false;
+        }
+        i += 1;
+    }
+    true
+}
+
+// Whether the nodes stand on at most 255 levels below the root.
+fn shallow(p: &[u32], n: usize) -> bool
+    requires { ⌜ (Shaped (now p) n) × (nodeCells * n ≤ length (now p)) ⌝ }
+    ensures { λ r. ⌜ Decides r (levelEnd (now (p .entry)) n maxWord ≡ n) ⌝ }
+{
+    let mut e: usize = 1;
+    let mut d: usize = 0;
+    while d < MAX_WORD {
+        if n <= e {
+            return true;
+        }
+        e = wide(p[NODE * e + FIRST]);
+        d += 1;
+    }
+    n <= e
+}
+
+// Whether every cell from k on is 0.
+fn blank(p: &[u32], k: usize) -> bool
+    ensures { λ r. ⌜ Decides r ((i : ℕ) → k ≤ i → getD (now (p .entry)) i 0 ≡ 0) ⌝ }
+{
+    let mut i = k;
+    while i < p.len() {
+        if p[i] != 0 {
+            return false;
+        }
+        i += 1;
+    }
+    true
+}
+
+// Whether the cells of a pool are a dictionary: all rules hold.
+pub fn well_formed(p: &[u32]) -> bool
+    ensures { λ r. ⌜ r ≡ wellFormed (now (p .entry)) ⌝ }
+{
+    if p.len() < NODE {
+        return false;
+    }
+    let n = wide(p[IN_USE]);
+    if n == 0 {
+        return false;
+    }
+    if MAX_NODES < n {
+        return false;
+    }
+    if p.len() / NODE < n {
+        return false;
+    }
+    if p[0] != 0 {
+        return false;
+    }
+    if p[MARK] != 0 {
+        return false;
+    }
+    if !blank(p, NODE * n) {
+        return false;
+    }
+    if !nodes_ok(p, n) {
+        return false;
+    }
+    if !starts_ok(p, wide(p[COUNT])) {
+        return false;
+    }
+    if !shallow(p, n) {
+        return false;
+    }
+    true
+}

@@ -1,0 +1,61 @@
+-- The rules of a well-formed pool as facts, one node being excepted: what functions of our own
+-- crates ask and leave.
+use Prim.Native.Nat.{ℕ, suc, _+_, _*_, _≤_, _<_}
+use mathlib.Core.Path.{_≡_}
+use mathlib.Core.Bool.{Bool, true, false}
+use mathlib.Core.List.{List}
+use lib.ListN.{length, getD}
+use Rattle.refusal.specs.Limits.{maxWord, maxNodes}
+use Rattle.char_string.specs.Scalars.{isScalar}
+use Rattle.char_string.specs.Blanks.{isTrimmed}
+use Rattle.trie_pool.specs.Cells.{scalarAt, firstAt, countAt, markAt}
+use Rattle.trie_pool.specs.Levels.{levelEnd}
+
+-- n nodes in level order: the children of each node stand behind those of the node before it, from
+-- node 1 to the last
+pub record Shaped (p : List ℕ) (n : ℕ) : Type 0 where
+  pub some : 0 < n
+  pub start : firstAt p 0 ≡ 1
+  pub next : (i : ℕ) → suc i < n → firstAt p (suc i) ≡ firstAt p i + countAt p i
+  pub last : (i : ℕ) → suc i ≡ n → firstAt p i + countAt p i ≡ n
+  pub ahead : (i : ℕ) → i < n → i < firstAt p i
+
+-- the scalars of the nodes from s to e rise
+abbrev pub Rising : List ℕ → ℕ → ℕ → Type 0
+Rising p s e = (k : ℕ) → s ≤ k → suc k < e → scalarAt p k < scalarAt p (suc k)
+
+-- the scalar and the mark of a node that isn't the root
+pub record Fit (c m : ℕ) : Type 0 where
+  pub legal : isScalar c ≡ true
+  pub mark : m ≤ 1
+  pub stop : 1 ≤ m → isTrimmed c ≡ false
+
+-- cells that say nothing are 0; the root's fifth is the number of nodes in use
+pub record Spare (p : List ℕ) (n : ℕ) : Type 0 where
+  pub used : getD p 4 0 ≡ n
+  pub fifth : (i : ℕ) → 0 < i → i < n → getD p (8 * i + 4) 0 ≡ 0
+  pub others : (i r : ℕ) → i < n → 5 ≤ r → r < 8 → getD p (8 * i + r) 0 ≡ 0
+  pub blank : (k : ℕ) → 8 * n ≤ k → getD p k 0 ≡ 0
+
+-- a dictionary of n nodes, but that the node cur may be a leaf that ends no word (0, the root: no
+-- exception)
+pub record Sound (p : List ℕ) (n cur : ℕ) : Type 0 where
+  pub shaped : Shaped p n
+  pub fits : 8 * n ≤ length p
+  pub small : n ≤ maxNodes
+  pub root : scalarAt p 0 ≡ 0
+  pub unmarked : markAt p 0 ≡ 0
+  pub rising : (i : ℕ) → i < n → Rising p (firstAt p i) (firstAt p i + countAt p i)
+  pub fit : (i : ℕ) → 0 < i → i < n → Fit (scalarAt p i) (markAt p i)
+  pub leaf : (i : ℕ) → 0 < i → i < n → (i ≡ cur → ⊥) → 1 ≤ countAt p i + markAt p i
+  pub start : (i : ℕ) → 0 < i → i ≤ countAt p 0 → isTrimmed (scalarAt p i) ≡ false
+  pub shallow : levelEnd p n maxWord ≡ n
+  pub spare : Spare p n
+
+-- what the readers ask: n nodes in level order, the children of each rising, b being one of them
+pub record Readable (p : List ℕ) (b : ℕ) : Type 0 where
+  pub nodes : ℕ
+  pub inside : b < nodes
+  pub shaped : Shaped p nodes
+  pub fits : 8 * nodes ≤ length p
+  pub rising : (i : ℕ) → i < nodes → Rising p (firstAt p i) (firstAt p i + countAt p i)

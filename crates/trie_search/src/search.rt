@@ -1,0 +1,220 @@
+// The search for words.
+use cells::wide;
+use trie_pool::COUNT;
+use trie_pool::FIRST;
+use trie_pool::IN_USE;
+use trie_pool::MARK;
+use trie_pool::NODE;
+ghost use mathlib.Core.Path.{_≡_};
+ghost use Prim.Native.Nat.{_<_, min};
+ghost use lib.ListN.{length};
+ghost use Rattle.trie_pool.specs.Cells.{markAt, used};
+ghost use Rattle.trie_pool.specs.Words.{child, marked, holds, lacking};
+ghost use Rattle.trie_pool.specs.Meaning.{prefixLengths, amount};
+ghost use Rattle.trie_pool.specs.inner.Sound.{Readable};
+ghost use Rattle.trie_search.specs.inner.Search.{Sought, toPlace, Asks, Wrote, Counts};
+
+// A child, or none.
+pub enum Kid {
+    Nothing,
+    Is(usize),
+}
+
+fn least(a: usize, b: usize) -> usize
+    ensures { λ r. ⌜ r ≡ min a b ⌝ }
+{
+    if a < b {
+        return a;
+    }
+    b
+}
+
+// Where a child of b with scalar x stands, or would stand. The children rise by one at least, so it
+// stands no further from the first than x from the first one's scalar: the search goes down from
+// there.
+pub fn seek(p: &[u32], b: usize, x: u32) -> usize
+    requires { ⌜ Readable (now p) b ⌝ }
+    ensures { λ r. ⌜ Sought (now (p .entry)) b x r ⌝ }
+{
+    let first = wide(p[NODE * b + FIRST]);
+    let count = wide(p[NODE * b + COUNT]);
+    if count == 0 {
+        return first;
+    }
+    let lowest = p[NODE * first];
+    if x <= lowest {
+        return first;
+    }
+    let last = first + count - 1;
+    if p[NODE * last] < x {
+        return last + 1;
+    }
+    let far = wide(x - lowest);
+    let mut k = first + least(far, count - 1);
+    while x < p[NODE * k] {
+        k -= 1;
+    }
+    if p[NODE * k] < x {
+        return k + 1;
+    }
+    k
+}
+
+// The child of b with scalar x. Most nodes have one child or none, and need no search.
+pub fn find_child(p: &[u32], b: usize, x: u32) -> Kid
+    requires { ⌜ Readable (now p) b ⌝ }
+    ensures { λ r. ⌜ toPlace r ≡ child (now (p .entry)) b x ⌝ }
+{
+    let first = wide(p[NODE * b + FIRST]);
+    let count = wide(p[NODE * b + COUNT]);
+    if count == 0 {
+        return Kid::Nothing;
+    }
+    if count == 1 {
+        if p[NODE * first] != x {
+            return Kid::Nothing;
+        }
+        return Kid::Is(first);
+    }
+    let r = seek(p, b, x);
+    if first + count <= r {
+        return Kid::Nothing;
+    }
+    if p[NODE * r] != x {
+        return Kid::Nothing;
+    }
+    Kid::Is(r)
+}
+
+// Whether a word ends at node i.
+pub fn ends_word(p: &[u32], i: usize) -> bool
+    requires { ⌜ Readable (now p) i ⌝ }
+    ensures { λ r. ⌜ r ≡ marked (markAt (now (p .entry)) i) ⌝ }
+{
+    p[NODE * i + MARK] != 0
+}
+
+// Whether the word is held.
+pub fn is_held(p: &[u32], w: &[u32]) -> bool
+    requires { ⌜ Readable (now p) 0 ⌝ }
+    ensures { λ r. ⌜ r ≡ holds (now (p .entry)) (now (w .entry)) ⌝ }
+{
+    let mut i: usize = 0;
+    let mut t: usize = 0;
+    while t < w.len() {
+        let kid = find_child(p, i, w[t]);
+        match kid {
+            Kid::Nothing => {
+                return false;
+            }
+            Kid::Is(r) => {
+                i = r;
+            }
+        }
+        t += 1;
+    }
+    p[NODE * i + MARK] != 0
+}
+
+// How many nodes the word needs that the pool lacks.
+pub fn missing(p: &[u32], w: &[u32]) -> usize
+    requires { ⌜ Readable (now p) 0 ⌝ }
+    ensures { λ r. ⌜ r ≡ lacking (now (p .entry)) (now (w .entry)) 0 ⌝ }
+{
+    let mut i: usize = 0;
+    let mut t: usize = 0;
+    while t < w.len() {
+        let kid = find_child(p, i, w[t]);
+        match kid {
+            Kid::Nothing => {
+                return w.len() - t;
+            }
+            Kid::Is(r) => {
+                i = r;
+            }
+        }
+        t += 1;
+    }
+    0
+}
+
+// How many words the text starts with.
+pub fn prefix_count(p: &[u32], text: &[u32]) -> usize
+    requires { ⌜ Readable (now p) 0 ⌝ }
+    ensures { λ r. ⌜ r ≡ length (prefixLengths (holds (now (p .entry))) (now (text .entry))) ⌝ }
+{
+    let mut b: usize = 0;
+    let mut n: usize = 0;
+    let mut i: usize = 0;
+    while i < text.len() {
+        let kid = find_child(p, b, text[i]);
+        match kid {
+            Kid::Nothing => {
+                return n;
+            }
+            Kid::Is(r) => {
+                b = r;
+                i += 1;
+                if p[NODE * r + MARK] != 0 {
+                    n += 1;
+                }
+            }
+        }
+    }
+    n
+}
+
+// Writes the lengths of the words that the text starts with to the front of out, rising, and
+// returns their number.
+pub fn prefix_lengths(p: &[u32], text: &[u32], out: &mut [u32]) -> usize
+    requires { ⌜ Asks (now p) (now text) (now out) ⌝ }
+    ensures { λ r. ⌜ Wrote (now (out .entry))
+        (prefixLengths (holds (now (p .entry))) (now (text .entry))) (now (out .exit)) r ⌝ }
+{
+    let mut b: usize = 0;
+    let mut n: usize = 0;
+    let mut i: usize = 0;
+    while i < text.len() {
+        let kid = find_child(p, b, text[i]);
+        match kid {
+            Kid::Nothing => {
+                return n;
+            }
+            Kid::Is(r) => {
+                b = r;
+                i += 1;
+                if p[NODE * r + MARK] != 0 {
+                    out[n] = i as u32;
+                    n += 1;
+                }
+            }
+        }
+    }
+    n
+}
+
+// The nodes in use.
+pub fn nodes_in_use(p: &[u32]) -> usize
+    requires { ⌜ 4 < length (now p) ⌝ }
+    ensures { λ r. ⌜ r ≡ used (now (p .entry)) ⌝ }
+{
+    wide(p[IN_USE])
+}
+
+// How many words are held.
+pub fn count_words(p: &[u32]) -> usize
+    requires { ⌜ Counts (now p) ⌝ }
+    ensures { λ r. ⌜ r ≡ amount (now (p .entry)) ⌝ }
+{
+    let n = wide(p[IN_USE]);
+    let mut words: usize = 0;
+    let mut i: usize = 0;
+    while i < n {
+        let mark = p[NODE * i + MARK];
+        i += 1;
+        if mark != 0 {
+            words += 1;
+        }
+    }
+    words
+}

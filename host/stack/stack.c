@@ -1,0 +1,154 @@
+/* stack [ROUNDS]: the stack that each call takes at most, in bytes. Every call runs on a stack of its own that is painted
+ * before, and what has lost its paint afterwards was used. It fails where a call takes more than half of what the header
+ * says, so that the other half is left for another compiler's code. */
+#define _GNU_SOURCE
+#include "fetlockice.h"
+#include <stdio.h>
+#include <stdlib.h>
+#include <string.h>
+#include <ucontext.h>
+
+enum { STACK = 1 << 20, CELLS = 8 * 4096, LONG = FETLOCKICE_MAX_SCALARS };
+static const unsigned char PAINT = 0xA5;
+
+static unsigned char stack[STACK];
+static ucontext_t here, there;
+static void (*call)(void);
+static size_t most[10];
+
+static uint8_t bytes[4 * LONG];
+static uint32_t pool[CELLS], text[LONG + 1], word[1024], out[LONG + 1], scratch[FETLOCKICE_SCRATCH_CELLS(LONG)];
+static size_t bytes_len, pool_len, text_len, word_len, out_len, scratch_len, count, edges, detail;
+
+static void decode(void) { fetlockice_decode(bytes, bytes_len, out, out_len, &count, &detail); }
+static void clusters(void) { fetlockice_clusters(text, text_len, out, out_len, &count, &detail); }
+static void fresh(void) { fetlockice_fresh(pool, pool_len, &count, &detail); }
+static void add(void) { fetlockice_add(pool, pool_len, word, word_len, &count, &detail); }
+static void drop(void) { fetlockice_remove(pool, pool_len, word, word_len, &count, &detail); }
+static void contains(void) { fetlockice_contains(pool, pool_len, word, word_len, &count, &detail); }
+static void lengths(void) { fetlockice_prefix_lengths(pool, pool_len, text, text_len, out, out_len, &count, &detail); }
+static void words(void) { fetlockice_word_count(pool, pool_len, &count, &detail); }
+static void plain(void) {
+    fetlockice_cut_plain(text, text_len, pool, pool_len, out, out_len, scratch, scratch_len, &count, &edges, &detail);
+}
+static void safe(void) {
+    fetlockice_cut_safe(text, text_len, pool, pool_len, out, out_len, scratch, scratch_len, &count, &edges, &detail);
+}
+
+static void (*const calls[])(void) = {decode, clusters, fresh, add, drop, contains, lengths, words, plain, safe};
+static const char *const names[] = {"decode",         "clusters",   "fresh",     "add",      "remove", "contains",
+                                    "prefix_lengths", "word_count", "cut_plain", "cut_safe"};
+enum { DECODE, CLUSTERS, FRESH, ADD, REMOVE, CONTAINS, PREFIX_LENGTHS, WORD_COUNT, CUT_PLAIN, CUT_SAFE, ALL };
+
+static void enter(void) { call(); }
+
+/* Makes a call on the painted stack and keeps what it used, if that is more than before. */
+static void make(int which) {
+    size_t kept = 0;
+    memset(stack, PAINT, STACK);
+    call = calls[which];
+    getcontext(&there);
+    there.uc_stack.ss_sp = stack;
+    there.uc_stack.ss_size = STACK;
+    there.uc_link = &here;
+    makecontext(&there, enter, 0);
+    swapcontext(&here, &there);
+    while (kept < STACK && stack[kept] == PAINT) kept++;
+    if (most[which] < STACK - kept) most[which] = STACK - kept;
+}
+
+static uint64_t seed = 1;
+
+static uint32_t draw(uint32_t below) {
+    seed = seed * 6364136223846793005u + 1442695040888963407u;
+    return (uint32_t)((seed >> 33) % below);
+}
+
+/* A cell: mostly Thai, sometimes another scalar, now and then anything. */
+static uint32_t cell(void) {
+    uint32_t kind = draw(40);
+    if (kind == 0 && draw(20) == 0) return draw(0xFFFFFFFF);
+    if (kind < 4) return " \n1aZ."[draw(6)];
+    return kind < 30 ? 0xE01 + draw(4) : 0xE01 + draw(0x5A);
+}
+
+static void fill(uint32_t *row, size_t len) {
+    for (size_t i = 0; i < len; i++) row[i] = cell();
+}
+
+/* A dictionary of words that share their first characters, many of them as long as a word may be. */
+static void dictionary(void) {
+    pool_len = CELLS;
+    make(FRESH);
+    for (int i = 0; i < 12; i++) {
+        word_len = 255;
+        for (size_t k = 0; k < word_len; k++) word[k] = 0xE01 + (k < (size_t)(20 * i));
+        make(ADD);
+        word_len = 1 + draw(5);
+        fill(word, word_len);
+        make(ADD);
+    }
+    make(CONTAINS), make(WORD_COUNT);
+}
+
+/* Every call on texts of some length, with rows that are long enough and with rows that are not. */
+static void on_texts(size_t len) {
+    text_len = len;
+    fill(text, len < LONG + 1 ? len : LONG + 1);
+    if (draw(3)) /* so that most texts are scalars */
+        for (size_t i = 0; i < len; i++)
+            if (text[i] > 0xD7FF) text[i] = 0xE01;
+    for (int room = 0; room < 3; room++) {
+        out_len = room ? len : draw((uint32_t)len + 1);
+        scratch_len = room < 2 ? FETLOCKICE_SCRATCH_CELLS(len < LONG ? len : LONG) : draw(9 * (uint32_t)len + 128);
+        if (scratch_len > FETLOCKICE_SCRATCH_CELLS(LONG)) scratch_len = FETLOCKICE_SCRATCH_CELLS(LONG);
+        make(CLUSTERS), make(PREFIX_LENGTHS), make(CUT_PLAIN), make(CUT_SAFE);
+    }
+}
+
+/* Words of every length, added and removed: removal goes as deep as the word is long. */
+static void on_words(void) {
+    for (size_t len = 0; len < 258; len += 1 + draw(3)) {
+        word_len = len;
+        for (size_t k = 0; k < len; k++) word[k] = 0xE01 + draw(3);
+        make(ADD), make(CONTAINS), make(REMOVE);
+    }
+    word_len = 255;
+    for (size_t k = 0; k < word_len; k++) word[k] = 0xE05;
+    make(ADD), make(REMOVE), make(ADD);
+    word[254] = 0xE06;
+    make(ADD), make(REMOVE), make(REMOVE);
+}
+
+static void on_bytes(void) {
+    bytes_len = draw(4 * LONG);
+    for (size_t i = 0; i < bytes_len; i += 3) memcpy(bytes + i, draw(500) ? "\xE0\xB8\x81" : "\xE0\xB8\xC0", 3);
+    out_len = LONG;
+    make(DECODE);
+    for (size_t i = 0; i < bytes_len; i++) bytes[i] = (uint8_t)draw(256);
+    make(DECODE);
+}
+
+static void hostile_pool(void) {
+    pool[draw(64)] = draw(3) ? draw(300) : draw(0xFFFFFFFF);
+    for (int which = ADD; which < ALL; which++) make(which);
+}
+
+int main(int argc, char **argv) {
+    int rounds = argc > 1 ? atoi(argv[1]) : 20, failed = 0;
+    for (int round = 0; round < rounds; round++) {
+        dictionary();
+        on_words();
+        on_texts(round == 0 ? LONG : round == 1 ? LONG + 1 : draw(2000));
+        on_bytes();
+        hostile_pool();
+    }
+    for (int which = 0; which < ALL; which++) {
+        int over = most[which] > FETLOCKICE_MAX_STACK / 2;
+        printf("%6zu fetlockice_%s%s\n", most[which], names[which], over ? ": more than half of FETLOCKICE_MAX_STACK" : "");
+        failed += over;
+    }
+    printf("stack/run: %d of %d functions take at most %d bytes, half of FETLOCKICE_MAX_STACK\n", ALL - failed, ALL,
+           FETLOCKICE_MAX_STACK / 2);
+    return failed > 0;
+}
