@@ -34,6 +34,11 @@ def edges():
         yield long[: most // 2] + [KO * 2 + KHWO * k for k in range(1, most - most // 2 + 1)], KHO + KO * 2 + KHWO * 60
         whole = KHO + KO * 4 + NGO + KO * 60
         yield [whole[:k] for k in range(2, most + 2)] + [NGO + KO], whole
+    # 52 words on 11 characters: the search finds three words where two would do, 0 to 9 and 9 to 11.
+    row = "กขคงจฉชซฌฎฏ"
+    spans = [(i, j) for i in range(9) for j in range(i + 1, 10) if (i, j) != (0, 2)]
+    spans += [(2, 11), (9, 10), (9, 11)] + [(i, 10) for i in (1, 3, 4, 5, 6)]
+    yield [row[i:j] for i, j in spans], row
     for n in 9, 10, 11, 49, 50, 51, 52, 100:
         yield [KO * k for k in range(1, n + 1)], KO * n
         yield [KO * k for k in range(1, n + 1)], KO * (n + 1) + NGO + KO

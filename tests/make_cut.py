@@ -3,9 +3,10 @@
     python3 tests/make_cut.py
 
 The independent model's lines for cut are taken, and from them lines with too little scratch, too little output, a bad
-text or a bad pool. What those refuse with, document 01 says: the conditions in their order, each with its detail. The
+text or a bad pool. tests/fewest.py has more texts, each told stretch by stretch. What those refuse with, document 01 says: the conditions in their order, each with its detail. The
 Rust's lines stand behind them.
 """
+import fewest
 import vectors
 from make_trie_char import cells_of, pools
 
@@ -78,7 +79,7 @@ def main():
     accepted = [line for line in found if line[1].startswith("ok") and len(line[0][2] + line[0][3]) < SHORT]
     for fields, expected in accepted[::6]:
         lines += lent_rows(fields, expected)
-    vectors.write("test_cut", lines + list(bad_calls()) + list(pool_calls()) + vectors.rust("cut"))
+    vectors.write("test_cut", lines + fewest.lines() + list(bad_calls()) + list(pool_calls()) + vectors.rust("cut"))
 
 
 main()

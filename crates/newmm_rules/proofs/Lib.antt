@@ -13,3 +13,6 @@ pub mod Climbing
 pub mod Samples
 pub mod Parts
 pub mod Modes
+pub mod Shortest
+pub mod Fewer
+pub mod Stretches

@@ -6,9 +6,11 @@ use mathlib.Core.Path.{_≡_, refl, sym, subst}
 use mathlib.Core.List.{List, [], _∷_, List·Memᴰ·head, List·Memᴰ·tail}
 use lib.ListN.{length, getD}
 use Rattle.newmm_rules.specs.Words.{Given, size}
-use Rattle.newmm_rules.specs.Cutting.{State, begin, turn, turns, cut}
+use Rattle.newmm_rules.specs.Cutting.{Edge, State, begin, turn, turns, cut}
 use Rattle.newmm_rules.specs.Positions.{In, Rises}
 use Rattle.newmm_rules.proofs.Positions.{at-least}
+use Rattle.newmm_rules.proofs.Edges.{edgeOf}
+use Rattle.newmm_rules.proofs.Recording.{Stands}
 use Rattle.newmm_rules.specs.Tokens.{Tokens}
 use Rattle.newmm_rules.proofs.Tokens.{rising, last-is, few-tokens, none-here}
 use Rattle.newmm_rules.proofs.Turns.{Between, at-first, turn-on, turn-off, rest-rises}
@@ -44,10 +46,20 @@ module _ (g : Given) where
       let r = at-least (rest-rises (subst (λ (k : List ℕ). Rises (last .least) k) (last .is) (last .handled .rises))) m in
       absurd (omega (arith, inside c (List·Memᴰ·tail m), at-end .through))
 
-  committed-end : turns (size g) g begin .committed ≡ size g
+  pub committed-end : turns (size g) g begin .committed ≡ size g
   committed-end =
       let e = last .sole (no-rest (last .rest) refl) in
       omega (arith, inside (last .least) (List·Memᴰ·head refl), at-end .through, e)
+
+  -- no edge stands at the end
+  pub edges-cleared : length (turns (size g) g begin .edges) ≡ 0
+  edges-cleared = go (turns (size g) g begin .edges) (λ x y m. last .handled .edges x y m)
+    where
+      go : (es : List Edge) → ((x y : ℕ) → In (edgeOf x y) es → Stands g (last .least) (turns (size g) g begin) x y) → length es ≡ 0
+      go [] h = refl
+      go (e ∷ es) h =
+          let st = h (e .from) (e .to) (List·Memᴰ·head refl) in
+          absurd (omega (arith, st .after, st .before, last .sole (no-rest (last .rest) refl)))
 
   -- EVERY TOKEN is a held word that ends at a cluster end, or exactly the span of the
   -- non-dictionary rule at its start, where no such word starts; the first starts at 0, each other

@@ -8,6 +8,8 @@ pub mod Search
 pub mod NonThai
 pub mod NonDictionary
 pub mod Tokens
+pub mod Fewest
+pub mod Stretches
 pub mod Longest
 pub mod Parts
 pub mod Modes

@@ -70,20 +70,42 @@ every-word pool words means text b e inside h ends =
 
 -- ---- what an accepted call wrote
 
-pub ends-wrote : EndsWrote
-ends-wrote c n edges h =
+-- the words of its pool, which passes; the ends and the edge count are those of the definition
+pub record Told (c : Call) (n edges : ℕ) : Type 0 where
+  pub words : Words
+  pub means : meaning (c .pool) ≡ some words
+  pub front : take n (outOf c) ≡ cutOf (c .mode) words (c .text) .ends
+  pub many : length (cutOf (c .mode) words (c .text) .ends) ≡ n
+  pub counted : cutOf (c .mode) words (c .text) .edges ≡ edges
+
+pub told : (c : Call) (n edges : ℕ) → answerOf c ≡ Ends n edges → Told c n edges
+told c n edges h =
     let mode = c .mode in
     let text = c .text in
     let cells = length (c .scratch) in
     let room = length (c .out) in
-    let t : accepts mode text (meaning (c .pool)) cells room ≡ Accepted n = told-ends (accepts mode text (meaning (c .pool)) cells room) (cutOf mode (held (meaning (c .pool))) text .edges) n edges h .0 in
-    let none = none-of (cutCauses mode text (meaning (c .pool)) cells room) (length (cutOf mode (held (meaning (c .pool))) text .ends)) n t in
+    let t = told-ends (accepts mode text (meaning (c .pool)) cells room) (cutOf mode (held (meaning (c .pool))) text .edges) n edges h in
+    let none = none-of (cutCauses mode text (meaning (c .pool)) cells room) (length (cutOf mode (held (meaning (c .pool))) text .ends)) n (t .0) in
     let words = holds (cellsOf (c .pool)) in
     let means : meaning (c .pool) ≡ some words = meaning-yes (c .pool) (known-is (c .pool) (none .1 .1 .0)) in
-    let a : accepts mode text (some words) cells room ≡ Accepted n = sym (ap (λ (m : Option Words). accepts mode text m cells room) means) ∙ t in
-    let many : length (cutOf mode words text .ends) ≡ n = accepted-is (cutCauses mode text (some words) cells room) (length (cutOf mode words text .ends)) n a in
-    let front : take n (outOf c) ≡ cutOf mode words text .ends =
-    ap (λ (m : Option Words). take n (outAfter mode text m cells (c .out))) means ∙ front-is mode text words n cells (c .out) a in
+    let a : accepts mode text (some words) cells room ≡ Accepted n = sym (ap (λ (m : Option Words). accepts mode text m cells room) means) ∙ t .0 in
+    record {
+      words = words;
+      means = means;
+      front = ap (λ (m : Option Words). take n (outAfter mode text m cells (c .out))) means ∙ front-is mode text words n cells (c .out) a;
+      many = accepted-is (cutCauses mode text (some words) cells room) (length (cutOf mode words text .ends)) n a;
+      counted = sym (ap (λ (m : Option Words). cutOf mode (held m) text .edges) means) ∙ t .1;
+    }
+
+pub ends-wrote : EndsWrote
+ends-wrote c n edges h =
+    let mode = c .mode in
+    let text = c .text in
+    let t = told c n edges h in
+    let words = t .words in
+    let means = t .means in
+    let front = t .front in
+    let many = t .many in
     record {
       words = words;
       means = means;

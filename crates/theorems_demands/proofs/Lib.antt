@@ -8,3 +8,5 @@ pub mod Cases
 pub mod Grown
 pub mod Orders
 pub mod Counts
+pub mod FewestWords
+pub mod Fails

@@ -5,3 +5,4 @@ pub mod Search
 pub mod Ends
 pub mod Cases
 pub mod LongTexts
+pub mod FewestWords

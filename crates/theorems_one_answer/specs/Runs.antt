@@ -10,10 +10,12 @@ use denote.Triple.Clauses.{AtExit}
 use Rattle.newmm.proofs.cut.Kinds as cut-kinds
 use Rattle.newmm.proofs.cut.Reads as cut-contract
 use Rattle.trie_pool.specs.Meaning.{Words, meaning}
+use Rattle.newmm_rules.specs.declared.Mode.the-variants.{Plain}
 use Rattle.newmm_answers.specs.declared.CutAnswer.the-variants.{Ends}
 use Rattle.newmm_answers.specs.Answers.{scratchFor}
 use Rattle.newmm_answers.specs.Calls.{Call}
 use Rattle.theorems_demands.specs.Demand3.{Reached}
+use Rattle.theorems_demands.specs.FewestWords.{WroteStretches}
 use Rattle.theorems_demands.specs.Ends.{Wrote}
 
 -- A run of `newmm::cut`: its arguments, what it answered, the lent rows when it returned, and what
@@ -76,3 +78,12 @@ Demand3OfRuns =
 -- mode they are the ends of tokens.
 abbrev pub EndsOfRuns : Type 0
 EndsOfRuns = (r : Run) (n edges : ℕ) → r .answer ≡ Ends n edges → Wrote (callOf r) n (outLeft r)
+
+-- A run of the plain cut that answered: the ends that it wrote stretch by stretch, each with the
+-- fewest words where at most 50 edges were recorded.
+abbrev pub FewestOfRuns : Type 0
+FewestOfRuns =
+    (r : Run) (n edges : ℕ)
+    → callOf r .mode ≡ Plain
+    → r .answer ≡ Ends n edges
+    → WroteStretches (callOf r) n edges (outLeft r)
