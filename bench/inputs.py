@@ -1,7 +1,8 @@
 """inputs.py OUT RUST: writes the texts and words of the measurements, all from Debian's packages (differential/real.py).
 RUST is the Rust's driver, which cuts the texts once.
 
-Each is the same in every run: nothing is drawn. It prints a line for each dictionary: name, words, nodes.
+Each is the same in every run: nothing is drawn. It prints a line for each dictionary: name, words, nodes, and the
+dictionary that it adds words to, if there is one: the words it adds stand in a file of their own.
 """
 import collections
 import os
@@ -17,6 +18,11 @@ LINES = 500
 SMALL = 700
 SIZES = (250, 1000, 4000, 16000, LONG)
 GO = "\u0e01"
+
+# First characters beside those of the real words: 5,000 of them.
+MORE = [chr(0x61 + k) for k in range(26)] + [chr(0x4E00 + k) for k in range(4974)]
+# How many first characters are spaced evenly from U+10000 on.
+SPACED = (200, 20000)
 
 
 def tokens(rust, texts, words):
@@ -49,6 +55,20 @@ def dictionaries(out, rust):
     yield "worst-3", [GO * 255]
 
 
+def spaced(count):
+    """So many characters, evenly spaced."""
+    return [chr(0x10000 + k * 0x100000 // count) for k in range(count)]
+
+
+def spaced_text(words):
+    """Characters of these and right behind these, in an order that a linear congruence gives."""
+    text, x = "", 4
+    for _ in range(LONG):
+        x = (1103515245 * x + 12345) % 2**31
+        text += chr(ord(words[(x >> 8) % len(words)]) + (x >> 7 & 1))
+    return text
+
+
 def worst_text(case, n):
     pattern = GO * 254 + "\u0e02" if case == 3 else GO
     return (pattern * (n // len(pattern) + 1))[:n]
@@ -72,6 +92,15 @@ def main(out, rust):
     for name, words in dictionaries(out, rust):
         write(out, name + ".words.lines", "".join(word + "\n" for word in words))
         print(name, len(words), nodes(words))
+    for count in SPACED:
+        name, words = "spaced-%d" % count, spaced(count)
+        write(out, name + ".words.lines", "".join(word + "\n" for word in words))
+        write(out, name + ".txt", spaced_text(words))
+        print(name, len(words), nodes(words))
+    words = sorted(real.words() | set(MORE))
+    write(out, "many.words.lines", "".join(word + "\n" for word in words))
+    write(out, "many.more.lines", "".join(word + "\n" for word in MORE if word not in real.words()))
+    print("many", len(words), nodes(words), "all")
 
 
 if __name__ == "__main__":

@@ -14,6 +14,7 @@ WORK = os.path.join(ROOT, "target", "bench")
 LIBTHAI_WORDS = os.path.join(ROOT, "target/differential/debian/usr/share/libthai/thbrk.tri")
 DRIVERS = {
     "ours": os.path.join(WORK, "ours"),
+    "before": os.path.join(WORK, "before"),
     "rust": os.path.join(WORK, "cargo/release/nlpo3-bench"),
     "libthai": os.path.join(WORK, "libthai"),
     "icu": os.path.join(WORK, "icu"),
@@ -25,11 +26,14 @@ LOOPS = {"GLIBC_TUNABLES": "glibc.cpu.x86_rep_stosb_threshold=1000000000:glibc.c
 RUST_BYTES = 6 << 30
 
 LINES, LONG = "lines.lines", "long.txt"
+# texts and words of the lookups with other first characters
+FIRSTS = [(LONG, "many")] + [("spaced-%d.txt" % n, "spaced-%d" % n) for n in (200, 20000)]
 # operation, texts, words: what ours and the Rust are both measured on
 ROWS = (
     [("decode", texts, "small") for texts in (LINES, LONG)]
     + [("clusters", texts, "small") for texts in (LINES, LONG)]
     + [("places", LONG, words) for words in ("small", "all")]
+    + [("places", texts, words) for texts, words in FIRSTS]
     + [("prefix", LINES, words) for words in ("small", "all")]
     + [(op, texts, words) for op in ("plain", "safe") for words in ("small", "all") for texts in (LINES, LONG)]
 )
@@ -44,7 +48,7 @@ def inputs(name):
 
 def words_for(side, words):
     """The argument that tells a driver its words."""
-    if side == "ours":
+    if side in ("ours", "before"):
         return [os.path.join(WORK, words + ".pool")]
     if side == "rust":
         return [inputs(words + ".words.lines")]
@@ -75,9 +79,10 @@ def load_pools():
     """Adds the words of each dictionary one by one; the time, the pool's bytes, and what the Rust takes."""
     found = {}
     for line in open(inputs("dictionaries"), encoding="utf-8"):
-        name, words, nodes = line.split()
-        path = os.path.join(WORK, name + ".pool")
-        ns, size = output([DRIVERS["ours"], "load", inputs(name + ".words.lines"), nodes, path]).split()
+        name, words, nodes, *base = line.split()
+        added = inputs(name + (".more.lines" if base else ".words.lines"))
+        pools = [os.path.join(WORK, pool + ".pool") for pool in [name] + base]
+        ns, size = output([DRIVERS["ours"], "load", added, nodes] + pools).split()
         rust_ns, rust_size = output([DRIVERS["rust"], "memory", inputs(name + ".words.lines")]).split()
         found[name] = {
             "words": int(words),
@@ -127,6 +132,9 @@ def measure_rows():
     wanted = [(side, what) for what in ROWS for side in ("ours", "rust")]
     wanted += [(side, (op, texts, "")) for side, op in OTHERS for texts in (LINES, LONG)]
     wanted += [("ours", (op, LONG, words)) for words in ("small", "all") for op in ("check", "read", "read-wide")]
+    wanted += [("ours", ("check", texts, words)) for texts, words in FIRSTS]
+    if os.path.exists(DRIVERS["before"]):
+        wanted += [("before", (op, LONG, "all")) for op in ("places", "check")]
     times = rounds(wanted)
     rows = []
     for side, what in wanted:
@@ -155,7 +163,7 @@ def growth():
 def sizes():
     """The characters and bytes of the texts."""
     found = {}
-    for name in (LINES, LONG):
+    for name in [LINES, LONG] + [texts for texts, _ in FIRSTS[1:]]:
         data = open(inputs(name), "rb").read()
         text = data.decode("utf-8")
         feeds = text.count("\n") if name == LINES else 0

@@ -68,7 +68,7 @@ class Results:
 
     def check(self, side, op, texts, words):
         """The row that is taken off: ours checks the pool once before it searches at each place."""
-        return (side, "check", texts, words) if (side, op) == ("ours", "places") else None
+        return (side, "check", texts, words) if side in ("ours", "before") and op == "places" else None
 
     def faster(self, *what):
         """How many times faster ours is than the Rust, by time and by instructions."""
@@ -91,6 +91,8 @@ class Results:
 
 
 def where(r, texts):
+    if texts.startswith("spaced"):
+        return "a text of evenly spaced characters"
     return "one long text" if texts == LONG else "%d lines" % r.sizes[texts]["texts"]
 
 
@@ -186,6 +188,15 @@ def targets(r):
     yield row("decoding, lines", 1, ("decode", LINES, "small"))
 
 
+def kept(r):
+    """Each target that is a share of an earlier library's speed: its time and instructions over ours."""
+    what = ("places", LONG, "all")
+    if ("before", *what) in r.rows:
+        ratios = [of("before", *what) / of("ours", *what) for of in (r.time, r.count)]
+        shown = ["%.2f" % x for x in ratios]
+        yield ["prefix lookup, %s words" % r.words("all"), "0.95"] + shown + ["met" if ratios[0] >= 0.95 else "missed"]
+
+
 def grown(r, case, words, kind):
     """What a character costs at 65,535 characters over 4,000, the check of the pool left out of ordinary text."""
     rows = of_case(r, case, words)
@@ -221,6 +232,12 @@ def limits(r):
     for words in ("all", "small"):
         ratios = [of("ours", "check", LONG, words) / of("ours", "read", LONG, words) for of in (r.time, r.count)]
         yield row("the check of the pool against a plain read of its cells, %s words" % r.words(words), 3, ratios)
+    firsts = {
+        "prefix lookup, 26 Latin and 4,974 CJK first characters more, against %s words" % r.words("all"): ((LONG, "many"), (LONG, "all")),
+        "prefix lookup, 20,000 evenly spaced first characters against 200": [("spaced-%d.txt" % n, "spaced-%d" % n) for n in (20000, 200)],
+    }
+    for name, (more, fewer) in firsts.items():
+        yield row(name, 2, [of("ours", "places", *more) / of("ours", "places", *fewer) for of in (r.time, r.count)])
 
 
 def opening(r):
@@ -239,7 +256,9 @@ def sections(r):
     least = table(["target, times faster than the Rust", "asked", "by time", "by instructions", ""], targets(r))
     most = table(["target, at most", "asked", "by time", "by instructions", ""], limits(r))
     yield "# Measurements", opening(r)
-    yield "## Targets", [*least, "", *most]
+    before = [*kept(r)]
+    head = ["target, at least: the speed of the library before", "asked", "by time", "by instructions", ""]
+    yield "## Targets", [*least, "", *most] + (["", *table(head, before)] if before else [])
     yield "## Ours and the Rust", both(r)
     yield "## libthai and ICU", others(r)
     yield "## The check of the pool", ["Refusal 4 costs one check in every call that is lent a pool.", "", *pools(r)]

@@ -277,6 +277,46 @@ class Prefixes:
         return lines.prefix(found + some_words(rng, text)[:5], text)
 
 
+def some_children(rng):
+    """Characters in blocks with gaps: from one script or many, close together or far apart, up to some hundreds."""
+    found = set()
+    for _ in range(rng.randint(1, 4)):
+        start = rng.choice([0x61, 0x0E01, 0x0E01, 0x0E30, 0x4E00, 0x4E00, 0xAC00, 0x10000])
+        start += rng.randint(0, 20)
+        step = rng.choice([1, 1, 1, 2, 3, 10, 40])
+        found.update(range(start, start + step * rng.choice([1, 2, 5, 9, 12, 20, 60, 300]), step))
+    return [chr(x) for x in sorted(found) if not 0xD800 <= x < 0xE000 and lines.comparable(chr(x))]
+
+
+def beside(rng, children):
+    """A character at, beside, between, below or above these."""
+    x = ord(rng.choice(children)) + rng.choice([-1, 0, 0, 0, 1, 2, 7, 8, 9, 10])
+    return chr(x) if x < 0xD800 or 0xE000 <= x else "!"
+
+
+class CrowdedScripts:
+    """Nodes with many children: added in any order, looked at, some removed, and looked at again."""
+    op, weight, size = "dict", 2, None
+
+    def line(self, rng, i):
+        children = some_children(rng)
+        above = rng.choice(["", "", "\u0e01", "ab"])
+        looked = [("?p"[rng.random() < 0.2], above + beside(rng, children)) for _ in range(30)]
+        added = [("+", above + c) for c in rng.sample(children, len(children))]
+        removed = [("-", above + c) for c in rng.sample(children, len(children) // 4)]
+        return lines.dict_script([("f", "")] + added + looked + removed + [("#", ""), ("n", "")] + looked)
+
+
+class CrowdedPrefixes:
+    """Words of one and two characters whose first ones are many."""
+    op, weight, size = "prefix", 2, None
+
+    def line(self, rng, i):
+        children = some_children(rng)
+        held = children + [c + rng.choice(children) for c in rng.sample(children, min(len(children), 5))]
+        return lines.prefix(held, beside(rng, children) + drawn(rng, children, 2))
+
+
 class ShortCuts:
     """Every text of at most five characters over three, with every dictionary of at most two words of at most three."""
     alphabet = "\u0e01\u0e02\u0e32"
@@ -386,7 +426,7 @@ class RealCuts:
         return lines.cut(rng.choice(["plain", "safe"]), real.words_in(text[:3000]), text[:3000])
 
 
-MADE = [ShortClusters, LookaheadClusters, AllThaiClusters, RandomClusters, ShortScripts, RandomScripts, Prefixes, ShortCuts, ShortNonThai, ShortClassCuts, BoundaryCuts, RandomCuts, SafeCuts, DenseCuts, LongWords]
+MADE = [ShortClusters, LookaheadClusters, AllThaiClusters, RandomClusters, ShortScripts, RandomScripts, Prefixes, CrowdedScripts, CrowdedPrefixes, ShortCuts, ShortNonThai, ShortClassCuts, BoundaryCuts, RandomCuts, SafeCuts, DenseCuts, LongWords]
 REAL = [RealClusters, RealCuts]
 
 

@@ -21,6 +21,8 @@ KEPT = {
     generate.ShortScripts: (80, 300),
     generate.RandomScripts: (200, 400),
     generate.Prefixes: (250, 250),
+    generate.CrowdedScripts: (16, 1200),
+    generate.CrowdedPrefixes: (12, 1200),
     generate.ShortCuts: (200, 200),
     generate.ShortNonThai: (200, 200),
     generate.ShortClassCuts: (100, 200),

@@ -156,6 +156,51 @@ def scripts():
         yield script(n, steps + [("c",)])
 
 
+def around(children):
+    """Scalars to look for: each child, those beside it, one in the middle of each gap, and some below and above all."""
+    inside = {(x + y) // 2 for x, y in zip(children, children[1:])}
+    return sorted({0x21, 0x10FFFF} | inside | {x + d for x in children for d in (-1, 0, 1)})
+
+
+THAI, CJK = list(range(0xE01, 0xE2F)), list(range(0x4E00, 0x4E00 + 300))
+
+
+def many():
+    """The children of a node with many: `a`, Thai and 300 CJK characters, and blocks with gaps."""
+    yield [0x61] + THAI + CJK
+    yield list(range(0x61, 0x7B)) + THAI[::2] + CJK[:150:3] + [0x10000 + 4099 * k for k in range(40)]
+
+
+def gaps():
+    """Children behind a gap: where its scalar puts it at most, a child stands d places too high.
+
+    A search that starts there has d children to pass. With `a` before Thai characters it starts at the last child, and
+    has any number to pass.
+    """
+    for d in range(5, 13):
+        yield [A, A + 1, A + 2] + [A + 3 + d + k for k in range(16)]
+    yield [0x61] + THAI[:13]
+
+
+def crowded():
+    """Nodes with many children: the root, and one below it. Answers come from the set of words alone."""
+    some = random.Random(15)
+    for children in itertools.chain(many(), gaps()):
+        for above in ((), (B,)):
+            words = [above + (x,) for x in children]
+            looked = [("?", above + (x,)) for x in around(children)]
+            removed = [("-", w) for w in some.sample(words, len(words) // 3)]
+            steps = [("f",)] + [("+", w) for w in some.sample(words, len(words))] + looked
+            yield script(8 * (len(words) + 2), steps + removed + [("#",), ("n",)] + (looked if len(words) < 50 else looked[::7]))
+    for children in (next(many()), [0x61] + THAI[::2] + CJK[:60:3]):
+        words = sorted([(x,) for x in children] + [(x, children[-1]) for x in children[::50]])
+        named = ",".join(text(w) + ":0" for w in words)
+        ends = [x for x, y in zip(children, children[1:]) if x + 3 < y][:3]
+        for x in sorted({0x21, children[0], children[-1], children[-1] + 1} | {x + d for x in ends for d in (0, 1, 2)}):
+            found = [k for k in (1, 2) if (x, children[-1])[:k] in words]
+            yield "prefix\t%s\t%s\t*" % (named, text((x, children[-1], A))), "ok " + (",".join(map(str, found)) or "-")
+
+
 def pools():
     """Each rule of docs/POOL.md broken in an otherwise good pool. Its nodes: root, A, B, AB, AC, B blank, B blank A."""
     good = cells_of({(A,), (A, B), (A, C), (B, 32, A)}, 72)
@@ -211,7 +256,7 @@ def pools():
 def main():
     lines = [("prefix\tE01.E02:0,E01.E02.E04:0\tE01.E02.E04.E07.E08\t%s" % out, answer)
              for out, answer in (("*", "ok 2,3"), ("0", "! 6 2"), ("1", "! 6 2"), ("2", "ok 2,3"), ("3", "ok 2,3"))]
-    lines += itertools.chain(scripts(), pools())
+    lines += itertools.chain(scripts(), crowded(), pools())
     made = [(line.split("\t"), answer) for line, answer in lines]
     vectors.write("test_trie_char", made + vectors.model("dict", "prefix") + vectors.rust("dict", "prefix"))
 

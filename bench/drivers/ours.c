@@ -1,8 +1,9 @@
 /* The proved library's side. See driver.h for the command line; WORDS is a pool that
  *
- *   ours load WORDS NODES POOL
+ *   ours load WORDS NODES POOL [FROM]
  *
- * has made by adding the words one by one; it writes the nanoseconds that took and the pool's bytes. */
+ * has made by adding the words one by one, to a fresh pool or to the words of the pool FROM; it writes the nanoseconds
+ * that took and the pool's bytes. */
 #include "driver.h"
 #include "fetlockice.h"
 
@@ -93,20 +94,33 @@ static void answers(void) {
     if (op == PLACES) printf("%zu\n", words);
 }
 
-static void load(const char *words, size_t nodes, const char *to) {
+/* Lent longer, with zeros in the new nodes, a pool holds the same words. */
+static void start(const char *from) {
+    size_t count, detail, bytes;
+    if (!from) {
+        accepted(fetlockice_fresh(pool, pool_len, &count, &detail));
+        return;
+    }
+    uint8_t *held = read_file(from, &bytes);
+    if (4 * pool_len < bytes) die(from);
+    memcpy(pool, held, bytes);
+    free(held);
+}
+
+static void load(const char *words, size_t nodes, const char *to, const char *from) {
     size_t count, detail;
     texts = read_texts(words, &text_count);
     pool_len = nodes * FETLOCKICE_NODE_CELLS;
     pool = room(4 * pool_len);
     cells = room(4 * 1024);
-    double start = now_ns();
-    accepted(fetlockice_fresh(pool, pool_len, &count, &detail));
+    double began = now_ns();
+    start(from);
     for (size_t i = 0; i < text_count; i++) {
         size_t n = decode(i, cells);
         accepted(fetlockice_add(pool, pool_len, cells, n, &count, &detail));
         if (count != 1) die("a word was held already");
     }
-    printf("%.0f %zu\n", now_ns() - start, 4 * pool_len);
+    printf("%.0f %zu\n", now_ns() - began, 4 * pool_len);
     FILE *f = fopen(to, "wb");
     if (!f || fwrite(pool, 4, pool_len, f) != pool_len || fclose(f)) die(to);
 }
@@ -129,8 +143,8 @@ static void prepare(const char *path) {
 }
 
 int main(int argc, char **argv) {
-    if (argc == 5 && !strcmp(argv[1], "load")) {
-        load(argv[2], strtoul(argv[3], NULL, 10), argv[4]);
+    if ((argc == 5 || argc == 6) && !strcmp(argv[1], "load")) {
+        load(argv[2], strtoul(argv[3], NULL, 10), argv[4], argv[5]);
         return 0;
     }
     if (argc < 4) die("HOW OP TEXTS [POOL]");

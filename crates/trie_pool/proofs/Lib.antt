@@ -10,3 +10,4 @@ pub mod Number
 pub mod Listing
 pub mod With
 pub mod Walks
+pub mod Early

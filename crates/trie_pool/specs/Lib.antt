@@ -4,4 +4,5 @@ pub mod Levels
 pub mod Rules
 pub mod Meaning
 pub mod Listing
+pub mod Early
 pub mod inner

@@ -31,6 +31,11 @@ abbrev pub scan : List ℕ → ℕ → ℕ → ℕ → Place
 scan p x s zero = none
 scan p x s (suc n) = cond (ltb (scalarAt p s) x) (scan p x (suc s) n) (cond (eqb (scalarAt p s) x) (at s) none)
 
+-- The walk over all of them, that stops at none: the first whose scalar is x.
+abbrev pub walkAll : List ℕ → ℕ → ℕ → ℕ → Place
+walkAll p x s zero = none
+walkAll p x s (suc n) = cond (eqb (scalarAt p s) x) (at s) (walkAll p x (suc s) n)
+
 -- the child of node i with scalar x
 unfoldable pub child : List ℕ → ℕ → ℕ → Place
 child p i x = scan p x (firstAt p i) (countAt p i)

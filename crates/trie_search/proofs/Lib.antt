@@ -1,3 +1,4 @@
+pub mod Halving
 pub mod Nearing
 pub mod Finding
 pub mod Prefixes

@@ -9,7 +9,7 @@ use lib.ListN.{length, getD}
 use Rattle.trie_pool.specs.Cells.{firstAt, countAt, scalarAt}
 use Rattle.trie_pool.specs.inner.Sound.{Readable, Rising}
 use Rattle.trie_pool.proofs.Shape.{within, climb, first-is, count-is}
-use Rattle.trie_search.specs.inner.Search.{Sought}
+use Rattle.trie_search.specs.inner.Search.{Between, Sought}
 
 -- children rise by one at least
 steep : (p : List ℕ) (s e : ℕ) → Rising p s e → (d : ℕ) → s + d < e → scalarAt p s + d ≤ scalarAt p (s + d)
@@ -84,6 +84,19 @@ module _ (p : List ℕ) (b x f n : ℕ) (g : Readable p b) (u : f ≡ getD p (8 
         go : Dec (f < k) → f < k
         go (yes q) = q
         go (no q) = let z : k ≡ f = omega (arith, h .from) in let w : x < getD p (8 * f) 0 = subst (λ (j : ℕ). x < getD p (8 * j) 0) z l in absurd (omega (arith, w))
+
+    -- the child stands behind the first one, and at k at most
+    pub between-here : (k : ℕ) → f < k → k < f + n → x < getD p (8 * k) 0 → Between p b x f k
+    unfolding scalarAt
+    between-here k order upto l =
+        record {
+          readable = g;
+          from = omega (arith, first-here);
+          order = order;
+          upto = omega (arith, ends-at);
+          lower = low;
+          higher = omega arith;
+        }
 
     pub down : (k : ℕ) → Nearing p x f n k → x < getD p (8 * k) 0 → Nearing p x f n (k - 1)
     unfolding scalarAt

@@ -12,7 +12,7 @@ ghost use Rattle.trie_pool.specs.Cells.{markAt, used};
 ghost use Rattle.trie_pool.specs.Words.{child, marked, holds, lacking};
 ghost use Rattle.trie_pool.specs.Meaning.{prefixLengths, amount};
 ghost use Rattle.trie_pool.specs.inner.Sound.{Readable};
-ghost use Rattle.trie_search.specs.inner.Search.{Sought, toPlace, Asks, Wrote, Counts};
+ghost use Rattle.trie_search.specs.inner.Search.{Between, Sought, toPlace, Asks, Wrote, Counts};
 
 // A child, or none.
 pub enum Kid {
@@ -29,9 +29,32 @@ fn least(a: usize, b: usize) -> usize
     b
 }
 
+// How many children a search walks past at most.
+const MAX_WALK: usize = 8;
+
+// Where a child of b with scalar x stands, or would stand, by halving: behind the child at `below`,
+// which is lower, and at the one at `above` at most, which is not.
+fn halved(p: &[u32], b: usize, x: u32, below: usize, above: usize) -> usize
+    requires { ⌜ Between (now p) b x below above ⌝ }
+    ensures { λ r. ⌜ Sought (now (p .entry)) b x r ⌝ }
+{
+    let mut low = below;
+    let mut high = above;
+    while low + 1 < high {
+        let middle = low + (high - low) / 2;
+        if p[NODE * middle] < x {
+            low = middle;
+            continue;
+        }
+        high = middle;
+    }
+    high
+}
+
 // Where a child of b with scalar x stands, or would stand. The children rise by one at least, so it
 // stands no further from the first than x from the first one's scalar: the search goes down from
-// there.
+// there. If even the child MAX_WALK places below is larger, it halves those down to there; else it
+// walks, past MAX_WALK children at most.
 pub fn seek(p: &[u32], b: usize, x: u32) -> usize
     requires { ⌜ Readable (now p) b ⌝ }
     ensures { λ r. ⌜ Sought (now (p .entry)) b x r ⌝ }
@@ -51,6 +74,12 @@ pub fn seek(p: &[u32], b: usize, x: u32) -> usize
     }
     let far = wide(x - lowest);
     let mut k = first + least(far, count - 1);
+    if first + MAX_WALK < k {
+        let nearest = k - MAX_WALK;
+        if x < p[NODE * nearest] {
+            return halved(p, b, x, first, nearest);
+        }
+    }
     while x < p[NODE * k] {
         k -= 1;
     }
