@@ -6,14 +6,14 @@ mod io_calls;
 use io_calls::Got;
 use io_calls::read_some;
 use io_calls::write_whole;
-use sheet_replies::LINE;
-use sheet_replies::POOL;
-use sheet_replies::REPLY;
-use sheet_replies::SCRATCH;
-use sheet_replies::TEXT;
-use sheet_replies::front;
-use sheet_replies::last;
-use sheet_replies::step;
+use sheet_bytes::front;
+use sheet_steps::LINE;
+use sheet_steps::POOL;
+use sheet_steps::REPLY;
+use sheet_steps::SCRATCH;
+use sheet_steps::TEXT;
+use sheet_steps::last;
+use sheet_steps::step;
 
 // What became of the input: how many bytes of a line that goes on are kept, or a call failed.
 enum Line {

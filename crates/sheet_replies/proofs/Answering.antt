@@ -4,8 +4,8 @@ use mathlib.Core.Path.{_≡_, sym, _∙_, ap, subst}
 use mathlib.Core.List.{List}
 use lib.ListN.{length, take, drop}
 use Rattle.lists.proofs.Parts.{tail-drop}
-use Rattle.sheet_replies.specs.declared.reply.Asked.{Asked}
-use Rattle.sheet_replies.specs.declared.reply.Reply.{Reply}
+use Rattle.sheet_replies.specs.declared.Asked.{Asked}
+use Rattle.sheet_texts.specs.declared.Reply.{Reply}
 use Rattle.sheet_replies.specs.Replies.{asked, textOf, replyTo, replyOf, RowsAfter}
 
 -- the line without its first byte, as it is lent

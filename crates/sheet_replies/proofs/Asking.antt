@@ -7,8 +7,8 @@ use lib.ListN.{length, getD}
 use borrow.Author.Tests.{eq-eqb, ne-eqb, lt-ltb, le-ltb}
 use Rattle.newmm_rules.specs.declared.Mode.{Mode}
 use Rattle.newmm_rules.specs.declared.Mode.the-variants.{Plain, Safe}
-use Rattle.sheet_replies.specs.declared.reply.Asked.{Asked}
-use Rattle.sheet_replies.specs.declared.reply.Asked.the-variants.{Nothing, Add, Remove, Cut}
+use Rattle.sheet_replies.specs.declared.Asked.{Asked}
+use Rattle.sheet_replies.specs.declared.Asked.the-variants.{Nothing, Add, Remove, Cut}
 use Rattle.sheet_replies.specs.Replies.{asked, askedBy}
 
 pub asked-empty : (line : List ℕ) → length line ≡ 0 → Nothing ≡ asked line

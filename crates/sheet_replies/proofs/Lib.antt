@@ -1,13 +1,4 @@
-pub mod Keeping
 pub mod Asking
 pub mod Replying
 pub mod Answering
-pub mod Decimals
-pub mod Holding
-pub mod Spacing
-pub mod Feeding
 pub mod Long
-pub mod Counting
-pub mod ByWords
-pub mod Telling
-pub mod Turning

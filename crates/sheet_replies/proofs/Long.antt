@@ -6,8 +6,8 @@ use mathlib.Core.Path.{_≡_, sym, _∙_, ap}
 use mathlib.Core.List.{List}
 use lib.ListN.{length, take}
 use lib.Seq.{take-all, length-take-le}
-use Rattle.sheet_replies.specs.declared.reply.Asked.{Asked}
-use Rattle.sheet_replies.specs.declared.reply.Asked.the-variants.{Nothing}
+use Rattle.sheet_replies.specs.declared.Asked.{Asked}
+use Rattle.sheet_replies.specs.declared.Asked.the-variants.{Nothing}
 use Rattle.sheet_replies.specs.Replies.{asked, replyTo, replyOf, textOf}
 use Rattle.sheet_replies.proofs.Asking.{asked-long}
 

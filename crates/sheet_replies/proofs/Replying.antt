@@ -17,8 +17,8 @@ use Rattle.trie_char.specs.Changes.{After}
 use Rattle.newmm_rules.specs.declared.Mode.{Mode}
 use Rattle.newmm_answers.specs.declared.CutAnswer.{CutAnswer}
 use Rattle.newmm_answers.specs.Answers as cut-answers
-use Rattle.sheet_replies.specs.declared.reply.Reply.{Reply}
-use Rattle.sheet_replies.specs.declared.reply.Reply.the-variants.{Refused}
+use Rattle.sheet_texts.specs.declared.Reply.{Reply}
+use Rattle.sheet_texts.specs.declared.Reply.the-variants.{Refused}
 use Rattle.sheet_replies.specs.Replies.{next, reported, ended, endedBy, cutText}
 
 module _ (text scalars : List ℕ) {scalars₁ : List ℕ} {d : Answer} (is : d ≡ decoded text (length scalars)) (out : scalars₁ ≡ output d (scalarsOf text) scalars) where

@@ -1,5 +1,1 @@
-pub mod Lines
 pub mod Replies
-pub mod Texts
-pub mod Feeding
-pub mod Program

@@ -18,10 +18,10 @@ use Rattle.newmm_rules.specs.declared.Mode.the-variants.{Plain, Safe}
 use Rattle.newmm_answers.specs.declared.CutAnswer.{CutAnswer}
 use Rattle.newmm_answers.specs.declared.CutAnswer.the-variants as cuts
 use Rattle.newmm_answers.specs.Answers.{cutOf, firstCauses, accepts, cleared}
-use Rattle.sheet_replies.specs.declared.reply.Asked.{Asked}
-use Rattle.sheet_replies.specs.declared.reply.Asked.the-variants.{Nothing, Add, Remove, Cut}
-use Rattle.sheet_replies.specs.declared.reply.Reply.{Reply}
-use Rattle.sheet_replies.specs.declared.reply.Reply.the-variants.{Unknown, Report, Ends, Refused}
+use Rattle.sheet_replies.specs.declared.Asked.{Asked}
+use Rattle.sheet_replies.specs.declared.Asked.the-variants.{Nothing, Add, Remove, Cut}
+use Rattle.sheet_texts.specs.declared.Reply.{Reply}
+use Rattle.sheet_texts.specs.declared.Reply.the-variants.{Unknown, Report, Ends, Refused}
 
 -- `+` adds, `-` removes, `=` cuts plainly, `~` safely. Another first byte asks nothing.
 abbrev pub askedBy : ℕ → Asked

@@ -1,44 +1,158 @@
-// The line program, on slices: the bytes of a line, what the line asks, and the text of its reply.
-//   step, last   a run: input of any length, part by part, with rows of the lengths below
-//   feed         takes bytes up to the first line feed, and writes that line's reply
-//   finish       writes the reply of a last line without a line feed
-//   line_end     where the first line feed stands
-//   keep         adds bytes to those at the front of a row
-//   front        the first bytes of a row
-//   answer_line  a line's reply
-//   write_reply  the reply as a line of text
-mod input;
-mod line;
-mod program;
-mod reply;
-mod text;
+// What a line asks, and the reply to it: `answer_line`.
+use newmm_answers::CutAnswer;
+use newmm_rules::Mode;
+use refusal::Answer;
+use sheet_texts::Reply;
+ghost use mathlib.Core.Path.{_≡_};
+ghost use lib.ListN.{length};
+ghost use Rattle.refusal.specs.Answers.{answer, output};
+ghost use Rattle.utf8.specs.Decoding.{scalarsOf, decoded};
+ghost use Rattle.trie_pool.specs.Meaning.{meaning};
+ghost use Rattle.trie_check.specs.Refusals.{held};
+ghost use Rattle.trie_char.specs.Answers.{added, removed};
+ghost use Rattle.trie_char.specs.Changes.{After};
+ghost use Rattle.newmm_answers.specs.Answers.{cutOf, firstCauses, cleared};
+ghost use Rattle.sheet_replies.specs.Replies.{asked as askedOf, next, addText, removeText, cutText};
+ghost use Rattle.sheet_replies.specs.Replies.{reported as reportedOf, ended as endedOf, endedBy, textOf, replyOf};
+ghost use Rattle.sheet_replies.specs.Replies.{RowsAfter};
 
-pub use input::Fed;
-pub use input::feed;
-pub use input::finish;
-pub use line::front;
-pub use line::keep;
-pub use line::line_end;
-pub use program::last;
-pub use program::step;
-pub use reply::Reply;
-pub use reply::answer_line;
-pub use text::write_reply;
+// The most bytes that a line may have, without its line feed.
+const MAX_LINE: usize = 1024;
 
-// The rows of a run are so long: a line, the pool, scalars and ends, scratch, the text of a reply.
-// The contracts of `step` and `last` rest on these lengths.
+// What a line asks.
+pub enum Asked {
+    // An empty or longer line, or another first byte.
+    Nothing,
+    Add,
+    Remove,
+    Cut(Mode),
+}
 
-// One more than the bytes that a line may have, so that a longer line is known by its first bytes.
-pub const LINE: usize = 1025;
+// `+` adds, `-` removes, `=` cuts plainly, `~` safely.
+fn asks(line: &[u8]) -> Asked
+    ensures { λ r. ⌜ r ≡ askedOf (now (line .entry)) ⌝ }
+{
+    if line.len() == 0 {
+        return Asked::Nothing;
+    }
+    if MAX_LINE < line.len() {
+        return Asked::Nothing;
+    }
+    let op = line[0];
+    if op == b'+' {
+        return Asked::Add;
+    }
+    if op == b'-' {
+        return Asked::Remove;
+    }
+    if op == b'=' {
+        return Asked::Cut(Mode::Plain);
+    }
+    if op == b'~' {
+        return Asked::Cut(Mode::Safe);
+    }
+    Asked::Nothing
+}
 
-// A pool of 2,048 nodes.
-pub const POOL: usize = 16384;
+fn reported(answer: Answer) -> Reply
+    ensures { λ r. ⌜ r ≡ reportedOf answer ⌝ }
+{
+    match answer {
+        Answer::Accepted(n) => Reply::Report(n),
+        Answer::Refused(r) => Reply::Refused(r),
+    }
+}
 
-// The most characters that the text of a line has, and the most ends.
-pub const TEXT: usize = 1023;
+fn ended(answer: CutAnswer) -> Reply
+    ensures { λ r. ⌜ r ≡ endedBy answer ⌝ }
+{
+    match answer {
+        CutAnswer::Ends(n, _) => Reply::Ends(n),
+        CutAnswer::Refused(r) => Reply::Refused(r),
+    }
+}
 
-// What cutting such a text asks: 9n+128.
-pub const SCRATCH: usize = 9335;
+fn add(text: &[u8], pool: &mut [u32], scalars: &mut [u32]) -> Reply
+    ensures { λ r. ⌜ r ≡ reportedOf
+        (addText (now (text .entry)) (now (pool .entry)) (length (now (scalars .entry)))) ⌝ }
+    ensures { λ _. ⌜ After (addText (now (text .entry)) (now (pool .entry)) (length (now (scalars .entry))))
+        (now (pool .entry)) (now (pool .exit))
+        (added (scalarsOf (now (text .entry))) (now (pool .entry))) ⌝ }
+    ensures { λ _. ⌜ now (scalars .exit) ≡ output (decoded (now (text .entry)) (length (now (scalars .entry))))
+        (scalarsOf (now (text .entry))) (now (scalars .entry)) ⌝ }
+{
+    let decoded = utf8::decode(text, scalars);
+    match decoded {
+        Answer::Refused(r) => Reply::Refused(r),
+        Answer::Accepted(n) => reported(trie_char::add(pool, &scalars[..n])),
+    }
+}
 
-// Every end of such a text takes at most four digits and a space or a line feed.
-pub const REPLY: usize = 5115;
+fn remove(text: &[u8], pool: &mut [u32], scalars: &mut [u32]) -> Reply
+    ensures { λ r. ⌜ r ≡ reportedOf
+        (removeText (now (text .entry)) (now (pool .entry)) (length (now (scalars .entry)))) ⌝ }
+    ensures { λ _. ⌜ After (removeText (now (text .entry)) (now (pool .entry)) (length (now (scalars .entry))))
+        (now (pool .entry)) (now (pool .exit))
+        (removed (scalarsOf (now (text .entry))) (now (pool .entry))) ⌝ }
+    ensures { λ _. ⌜ now (scalars .exit) ≡ output (decoded (now (text .entry)) (length (now (scalars .entry))))
+        (scalarsOf (now (text .entry))) (now (scalars .entry)) ⌝ }
+{
+    let decoded = utf8::decode(text, scalars);
+    match decoded {
+        Answer::Refused(r) => Reply::Refused(r),
+        Answer::Accepted(n) => reported(trie_char::remove(pool, &scalars[..n])),
+    }
+}
+
+fn cut(
+    text: &[u8],
+    pool: &[u32],
+    scalars: &mut [u32],
+    ends: &mut [u32],
+    scratch: &mut [u32],
+    mode: Mode,
+) -> Reply
+    ensures { λ r. ⌜ r ≡ endedOf (cutText mode (now (text .entry)) (now (pool .entry)) (length (now (scalars .entry)))
+        (length (now (scratch .entry))) (length (now (ends .entry)))) ⌝ }
+    ensures { λ _. ⌜ now (scalars .exit) ≡ output (decoded (now (text .entry)) (length (now (scalars .entry))))
+        (scalarsOf (now (text .entry))) (now (scalars .entry)) ⌝ }
+    ensures { λ _. ⌜ now (ends .exit) ≡ output
+        (cutText mode (now (text .entry)) (now (pool .entry)) (length (now (scalars .entry)))
+        (length (now (scratch .entry))) (length (now (ends .entry))))
+        (cutOf mode (held (meaning (now (pool .entry)))) (scalarsOf (now (text .entry))) .ends) (now (ends .entry)) ⌝ }
+    ensures { λ _. ⌜ now (scratch .exit) ≡ cleared
+        (next (decoded (now (text .entry)) (length (now (scalars .entry))))
+        (answer (firstCauses (scalarsOf (now (text .entry))) (meaning (now (pool .entry)))
+        (length (now (scratch .entry)))) 0))
+        (now (scratch .entry)) ⌝ }
+{
+    let decoded = utf8::decode(text, scalars);
+    match decoded {
+        Answer::Refused(r) => Reply::Refused(r),
+        Answer::Accepted(n) => ended(newmm::cut(&scalars[..n], pool, ends, scratch, mode)),
+    }
+}
+
+// The reply to a line, of which the bytes behind the first are the text. An addition or a removal
+// changes the pool, a cut leaves its ends at the front of `ends`.
+pub fn answer_line(
+    line: &[u8],
+    pool: &mut [u32],
+    scalars: &mut [u32],
+    ends: &mut [u32],
+    scratch: &mut [u32],
+) -> Reply
+    ensures { λ r. ⌜ r ≡ replyOf (now (line .entry)) (now (pool .entry)) (length (now (scalars .entry)))
+        (length (now (scratch .entry))) (length (now (ends .entry))) ⌝ }
+    ensures { λ _. ⌜ RowsAfter (askedOf (now (line .entry))) (textOf (now (line .entry)))
+        (now (pool .entry)) (now (pool .exit)) (now (scalars .entry)) (now (scalars .exit))
+        (now (ends .entry)) (now (ends .exit)) (now (scratch .entry)) (now (scratch .exit)) ⌝ }
+{
+    let asked = asks(line);
+    match asked {
+        Asked::Nothing => Reply::Unknown,
+        Asked::Add => add(&line[1..], pool, scalars),
+        Asked::Remove => remove(&line[1..], pool, scalars),
+        Asked::Cut(mode) => cut(&line[1..], pool, scalars, ends, scratch, mode),
+    }
+}

@@ -1,14 +1,14 @@
 // Replays the test vectors of the line program: for each line of standard input the bytes that the
 // program writes.
-use sheet_replies::LINE;
-use sheet_replies::POOL;
-use sheet_replies::REPLY;
-use sheet_replies::SCRATCH;
-use sheet_replies::TEXT;
-use sheet_replies::feed;
-use sheet_replies::finish;
-use sheet_replies::front;
-use sheet_replies::keep;
+use sheet_bytes::front;
+use sheet_bytes::keep;
+use sheet_input::feed;
+use sheet_input::finish;
+use sheet_steps::LINE;
+use sheet_steps::POOL;
+use sheet_steps::REPLY;
+use sheet_steps::SCRATCH;
+use sheet_steps::TEXT;
 use test_lines::behind;
 use test_lines::field;
 use test_lines::is;

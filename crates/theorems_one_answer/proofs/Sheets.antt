@@ -5,29 +5,29 @@ use mathlib.Core.List.{List}
 use Rattle.utf8.specs.Decoding.{scalarsOf}
 use Rattle.trie_char.specs.Answers.{added, removed}
 use Rattle.trie_char.proofs.One.{one-after}
-use Rattle.sheet_replies.specs.declared.input.Fed.{Fed}
-use Rattle.sheet_replies.specs.declared.reply.Asked.{Asked}
-use Rattle.sheet_replies.specs.declared.reply.Asked.the-variants.{Nothing, Add, Remove, Cut}
-use Rattle.sheet_replies.specs.declared.reply.Reply.{Reply}
+use Rattle.sheet_input.specs.declared.Fed.{Fed}
+use Rattle.sheet_replies.specs.declared.Asked.{Asked}
+use Rattle.sheet_replies.specs.declared.Asked.the-variants.{Nothing, Add, Remove, Cut}
+use Rattle.sheet_texts.specs.declared.Reply.{Reply}
 use Rattle.sheet_replies.specs.Replies.{PoolAfter, RowsAfter, addText, removeText}
-use Rattle.sheet_replies.proofs.step.Kinds as step-kinds
-use Rattle.sheet_replies.proofs.step.Reads as step-contract
-use Rattle.sheet_replies.proofs.last.Kinds as last-kinds
-use Rattle.sheet_replies.proofs.last.Reads as last-contract
-use Rattle.sheet_replies.proofs.feed.Kinds as feed-kinds
-use Rattle.sheet_replies.proofs.feed.Reads as feed-contract
-use Rattle.sheet_replies.proofs.finish.Kinds as finish-kinds
-use Rattle.sheet_replies.proofs.finish.Reads as finish-contract
+use Rattle.sheet_steps.proofs.step.Kinds as step-kinds
+use Rattle.sheet_steps.proofs.step.Reads as step-contract
+use Rattle.sheet_steps.proofs.last.Kinds as last-kinds
+use Rattle.sheet_steps.proofs.last.Reads as last-contract
+use Rattle.sheet_input.proofs.feed.Kinds as feed-kinds
+use Rattle.sheet_input.proofs.feed.Reads as feed-contract
+use Rattle.sheet_input.proofs.finish.Kinds as finish-kinds
+use Rattle.sheet_input.proofs.finish.Reads as finish-contract
 use Rattle.sheet_replies.proofs.answer_line.Kinds as answer-line-kinds
 use Rattle.sheet_replies.proofs.answer_line.Reads as answer-line-contract
-use Rattle.sheet_replies.proofs.write_reply.Kinds as write-reply-kinds
-use Rattle.sheet_replies.proofs.write_reply.Reads as write-reply-contract
-use Rattle.sheet_replies.proofs.keep.Kinds as keep-kinds
-use Rattle.sheet_replies.proofs.keep.Reads as keep-contract
-use Rattle.sheet_replies.proofs.line_end.Kinds as line-end-kinds
-use Rattle.sheet_replies.proofs.line_end.Reads as line-end-contract
-use Rattle.sheet_replies.proofs.front.Kinds as front-kinds
-use Rattle.sheet_replies.proofs.front.Reads as front-contract
+use Rattle.sheet_texts.proofs.write_reply.Kinds as write-reply-kinds
+use Rattle.sheet_texts.proofs.write_reply.Reads as write-reply-contract
+use Rattle.sheet_bytes.proofs.keep.Kinds as keep-kinds
+use Rattle.sheet_bytes.proofs.keep.Reads as keep-contract
+use Rattle.sheet_bytes.proofs.line_end.Kinds as line-end-kinds
+use Rattle.sheet_bytes.proofs.line_end.Reads as line-end-contract
+use Rattle.sheet_bytes.proofs.front.Kinds as front-kinds
+use Rattle.sheet_bytes.proofs.front.Reads as front-contract
 use Rattle.theorems_one_answer.specs.OneAnswer.{OneAnswer}
 use Rattle.theorems_one_answer.proofs.Shapes.{answer, both}
 

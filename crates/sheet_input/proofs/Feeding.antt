@@ -1,0 +1,141 @@
+-- Input, part by part. Assumes nothing.
+use Prim.Native.Nat.{ℕ, _≤_, _<_}
+use native.Mathlib.Omega.{arith}
+use mathlib.Core.Path.{_≡_, refl, sym, _∙_, ap, subst}
+use mathlib.Core.Bool.{Bool, true, false, not, cond}
+use mathlib.Core.List.{List, []}
+use lib.Dec.{eqb}
+use lib.ListN.{length, take, drop}
+use lib.Seq.{take-append-seam}
+use borrow.Author.Tests.{lt-ltb, le-ltb, eq-eqb, ne-eqb, ltb-true, ltb-false}
+use Rattle.lists.proofs.Scans.{leading-inside}
+use Rattle.sheet_input.specs.declared.Fed.{Fed}
+use Rattle.sheet_replies.specs.declared.Asked.the-variants.{Nothing}
+use Rattle.sheet_texts.specs.declared.Reply.{Reply}
+use Rattle.sheet_bytes.specs.Lines.{lineEnd, kept, laid}
+use Rattle.sheet_replies.specs.Replies.{asked, textOf, endsAfter, RowsAfter, PoolAfter, scalarsAfter, scratchAfter}
+use Rattle.sheet_texts.specs.Texts.{lineOf, written, amount}
+use Rattle.sheet_input.specs.Feeding.{lineWith, hasEnd, askedIf, told, fedWith}
+
+-- ---- a line's text, from its reply and the ends
+
+module _ {reply r : Reply} {row ends : List ℕ} (e : reply ≡ r) (f : row ≡ ends) where
+  same-line : lineOf reply row ≡ lineOf r ends
+  same-line = ap (λ (x : Reply). lineOf x row) e ∙ ap (lineOf r) f
+
+  pub told-size : (out : List ℕ) {n : ℕ} → n ≡ amount (lineOf reply row) out → n ≡ amount (lineOf r ends) out
+  told-size out h = h ∙ ap (λ (t : List ℕ). amount t out) same-line
+
+  pub told-is : (out : List ℕ) {out₁ : List ℕ} → out₁ ≡ written (lineOf reply row) out → out₁ ≡ written (lineOf r ends) out
+  told-is out h = h ∙ ap (λ (t : List ℕ). written t out) same-line
+
+-- nothing asked, nothing changed
+pub untouched : (text pool scalars ends scratch : List ℕ) → RowsAfter Nothing text pool pool scalars scalars ends ends scratch scratch
+unfolding PoolAfter scalarsAfter endsAfter scratchAfter
+untouched text pool scalars ends scratch = record { pool-is = refl; scalars-are = refl; ends-are = refl; scratch-is = refl }
+
+-- ---- bytes that are fed
+
+pub end-inside : (bytes : List ℕ) {end : ℕ} → end ≡ lineEnd bytes → end ≤ length bytes
+end-inside bytes e = subst (λ (k : ℕ). k ≤ length bytes) (sym e) (leading-inside (λ (b : ℕ). not (eqb b 10)) bytes)
+
+pub end-below : (bytes : List ℕ) {end : ℕ} → end ≡ lineEnd bytes → (end ≡ length bytes → ⊥) → end < length bytes
+end-below bytes {end} e h = strict end (length bytes) (end-inside bytes e) h
+  where
+    strict : (a b : ℕ) → a ≤ b → (a ≡ b → ⊥) → a < b
+    strict a b l no′ = omega arith
+
+module _ (bytes line : List ℕ) (used : ℕ) {end n : ℕ} {line₁ : List ℕ} (e : end ≡ lineEnd bytes) (size : n ≡ length (kept line used (take end bytes)))
+    (is : line₁ ≡ laid (kept line used (take end bytes)) line) where
+  with-is : kept line used (take end bytes) ≡ lineWith bytes line used
+  with-is = ap (λ (k : ℕ). kept line used (take k bytes)) e
+
+  pub line-is : line₁ ≡ laid (lineWith bytes line used) line
+  line-is = is ∙ ap (λ (l : List ℕ). laid l line) with-is
+
+  size-is : n ≡ length (lineWith bytes line used)
+  size-is = size ∙ ap length with-is
+
+  module _ (h : end ≡ length bytes) where
+    goes-on : hasEnd bytes ≡ false
+    goes-on = le-ltb (lineEnd bytes) (length bytes) (omega (arith, e))
+
+    pub open-fed : (k : ℕ) → fedWith false end n 0 ≡ fedWith (hasEnd bytes) (lineEnd bytes) (length (lineWith bytes line used)) k
+    open-fed k = ap (λ (x : ℕ). fedWith false x n k) e ∙ ap (λ (x : ℕ). fedWith false (lineEnd bytes) x k) size-is ∙ sym (ap (λ (b : Bool). fedWith b (lineEnd bytes) (length (lineWith bytes line used)) k) goes-on)
+
+    pub open-out : (text out : List ℕ) → out ≡ cond (hasEnd bytes) (written text out) out
+    open-out text out = sym (ap (λ (b : Bool). cond b (written text out) out) goes-on)
+
+    pub open-rows : (pool scalars ends scratch : List ℕ)
+        → RowsAfter (askedIf (hasEnd bytes) (lineWith bytes line used)) (textOf (lineWith bytes line used)) pool pool scalars scalars ends ends scratch scratch
+    open-rows pool scalars ends scratch =
+        subst (λ (b : Bool). RowsAfter (askedIf b (lineWith bytes line used)) (textOf (lineWith bytes line used)) pool pool scalars scalars ends ends scratch scratch) (sym goes-on)
+        (untouched (textOf (lineWith bytes line used)) pool scalars ends scratch)
+
+  module _ (h : end ≡ length bytes → ⊥) {whole : List ℕ} (w : whole ≡ take n line₁) where
+    ends-here : hasEnd bytes ≡ true
+    ends-here = lt-ltb (lineEnd bytes) (length bytes) (subst (λ (k : ℕ). k < length bytes) e (end-below bytes e h))
+
+    whole-is : whole ≡ lineWith bytes line used
+    whole-is =
+        w ∙ ap (take n) line-is ∙ ap (λ (k : ℕ). take k (laid (lineWith bytes line used) line)) size-is
+        ∙ take-append-seam (lineWith bytes line used) (drop (length (lineWith bytes line used)) line)
+
+    module _ (pool scalars ends scratch out : List ℕ) where
+      abbrev texts : List ℕ → List ℕ
+      texts l = told l pool (length scalars) (length scratch) ends
+
+      pub end-fed : {k : ℕ} → k ≡ amount (texts whole) out
+          → fedWith true end 0 k ≡ fedWith (hasEnd bytes) (lineEnd bytes) (length (lineWith bytes line used)) (amount (texts (lineWith bytes line used)) out)
+      end-fed {k} q =
+          ap (λ (x : ℕ). fedWith true x 0 k) e ∙ ap (fedWith true (lineEnd bytes) 0) (q ∙ ap (λ (l : List ℕ). amount (texts l) out) whole-is)
+          ∙ sym (ap (λ (b : Bool). fedWith b (lineEnd bytes) (length (lineWith bytes line used)) (amount (texts (lineWith bytes line used)) out)) ends-here)
+
+      pub end-out : {out₁ : List ℕ} → out₁ ≡ written (texts whole) out → out₁ ≡ cond (hasEnd bytes) (written (texts (lineWith bytes line used)) out) out
+      end-out q = q ∙ ap (λ (l : List ℕ). written (texts l) out) whole-is ∙ sym (ap (λ (b : Bool). cond b (written (texts (lineWith bytes line used)) out) out) ends-here)
+
+      pub end-rows : {pool₁ scalars₁ ends₁ scratch₁ : List ℕ} → RowsAfter (asked whole) (textOf whole) pool pool₁ scalars scalars₁ ends ends₁ scratch scratch₁
+          → RowsAfter (askedIf (hasEnd bytes) (lineWith bytes line used)) (textOf (lineWith bytes line used)) pool pool₁ scalars scalars₁ ends ends₁ scratch scratch₁
+      end-rows {pool₁} {scalars₁} {ends₁} {scratch₁} q =
+          subst (λ (b : Bool). RowsAfter (askedIf b (lineWith bytes line used)) (textOf (lineWith bytes line used)) pool pool₁ scalars scalars₁ ends ends₁ scratch scratch₁) (sym ends-here)
+          (subst (λ (l : List ℕ). RowsAfter (asked l) (textOf l) pool pool₁ scalars scalars₁ ends ends₁ scratch scratch₁) whole-is q)
+
+-- Bytes are taken, where there are any, and no more than there are.
+pub taken-some : (bytes : List ℕ) (n k : ℕ) {r : Fed} → r ≡ fedWith (hasEnd bytes) (lineEnd bytes) n k → 0 < length bytes → (1 ≤ r .taken) × (r .taken ≤ length bytes)
+taken-some bytes n k {r} e h = go (hasEnd bytes) refl (ap (λ (f : Fed). f .taken) e)
+  where
+    inside : lineEnd bytes ≤ length bytes
+    inside = end-inside bytes refl
+
+    go : (b : Bool) → hasEnd bytes ≡ b → r .taken ≡ fedWith b (lineEnd bytes) n k .taken → (1 ≤ r .taken) × (r .taken ≤ length bytes)
+    go true t q = (omega (arith, q), omega (arith, q, ltb-true (lineEnd bytes) (length bytes) t))
+    go false t q = (omega (arith, q, ltb-false (lineEnd bytes) (length bytes) t), omega (arith, q, inside))
+
+-- ---- a last line
+
+module _ (line : List ℕ) (n : ℕ) (pool scalars ends scratch : List ℕ) where
+  abbrev last-text : List ℕ → List ℕ
+  last-text l = told l pool (length scalars) (length scratch) ends
+
+  module _ (h : n ≡ 0) where
+    pub no-line : (k : ℕ) → 0 ≡ cond (eqb n 0) 0 k
+    no-line k = sym (ap (λ (b : Bool). cond b 0 k) (eq-eqb n 0 h))
+
+    pub no-text : (out text : List ℕ) → out ≡ cond (eqb n 0) out text
+    no-text out text = sym (ap (λ (b : Bool). cond b out text) (eq-eqb n 0 h))
+
+    pub no-rows : RowsAfter (asked (take n line)) (textOf (take n line)) pool pool scalars scalars ends ends scratch scratch
+    no-rows =
+        subst (λ (k : ℕ). RowsAfter (asked (take k line)) (textOf (take k line)) pool pool scalars scalars ends ends scratch scratch) (sym h) (untouched [] pool scalars ends scratch)
+
+  module _ (h : n ≡ 0 → ⊥) {whole : List ℕ} (w : whole ≡ take n line) where
+    pub last-size : (out : List ℕ) {k : ℕ} → k ≡ amount (last-text whole) out → k ≡ cond (eqb n 0) 0 (amount (last-text (take n line)) out)
+    last-size out q = q ∙ ap (λ (l : List ℕ). amount (last-text l) out) w ∙ sym (ap (λ (b : Bool). cond b 0 (amount (last-text (take n line)) out)) (ne-eqb n 0 h))
+
+    pub last-out : (out : List ℕ) {out₁ : List ℕ} → out₁ ≡ written (last-text whole) out → out₁ ≡ cond (eqb n 0) out (written (last-text (take n line)) out)
+    last-out out q = q ∙ ap (λ (l : List ℕ). written (last-text l) out) w ∙ sym (ap (λ (b : Bool). cond b out (written (last-text (take n line)) out)) (ne-eqb n 0 h))
+
+    pub last-rows : {pool₁ scalars₁ ends₁ scratch₁ : List ℕ} → RowsAfter (asked whole) (textOf whole) pool pool₁ scalars scalars₁ ends ends₁ scratch scratch₁
+        → RowsAfter (asked (take n line)) (textOf (take n line)) pool pool₁ scalars scalars₁ ends ends₁ scratch scratch₁
+    last-rows {pool₁} {scalars₁} {ends₁} {scratch₁} q =
+        subst (λ (l : List ℕ). RowsAfter (asked l) (textOf l) pool pool₁ scalars scalars₁ ends ends₁ scratch scratch₁) w q

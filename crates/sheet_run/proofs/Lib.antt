@@ -1,0 +1,4 @@
+pub mod Counting
+pub mod ByWords
+pub mod Telling
+pub mod Turning
