@@ -15,13 +15,13 @@ pub enum Found {
 pub fn is_trimmed(x: u32) -> bool
     ensures { λ r. ⌜ r ≡ isTrimmed x ⌝ }
 {
-    if x < 0x9 {
-        return false;
+    match x {
+        0x9..=0xD => true,
+        0x20 | 0x85 | 0xA0 | 0x1680 => true,
+        0x2000..=0x200A => true,
+        0x2028 | 0x2029 | 0x202F | 0x205F | 0x3000 => true,
+        _ => false,
     }
-    if x <= 0xD {
-        return true;
-    }
-    x == 0x20
 }
 
 fn trim_start(word: &[u32]) -> usize
