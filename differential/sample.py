@@ -26,7 +26,7 @@ KEPT = {
     generate.EachBlank: (64, 400),
     generate.SpacedScripts: (60, 400),
     generate.SpacedPrefixes: (40, 300),
-    generate.SpacedCuts: (40, 500),
+    generate.SpacedCuts: (24, 250),
     generate.ShortCuts: (200, 200),
     generate.ShortNonThai: (200, 200),
     generate.ShortClassCuts: (100, 200),

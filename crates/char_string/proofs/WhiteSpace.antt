@@ -1,4 +1,5 @@
--- Which characters are trimmed: the laws of `is_trimmed`, and that they are Unicode's White_Space. Assumes nothing.
+-- Which characters are trimmed: the laws of `is_trimmed`, and that they are Unicode's White_Space.
+-- Assumes nothing.
 use Prim.Native.Nat.{ℕ, zero, suc, _+_, _≤_, _<_}
 use native.Mathlib.Omega.{arith}
 use native.Mathlib.Decide.{decLt, ℕ-discrete}
@@ -83,12 +84,18 @@ module _ (x : ℕ) (l : Low x → ⊥) (h : High x → ⊥) where
   pub behind-separators : 0x202A ≤ x → false ≡ isTrimmed x
   behind-separators p = other (λ a b. omega arith) (λ a b. omega arith) (λ e. omega arith) (λ e. omega arith)
 
--- so none between the no-break space and the ogham space mark
+not-low : (x : ℕ) → 0xA0 < x → (x ≡ 0x1680 → ⊥) → Low x → ⊥
+not-low x p n = ⊎-elim (λ e. omega arith) (⊎-elim (λ e. omega arith) (⊎-elim (λ e. omega arith) n))
+
+-- so none above the ideographic space
+pub above : (x : ℕ) → 0x3000 < x → false ≡ isTrimmed x
+above x p =
+    behind-separators x (not-low x (omega arith) (λ e. omega arith)) (⊎-elim (λ e. omega arith) (⊎-elim (λ e. omega arith) (λ e. omega arith))) (omega arith)
+
+-- and none between the no-break space and the ogham space mark
 pub stays-between : (x : ℕ) → 0xA0 < x → x < 0x1680 → isTrimmed x ≡ false
 stays-between x p q =
-    sym (behind-controls x
-    (⊎-elim (λ e. omega arith) (⊎-elim (λ e. omega arith) (⊎-elim (λ e. omega arith) (λ e. omega arith))))
-    (⊎-elim (λ e. omega arith) (⊎-elim (λ e. omega arith) (λ e. omega arith))) (omega arith) (omega arith))
+    sym (behind-controls x (not-low x p (λ e. omega arith)) (⊎-elim (λ e. omega arith) (⊎-elim (λ e. omega arith) (λ e. omega arith))) (omega arith) (omega arith))
 
 -- ---- the 25
 

@@ -12,9 +12,13 @@ pub enum Found {
     Nothing,
 }
 
+// Unicode's White_Space, as 02 lists it. The scripts above are told at once.
 pub fn is_trimmed(x: u32) -> bool
     ensures { λ r. ⌜ r ≡ isTrimmed x ⌝ }
 {
+    if 0x3000 < x {
+        return false;
+    }
     match x {
         0x9..=0xD => true,
         0x20 | 0x85 | 0xA0 | 0x1680 => true,
