@@ -1,14 +1,12 @@
 """Holds the Rust against the model's lines in tests/vectors/model.txt, or against another file: differential/against_vectors.py [VECTORS]
 
 Takes the lines of clusters, prefix, dict and cut. The Rust refuses nothing, so a refused call is left out, and a
-refused step of a dictionary script, which changes nothing, is taken out of it. It trims more characters, so a script
-that adds or removes a word with one of those at its edge is left out.
+refused step of a dictionary script, which changes nothing, is taken out of it.
 """
 import collections
 import os
 import sys
 
-import lines
 import sides
 
 OPS = ("clusters", "prefix", "dict", "cut")
@@ -24,8 +22,6 @@ def compared(fields, expected):
     kept = [(step, answer) for step, answer in zip(fields[2].split(";"), expected[3:].split(";")) if not answer.startswith("!")]
     if not kept:
         return None, "refused"
-    if any(step[0] in "+-" and not lines.comparable(lines.text(step[1:].split(":")[0])) for step, _ in kept):
-        return None, "trimmed otherwise"
     return [fields[0], fields[1], ";".join(step for step, _ in kept)], "ok " + ";".join(answer for _, answer in kept)
 
 

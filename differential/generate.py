@@ -285,7 +285,7 @@ def some_children(rng):
         start += rng.randint(0, 20)
         step = rng.choice([1, 1, 1, 2, 3, 10, 40])
         found.update(range(start, start + step * rng.choice([1, 2, 5, 9, 12, 20, 60, 300]), step))
-    return [chr(x) for x in sorted(found) if not 0xD800 <= x < 0xE000 and lines.comparable(chr(x))]
+    return [chr(x) for x in sorted(found) if not 0xD800 <= x < 0xE000]
 
 
 def beside(rng, children):
@@ -315,6 +315,62 @@ class CrowdedPrefixes:
         children = some_children(rng)
         held = children + [c + rng.choice(children) for c in rng.sample(children, min(len(children), 5))]
         return lines.prefix(held, beside(rng, children) + drawn(rng, children, 2))
+
+
+class EachBlank:
+    """Each two characters of White_Space, and of those that only look like it: at the edges of a word and inside one, in every call."""
+    alphabet = lines.BLANKS + lines.NO_BLANKS
+    op, weight, size = "dict", 2, len(alphabet) ** 2
+
+    def line(self, rng, i):
+        x, y = self.alphabet[i % len(self.alphabet)], self.alphabet[i // len(self.alphabet)]
+        word, inside = x + "\u0e01" + y, "\u0e01" + x + y + "a"
+        steps = [("f", ""), ("+", x + y), ("+", word), ("?", word), ("?", "\u0e01"), ("#", ""), ("n", ""), ("+", y + x + inside + y), ("p", inside)]
+        return lines.dict_script(steps + [("-", y + word + x), ("#", ""), ("n", ""), ("-", inside + x), ("-", y), ("?", inside), ("n", "")])
+
+
+def spaced(rng, alphabet, n):
+    """A text of n characters, of a few letters and a few of these."""
+    return drawn(rng, "\u0e01\u0e02\u0e32a" + "".join(rng.choices(alphabet, k=3)), n)
+
+
+class SpacedScripts:
+    """Words with every kind of blank, and what only looks like one, at their edges and inside; some of 254 and 255 characters without them."""
+    op, weight, size = "dict", 4, None
+
+    def line(self, rng, i):
+        known = [spaced(rng, EachBlank.alphabet, rng.randint(0, 4)) for _ in range(rng.randint(1, 6))]
+        if rng.random() < 0.1:
+            known.append("\u0e01" * rng.choice([254, 255]))
+        steps = [("f", "")]
+        for _ in range(rng.randint(2, 20)):
+            word = rng.choice(known)
+            step = rng.choice("+++--?#np")
+            if step in "+-":
+                word = drawn(rng, lines.BLANKS, rng.randint(0, 3)) + word + drawn(rng, EachBlank.alphabet, rng.randint(0, 3))
+            if step not in "+-" or lines.comparable(word):
+                steps.append((step, word))
+        return lines.dict_script(steps + [("#", ""), ("n", "")])
+
+
+class SpacedPrefixes:
+    """Words and texts with every kind of blank among their letters."""
+    op, weight, size = "prefix", 2, None
+
+    def line(self, rng, i):
+        text = spaced(rng, EachBlank.alphabet, rng.randint(1, 12))
+        found = [text[: rng.randint(1, len(text))] for _ in range(rng.randint(1, 6))]
+        return lines.prefix(found + parts_of(rng, text, 3), text)
+
+
+class SpacedCuts:
+    """Texts with every kind of blank, plain and safe: a cut knows U+0020 alone, and tab beside it in a run."""
+    op, weight, size = "cut", 4, None
+
+    def line(self, rng, i):
+        n = rng.randint(1, 15) if rng.random() < 0.7 else rng.choice(LENGTHS)
+        text = spaced(rng, EachBlank.alphabet, n)
+        return lines.cut(rng.choice(["plain", "safe"]), parts_of(rng, text, rng.randint(0, 6)), text)
 
 
 class ShortCuts:
@@ -426,7 +482,7 @@ class RealCuts:
         return lines.cut(rng.choice(["plain", "safe"]), real.words_in(text[:3000]), text[:3000])
 
 
-MADE = [ShortClusters, LookaheadClusters, AllThaiClusters, RandomClusters, ShortScripts, RandomScripts, Prefixes, CrowdedScripts, CrowdedPrefixes, ShortCuts, ShortNonThai, ShortClassCuts, BoundaryCuts, RandomCuts, SafeCuts, DenseCuts, LongWords]
+MADE = [ShortClusters, LookaheadClusters, AllThaiClusters, RandomClusters, ShortScripts, RandomScripts, Prefixes, CrowdedScripts, CrowdedPrefixes, EachBlank, SpacedScripts, SpacedPrefixes, SpacedCuts, ShortCuts, ShortNonThai, ShortClassCuts, BoundaryCuts, RandomCuts, SafeCuts, DenseCuts, LongWords]
 REAL = [RealClusters, RealCuts]
 
 

@@ -4,9 +4,9 @@ import re
 
 REPEATED = re.compile(r"(.)\1{3}", re.DOTALL)
 
-# What document 01 trims, and what the Rust trims beside it: the rest of Unicode's White_Space.
-BLANKS = "\t\n\v\f\r "
-OTHER_BLANKS = "\x85\xa0\u1680\u2028\u2029\u202f\u205f\u3000" + "".join(map(chr, range(0x2000, 0x200B)))
+# Unicode's White_Space, which both sides trim, and characters that only look like it, which neither does.
+BLANKS = "\t\n\v\f\r \x85\xa0\u1680" + "".join(map(chr, range(0x2000, 0x200B))) + "\u2028\u2029\u202f\u205f\u3000"
+NO_BLANKS = "\x1c\x1d\x1e\x1f\u180e\u200b\ufeff"
 
 
 class Spelling(dict):
@@ -43,9 +43,8 @@ def text(field):
 
 
 def comparable(word):
-    """Whether both sides take this word: at most 255 characters when trimmed, and trimmed the same."""
-    word = word.strip(BLANKS)
-    return len(word) <= 255 and word.strip(OTHER_BLANKS) == word
+    """Whether both sides take this word: at most 255 characters when trimmed."""
+    return len(word.strip(BLANKS)) <= 255
 
 
 def words(found):

@@ -188,15 +188,23 @@ def texts():
         yield text([0x61] + [0xE01] * n + [0xDFFF])
 
 
+def word(text):
+    """A word, and what Python's strip of Unicode's White_Space leaves of it."""
+    kept = text.strip(vectors.WHITE_SPACE)
+    return ["word", vectors.cells([ord(c) for c in text])], "ok %s" % vectors.cells([ord(c) for c in kept])
+
+
 def words():
-    """Words with blanks at their edges and inside, trimmed by Python's strip of 01's six characters."""
-    blanks = "\t\n\v\f\r "
-    kept = "\x08\x0e\x1f!a\u0e01\u0085\u00a0\u2003\u200b\u3000"
-    for word in [""] + list(blanks) + list(kept):
-        for front in ["", " ", "\t\r\n", blanks]:
-            for back in ["", " ", "\v\f", blanks]:
-                for whole in front + word + back, front + word + " " + word + back:
-                    yield ["word", vectors.cells([ord(c) for c in whole])], "ok %s" % vectors.cells([ord(c) for c in whole.strip(blanks)])
+    """Each character of White_Space, and each that is never trimmed, at the edges and inside of words, among other blanks."""
+    for c in list(vectors.WHITE_SPACE) + list(vectors.NEVER_TRIMMED):
+        for text in c, c + c, c + "a", "a" + c, "a" + c + "b", c + "a" + c + "b" + c, " " + c + "\u0e01" + c + "\t", "\u00a0" + c + "\u3000":
+            yield word(text)
+    for text in "", "a", "\u0e01 \u0e02", vectors.WHITE_SPACE, vectors.WHITE_SPACE[::-1] + "a" + vectors.WHITE_SPACE:
+        yield word(text)
+    for front in "", " ", "\t\r\n", vectors.WHITE_SPACE:
+        for back in "", "\u00a0", "\v\f", vectors.WHITE_SPACE:
+            yield word(front + "a" + vectors.WHITE_SPACE + "b" + back)
+            yield word(front + vectors.NEVER_TRIMMED + back)
 
 
 def view(n, start, end, index, a, b):

@@ -16,8 +16,6 @@ import vectors
 # 01, "Sheets on both sides of a line": the whole run.
 WHOLE = "+กข\n+กขค\n=กขคก\n-กขค\n=กขค\n".encode(), b"1\n1\n3 4\n1\n2 3\n"
 
-TRIMMED = b"\t\n\v\f\r "
-
 MAX_LINE = 1024
 
 LONGEST_REPLY = 4008
@@ -51,6 +49,13 @@ def framing():
     # `+` or `-` alone adds or removes a word that is empty, `=` and `~` alone cut an empty text
     yield [(b"+", b"0"), (b"-", b"0"), (b"=", b""), (b"~", b"")]
     yield [(b"+ \t", b"0"), (b"-\r", b"0")]
+    # each character of White_Space is trimmed at both edges and kept inside; what only looks like one belongs to the word
+    blanks = [c.encode() for c in vectors.WHITE_SPACE if c != "\n"]
+    yield [line for c in blanks for line in ((b"+" + c, b"0"), (b"+" + c + b"a" + c, b"1"), (b"-a", b"1"), (b"+a" + c + b"b", b"1"), (b"-" + c + b"a" + c + b"b", b"1"))]
+    others = [c.encode() for c in vectors.NEVER_TRIMMED]
+    yield [line for c in others for line in ((b"+a" + c, b"1"), (b"-a", b"0"), (b"-" + c, b"0"), (b"-a" + c, b"1"))]
+    # 255 letters are a word, whatever is trimmed off them
+    yield [(b"+" + b"a" * 255 + "\u00a0\u3000".encode(), b"1"), (b"+" + b"a" * 256 + "\u00a0".encode(), b"! 7 256"), (b"-" + b"a" * 255, b"1")]
     # every first byte that is no operator, alone and before a text
     others = [bytes([first]) for first in range(256) if first not in b"\n+-=~"]
     yield [(first, b"?") for first in others] + [(first + b"+a", b"?") for first in others] + [(b"-a", b"0")]
@@ -73,14 +78,18 @@ def framing():
     yield [(b"?" * 3000, b"?"), (b"+a", b"1"), (b"+b" + b"c" * 5000, b"?"), (b"-b", b"0"), (b"-a", b"1")]
 
 
+def trimmed(word):
+    return word.decode().strip(vectors.WHITE_SPACE).encode()
+
+
 def held(data, answers):
     """The words that a run leaves, by its answers."""
     words = {}
     for line, answer in zip(lines(data), lines(answers)):
         if answer == b"1" and line[:1] == b"+":
-            words[line[1:].strip(TRIMMED)] = True
+            words[trimmed(line[1:])] = True
         if answer == b"1" and line[:1] == b"-":
-            del words[line[1:].strip(TRIMMED)]
+            del words[trimmed(line[1:])]
     return words
 
 

@@ -13,7 +13,8 @@ import random
 
 import vectors
 
-TRIMMED = {9, 10, 11, 12, 13, 32}
+TRIMMED = set(map(ord, vectors.WHITE_SPACE))
+NEVER = list(map(ord, vectors.NEVER_TRIMMED))
 MAX_NODES = 1048576
 JUNK = 0xFFFFFFFF
 A, B, C = 0xE01, 0xE02, 0xE04
@@ -156,6 +157,32 @@ def scripts():
         yield script(n, steps + [("c",)])
 
 
+def spaced():
+    """Each character of White_Space and each that is never trimmed: at the edges and inside of words, in every call."""
+    for x in sorted(TRIMMED) + NEVER:
+        steps = [("f",), ("+", (x,)), ("+", (x, A, x)), ("#",), ("?", (A,)), ("?", (x, A, x)), ("+", (A, x, B)), ("+", (x, x, A, x, B)), ("?", (A, x, B)),
+                 ("p", (A, x, B)), ("p", (x, A, x)), ("n",), ("-", (A, x)), ("-", (x, A, x, B, x)), ("-", (x,)), ("#",), ("c",)]
+        yield script(80, steps)
+    # the limit of 255 counts the trimmed word; so does the room in the pool
+    for x in sorted(TRIMMED) + NEVER[:4]:
+        yield script(2064, [("f",), ("+", (A,) * 255 + (x,)), ("#",), ("+", (x,) * 3 + (A,) * 256 + (x,)), ("-", (x,) + (A,) * 256), ("-", (x,) + (A,) * 255), ("#",)])
+        yield script(24, [("f",), ("+", (x, A, B, x)), ("+", (x, B)), ("-", (x, A, B)), ("+", (B, x)), ("n",)])
+    blanks = tuple(sorted(TRIMMED))
+    yield script(400, [("f",), ("+", blanks), ("-", blanks), ("+", blanks + (A,) + blanks[::-1]), ("?", (A,)), ("?", (A,) + blanks), ("+", (A,) + blanks + (B,)), ("#",), ("n",),
+                       ("p", (A,) + blanks + (B,)), ("-", blanks + (A,) + blanks + (B,) + blanks), ("n",), ("c",)])
+    some = random.Random(16)
+    near = list(blanks) + NEVER
+    for _ in range(60):
+        n, steps = some.choice([24, 40, 64, 81, 160, 400]), [("f",)]
+        odd = some.sample(near, 3)
+        for _ in range(some.randint(5, 20)):
+            w = tuple(some.choice([A, B] + odd) for _ in range(some.randint(0, 5)))
+            steps.append((some.choice("++++---?p"), w))
+            if some.random() < 0.2:
+                steps.append((some.choice("#n"),))
+        yield script(n, steps + [("#",), ("n",)])
+
+
 def around(children):
     """Scalars to look for: each child, those beside it, one in the middle of each gap, and some below and above all."""
     inside = {(x + y) // 2 for x, y in zip(children, children[1:])}
@@ -220,6 +247,14 @@ def pools():
 
     yield passes(good, 4)
     yield passes(good + [5, 6, 7], 4)
+    # what is never trimmed may stand at an edge, and what is trimmed inside
+    for x in NEVER:
+        yield passes(cells_of({(x,), (x, x)}, 24), 2)
+    for x in sorted(TRIMMED):
+        yield passes(cells_of({(A, x, B)}, 32), 1)
+        yield fails(cells_of({(x,)}, 16))
+        yield fails(cells_of({(A, x)}, 24))
+        yield fails(cells_of({(x, A)}, 24))
     yield passes(good + [0] * 8, 4)
     yield passes(good[:56], 4)
     yield passes([0, 1, 0, 0, 1, 0, 0, 0], 0)
@@ -232,8 +267,8 @@ def pools():
         [[(3, 0, 0xD800)], [(4, 0, 0x110000)], [(4, 0, JUNK)], [(3, 0, 0xDFFF), (4, 0, 0xE000)]],
         [[(3, 3, 2)], [(1, 3, JUNK)]],
         [[(3, 3, 0)], [(6, 3, 0)]],
-        [[(1, 0, 9)], [(1, 0, 32)], [(1, 0, 13)]],
-        [[(3, 0, 32)], [(5, 3, 1)], [(6, 0, 9)]],
+        [[(1, 0, 9)], [(1, 0, 32)], [(1, 0, 13)], [(1, 0, 0xA0)]],
+        [[(3, 0, 32)], [(5, 3, 1)], [(6, 0, 9)], [(6, 0, 0x3000)]],
         [],
         [[(i, 4, 1)] for i in (1, 3, 6)] + [[(i, k, 1)] for i in (0, 2, 6) for k in (5, 6, 7)] + [[(7, k, 1)] for k in range(8)] + [[(8, 7, 1)]],
     ]
@@ -256,7 +291,7 @@ def pools():
 def main():
     lines = [("prefix\tE01.E02:0,E01.E02.E04:0\tE01.E02.E04.E07.E08\t%s" % out, answer)
              for out, answer in (("*", "ok 2,3"), ("0", "! 6 2"), ("1", "! 6 2"), ("2", "ok 2,3"), ("3", "ok 2,3"))]
-    lines += itertools.chain(scripts(), crowded(), pools())
+    lines += itertools.chain(scripts(), spaced(), crowded(), pools())
     made = [(line.split("\t"), answer) for line, answer in lines]
     vectors.write("test_trie_char", made + vectors.model("dict", "prefix") + vectors.rust("dict", "prefix"))
 

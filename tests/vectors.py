@@ -5,9 +5,19 @@ input side of each line, and its stdout the expected side of each. They are writ
 folder that the variable MADE names.
 """
 import os
+import unicodedata
 
 ROOT = os.path.dirname(os.path.dirname(os.path.abspath(__file__)))
 FOLDER = os.path.join(ROOT, "tests", "vectors")
+
+# Unicode's White_Space, by its own data: of the controls U+0009 to U+000D and U+0085, and every separator (Zs, Zl, Zp).
+# Python's str.isspace takes U+001C to U+001F too.
+WHITE_SPACE = "".join(c for c in map(chr, range(0x110000)) if c in "\t\n\v\f\r\x85" or unicodedata.category(c) in ("Zs", "Zl", "Zp"))
+if len(WHITE_SPACE) != 25:
+    raise SystemExit("Unicode %s has %d characters of White_Space" % (unicodedata.unidata_version, len(WHITE_SPACE)))
+
+# Characters that look like blanks, or stand beside one, and are never trimmed.
+NEVER_TRIMMED = "\x08\x0e\x1c\x1d\x1e\x1f\x21\x84\x86\x9f\xa1\u167f\u1681\u180e\u1fff\u200b\u2027\u202a\u202e\u2030\u205e\u2060\u2fff\u3001\ufeff"
 
 
 def model(*ops):

@@ -9,6 +9,12 @@ static const uint32_t letters[] = {0xE01, 0xE02, 0xE04, 0xE07, 0xE23, 0xE2D};
 static const uint32_t signs[] = {0xE30, 0xE31, 0xE32, 0xE34, 0xE35, 0xE38, 0xE40, 0xE44, 0xE47, 0xE48, 0xE49, 0xE4C};
 static const uint32_t others[] = {' ', '\t', '\r', '\n', '1',    '2',     0xE52,    'a', 'Z',
                                   '-', ',',  '.',  0xA0, 0xFEFF, 0x1F600, 0x10FFFF, 0};
+/* What trimming strips and what stands beside it; U+200B, U+FEFF, U+180E and U+001C to U+001F only look like it. */
+static const uint32_t edges[] = {' ',    '\t',   0x0D,   0xA0,   0x3000, 0x08,   0x09,   0x0A,   0x0B,   0x0C,   0x0E,
+                                 0x1C,   0x1D,   0x1E,   0x1F,   0x21,   0x84,   0x85,   0x86,   0x9F,   0xA1,   0x167F,
+                                 0x1680, 0x1681, 0x180E, 0x1FFF, 0x2000, 0x2001, 0x2002, 0x2003, 0x2004, 0x2005, 0x2006,
+                                 0x2007, 0x2008, 0x2009, 0x200A, 0x200B, 0x2027, 0x2028, 0x2029, 0x202A, 0x202E, 0x202F,
+                                 0x2030, 0x205E, 0x205F, 0x2060, 0x2FFF, 0x3001, 0xFEFF};
 static const uint32_t wrong[] = {0xD800, 0xDFFF, 0x110000, 0x7FFFFFFF, 0x80000000, 0xFFFFFFFF};
 
 #define ONE_OF(row) row[below(sizeof row / sizeof *row)]
@@ -43,8 +49,8 @@ size_t make_word(uint32_t *word) {
     if (below(20) == 0) return make_text(word);
     size_t n = below(10) == 0 ? 253 + below(6) : below(7), kinds = 1 + below(3);
     for (size_t i = 0; i < n; i++) word[i] = below(15) == 0 ? character() : letters[below(kinds)];
-    for (size_t k = below(8) == 0 ? below(4) : 0; k > 0; k--) word[n++] = below(2) == 0 ? ' ' : '\t';
-    if (n > 0 && below(10) == 0) word[0] = '\n';
+    for (size_t k = below(8) == 0 ? below(4) : 0; k > 0; k--) word[n++] = ONE_OF(edges);
+    if (n > 0 && below(10) == 0) word[0] = ONE_OF(edges);
     spoil(word, n);
     return n;
 }
@@ -105,7 +111,7 @@ static size_t damage(uint32_t *pool, size_t n) {
     size_t used = n >= 8 && pool[4] < n / 8 ? pool[4] + 1 : n / 8;
     for (size_t k = 1 + below(2); k > 0 && used > 0; k--) {
         uint32_t *cell = pool + 8 * below(used) + below(8);
-        size_t kind = below(5);
+        size_t kind = below(6);
         if (kind == 0)
             *cell = (uint32_t)draw();
         else if (kind == 1)
@@ -114,6 +120,8 @@ static size_t damage(uint32_t *pool, size_t n) {
             *cell += 1;
         else if (kind == 3)
             *cell -= 1;
+        else if (kind == 4)
+            *cell = ONE_OF(edges);
         else
             *cell = pool[below(8 * used)];
     }

@@ -19,7 +19,14 @@ struct refusal utf8_refusal(const uint8_t *bytes, size_t size, uint32_t *scalars
 
 int is_scalar(uint32_t x) { return x < 0xD800 || (x > 0xDFFF && x <= 0x10FFFF); }
 
-int is_blank(uint32_t x) { return (x >= 9 && x <= 13) || x == 32; }
+int is_blank(uint32_t x) {
+    static const uint32_t white_space[] = {0x09,   0x0A,   0x0B,   0x0C,   0x0D,   0x20,   0x85,   0xA0,   0x1680,
+                                           0x2000, 0x2001, 0x2002, 0x2003, 0x2004, 0x2005, 0x2006, 0x2007, 0x2008,
+                                           0x2009, 0x200A, 0x2028, 0x2029, 0x202F, 0x205F, 0x3000};
+    for (size_t i = 0; i < sizeof white_space / sizeof *white_space; i++)
+        if (x == white_space[i]) return 1;
+    return 0;
+}
 
 struct refusal text_refusal(const uint32_t *text, size_t n) {
     if (n > 65535) return (struct refusal){2, n};

@@ -14,6 +14,8 @@ struct refusal {
 struct refusal utf8_refusal(const uint8_t *bytes, size_t size, uint32_t *scalars, size_t room, size_t *count);
 
 int is_scalar(uint32_t x);
+
+/* One of Unicode's White_Space, which trimming strips. */
 int is_blank(uint32_t x);
 
 /* 2 and 3. */

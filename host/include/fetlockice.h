@@ -34,14 +34,18 @@
 extern "C" {
 #endif
 
-/* The most scalars of a text, and of a word after trimming. */
+/* The most scalars of a text, and of a word after trimming. Trimming strips Unicode's White_Space at both edges of a
+ * word: U+0009 to U+000D, 0020, 0085, 00A0, 1680, 2000 to 200A, 2028, 2029, 202F, 205F and 3000, 25 characters and no
+ * other. So 255 letters with a no-break space behind them are a word. Inside a word they stay, and a cut knows only
+ * U+0020 as a space. */
 #define FETLOCKICE_MAX_SCALARS 65535
 #define FETLOCKICE_MAX_WORD 255
 
 /* A pool has eight cells to a node. Nodes in use are the root and one for each distinct non-empty prefix of the words
  * held. Cells after the last whole node, and after this many nodes, are never read or written. A call on a dictionary
  * reads the rest of the pool, to see that it is a dictionary. To give a pool more nodes, lend it with cells of 0
- * behind its last whole node. */
+ * behind its last whole node. No word of a dictionary starts or ends with a trimmed character. A pool with such a word,
+ * say one kept from a release that trimmed fewer characters, is refused with 4. */
 #define FETLOCKICE_NODE_CELLS 8
 #define FETLOCKICE_MAX_NODES 1048576
 
@@ -78,12 +82,12 @@ uint32_t fetlockice_clusters(const uint32_t *text, size_t text_len, uint32_t *ou
  * eight cells. */
 uint32_t fetlockice_fresh(uint32_t *pool, size_t pool_len, size_t *count, size_t *detail);
 
-/* Adds the word, trimmed of U+0009 to U+000D and U+0020 at both edges. *count: 1 if the set of words changed, else 0. A
- * word that is held, or is empty after trimming, changes nothing. Refusals 2, 3, 4, 7, 8. */
+/* Adds the word, trimmed. *count: 1 if the set of words changed, else 0. A word that is held, or is empty after
+ * trimming, changes nothing. Refusals 2, 3, 4, 7, 8. */
 uint32_t fetlockice_add(uint32_t *pool, size_t pool_len, const uint32_t *word, size_t word_len, size_t *count,
                         size_t *detail);
 
-/* Removes the word, trimmed as above. *count: 1 if the set of words changed, else 0. Nodes that are freed serve again.
+/* Removes the word, trimmed. *count: 1 if the set of words changed, else 0. Nodes that are freed serve again.
  * Refusals 2, 3, 4, 7. */
 uint32_t fetlockice_remove(uint32_t *pool, size_t pool_len, const uint32_t *word, size_t word_len, size_t *count,
                            size_t *detail);

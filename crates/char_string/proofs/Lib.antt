@@ -1,4 +1,5 @@
 pub mod Texts
 pub mod Pairs
 pub mod Trimming
+pub mod WhiteSpace
 pub mod Views

@@ -9,9 +9,21 @@ use Rattle.char_string.specs.declared.parts.Span.{Span}
 use Rattle.char_string.specs.declared.blanks.Found.{Found}
 use Rattle.char_string.specs.declared.blanks.Found.the-variants.{At, Nothing}
 
--- Trimming strips U+0009 to U+000D and U+0020 at both edges.
+-- Trimming strips, at both edges, U+0009..000D, 0020, 0085, 00A0, 1680, 2000..200A, 2028, 2029,
+-- 202F, 205F and 3000: the 25 characters of Unicode's White_Space.
 unfoldable pub isTrimmed : ℕ → Bool
-isTrimmed x = within 0x9 0xD x || eqb x 0x20
+isTrimmed x =
+    within 0x9 0xD x
+    || eqb x 0x20
+    || eqb x 0x85
+    || eqb x 0xA0
+    || eqb x 0x1680
+    || within 0x2000 0x200A x
+    || eqb x 0x2028
+    || eqb x 0x2029
+    || eqb x 0x202F
+    || eqb x 0x205F
+    || eqb x 0x3000
 
 abbrev pub stays : ℕ → Bool
 stays x = not (isTrimmed x)

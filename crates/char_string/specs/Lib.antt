@@ -1,3 +1,4 @@
 pub mod Scalars
 pub mod Parts
 pub mod Blanks
+pub mod WhiteSpace

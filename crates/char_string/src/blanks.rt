@@ -12,16 +12,20 @@ pub enum Found {
     Nothing,
 }
 
+// Unicode's White_Space, as 02 lists it. The scripts above are told at once.
 pub fn is_trimmed(x: u32) -> bool
     ensures { λ r. ⌜ r ≡ isTrimmed x ⌝ }
 {
-    if x < 0x9 {
+    if 0x3000 < x {
         return false;
     }
-    if x <= 0xD {
-        return true;
+    match x {
+        0x9..=0xD => true,
+        0x20 | 0x85 | 0xA0 | 0x1680 => true,
+        0x2000..=0x200A => true,
+        0x2028 | 0x2029 | 0x202F | 0x205F | 0x3000 => true,
+        _ => false,
     }
-    x == 0x20
 }
 
 fn trim_start(word: &[u32]) -> usize

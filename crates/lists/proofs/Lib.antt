@@ -1,4 +1,5 @@
 pub mod Table
 pub mod Rows
 pub mod Scans
+pub mod Ranges
 pub mod Parts

@@ -8,7 +8,8 @@ use lib.ListN.{length, getD}
 use Rattle.tcc_rules.specs.Patterns.{holds}
 use Rattle.tcc_rules.specs.Rules.{upTo, consonant, leading}
 use Rattle.tcc_rules.specs.Clusters.{clusterEnd}
-use Rattle.tcc_rules.proofs.Known.{not-both, or-both, within-yes, within-no}
+use Rattle.lists.proofs.Ranges.{within-yes, within-no}
+use Rattle.tcc_rules.proofs.Known.{not-both, or-both}
 use Rattle.tcc_rules.proofs.Classes.{all, none-of}
 use Rattle.tcc_rules.proofs.Steps.{end-fail}
 use Rattle.tcc_rules.proofs.Paths.{arrive}

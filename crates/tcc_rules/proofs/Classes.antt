@@ -10,7 +10,7 @@ use borrow.Author.Tests.{eqb-true, eqb-false, le-leb}
 use Rattle.lists.specs.Scans.{within}
 use Rattle.tcc_rules.specs.Patterns.{Range, holds}
 use Rattle.tcc_rules.specs.Rules.{is, upTo}
-use Rattle.tcc_rules.proofs.Known.{within-yes, within-no}
+use Rattle.lists.proofs.Ranges.{within-yes, within-no}
 
 -- past the end
 pub nothing : (text : List ℕ) (p : ℕ) → length text ≤ p → 0 ≡ getD text p 0

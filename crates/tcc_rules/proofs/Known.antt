@@ -6,8 +6,9 @@ use mathlib.Core.Bool.{Bool, true, false, not, _&&_, _||_}
 use mathlib.Core.List.{List, [], _∷_}
 use lib.ListN.{length, getD, List·getD-eq-default}
 use lib.Dec.{T, ltb, leb}
-use borrow.Author.Tests.{ltb-true, ltb-false, leb-true, le-leb, lt-ltb, le-ltb}
+use borrow.Author.Tests.{ltb-true, ltb-false, leb-true, lt-ltb, le-ltb}
 use Rattle.lists.specs.Scans.{within}
+use Rattle.lists.proofs.Ranges.{within-yes, within-no}
 use Rattle.tcc_rules.specs.Patterns.{Range, holds, holdsAt}
 use Rattle.tcc_rules.specs.inner.Optional.{Known, exact, among, Fact}
 
@@ -66,21 +67,11 @@ or-right false b h = h
 
 -- ---- ranges
 
-pub within-yes : (lo hi x : ℕ) → lo ≤ x → x ≤ hi → within lo hi x ≡ true
-within-yes lo hi x l h = simp (le-leb lo x l, le-leb x hi h)
-
-pub within-low : (lo hi x : ℕ) → within lo hi x ≡ true → lo ≤ x
+within-low : (lo hi x : ℕ) → within lo hi x ≡ true → lo ≤ x
 within-low lo hi x h = leb-true lo x (and-left (leb lo x) (leb x hi) h)
 
-pub within-high : (lo hi x : ℕ) → within lo hi x ≡ true → x ≤ hi
+within-high : (lo hi x : ℕ) → within lo hi x ≡ true → x ≤ hi
 within-high lo hi x h = leb-true x hi (and-right (leb lo x) (leb x hi) h)
-
-pub within-no : (lo hi x : ℕ) → (lo ≤ x → x ≤ hi → ⊥) → within lo hi x ≡ false
-within-no lo hi x f = go (within lo hi x) refl
-  where
-    go : (b : Bool) → within lo hi x ≡ b → within lo hi x ≡ false
-    go true e = absurd (f (within-low lo hi x e) (within-high lo hi x e))
-    go false e = e
 
 -- the range lies in one of the class
 abbrev inside : Range → List Range → Bool

@@ -18,7 +18,7 @@ use test_lines::read_cells;
 use test_lines::read_input;
 use test_lines::tail;
 
-const INPUT: usize = 262144;
+const INPUT: usize = 294912;
 
 const POOL: usize = 65536;
 

@@ -12,7 +12,8 @@ use Rattle.lists.specs.Scans.{within}
 use Rattle.lists.proofs.Scans.{leading-all, leading-yes, leading-nil}
 use Rattle.char_string.specs.Scalars.{isScalar, firstNonScalar}
 use Rattle.utf8.specs.Utf8.{_‥_, fits, isSequence, scalarOf, bytesOf, encode, Utf8, empty, next}
-use Rattle.utf8.proofs.FirstBytes.{Third, e0, e1, ed, ee, Fourth, f0, f1, f4, low, high, trail, Kind, shut, one, two, three, four, kind-of, inside}
+use Rattle.lists.proofs.Ranges.{within-yes}
+use Rattle.utf8.proofs.FirstBytes.{Third, e0, e1, ed, ee, Fourth, f0, f1, f4, low, high, trail, Kind, shut, one, two, three, four, kind-of}
 use Rattle.utf8.proofs.Sizes.{third-range, fourth-range}
 use Rattle.theorems_unicode.proofs.Standard.{no, true-is, is-true, not-empty}
 
@@ -152,7 +153,7 @@ spelled-2 v a e (shut (high x) c) h k = absurd (omega arith)
 spelled-2 v a e (one x o) h k = absurd (omega arith)
 spelled-2 v a e (two x y o) h k =
     record {
-      sequence = o .fit _ ∙ simp (inside 0x80 0xBF (0x80 + v % 64) (omega arith) (omega arith));
+      sequence = o .fit _ ∙ simp (within-yes 0x80 0xBF (0x80 + v % 64) (omega arith) (omega arith));
       value = omega arith;
     }
 spelled-2 v a e (three r o) h k = let z = third-range r in absurd (omega arith)
@@ -181,7 +182,7 @@ spelled-3 v a e (two x y o) h k s = absurd (omega arith)
 spelled-3 v a e (three {lo} {hi} r o) h k s =
     let i = third-in v a lo hi e r h k s in
     record {
-      sequence = o .fit _ ∙ simp (inside lo hi (0x80 + v / 64 % 64) (i .0) (i .1), inside 0x80 0xBF (0x80 + v % 64) (omega arith) (omega arith));
+      sequence = o .fit _ ∙ simp (within-yes lo hi (0x80 + v / 64 % 64) (i .0) (i .1), within-yes 0x80 0xBF (0x80 + v % 64) (omega arith) (omega arith));
       value = let z = third-range r in omega arith;
     }
 spelled-3 v a e (four r o) h k s = let z = fourth-range r in absurd (omega arith)
@@ -220,7 +221,7 @@ spelled-4 v a e (three r o) h k = let z = third-range r in absurd (omega arith)
 spelled-4 v a e (four {lo} {hi} r o) h k =
     let i = fourth-in v a lo hi e r h k in
     record {
-      sequence = o .fit _ ∙ simp (inside lo hi (0x80 + v / 4096 % 64) (i .0) (i .1), inside 0x80 0xBF (0x80 + v / 64 % 64) (omega arith) (omega arith), inside 0x80 0xBF (0x80 + v % 64) (omega arith) (omega arith));
+      sequence = o .fit _ ∙ simp (within-yes lo hi (0x80 + v / 4096 % 64) (i .0) (i .1), within-yes 0x80 0xBF (0x80 + v / 64 % 64) (omega arith) (omega arith), within-yes 0x80 0xBF (0x80 + v % 64) (omega arith) (omega arith));
       value = value-4 v a e k;
     }
 

@@ -5,11 +5,12 @@ use mathlib.Core.List.{List}
 use Prim.Native.Nat.{ℕ, zero, suc, _+_, _-_, _*_, _≤_, _<_}
 use native.Mathlib.Omega.{arith}
 use native.Mathlib.Decide.{decLt}
-use borrow.Author.Tests.{lt-ltb, le-ltb, le-leb, lt-leb, ne-eqb, eqb-true, eqb-false, not-true, not-false, leb-true, leb-false}
+use borrow.Author.Tests.{lt-ltb, le-ltb, eqb-true, eqb-false, not-true, not-false, leb-true, leb-false}
 use lib.Dec.{eqb, leb}
 use lib.ListN.{length, getD}
 use Rattle.char_string.specs.Scalars.{isScalar}
 use Rattle.char_string.specs.Blanks.{isTrimmed}
+use Rattle.char_string.proofs.WhiteSpace.{stays-between}
 use Rattle.trie_pool.specs.Cells.{scalarAt, firstAt, countAt, markAt, used}
 use Rattle.trie_pool.specs.inner.Sound.{Shaped, Rising, Sound}
 use Rattle.trie_pool.specs.Levels.{hop, levelEnd}
@@ -53,8 +54,7 @@ unfolding isScalar
 thai-legal c l h = simp (lt-ltb c 0xD800 (omega arith))
 
 thai-stays : (c : ℕ) → 0xE00 ≤ c → c ≤ 0xE7F → isTrimmed c ≡ false
-unfolding isTrimmed
-thai-stays c l h = simp (le-leb 0x9 c (omega arith), lt-leb c 0xD (omega arith), ne-eqb c 0x20 (λ e. omega arith))
+thai-stays c l h = stays-between c (omega arith) (omega arith)
 
 module _ (c k m z : ℕ) (zero′ : z ≡ 0) (mark : m ≤ 1) (leaf : 1 ≤ k + m) where
   pub inner-thai : (0xE00 ≤ c) × (c ≤ 0xE7F) → Inner c k m z

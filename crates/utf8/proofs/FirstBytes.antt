@@ -2,27 +2,14 @@
 use Prim.Native.Nat.{ℕ, suc, _≤_, _<_}
 use native.Mathlib.Omega.{arith}
 use mathlib.Core.Path.{_≡_, refl, _∙_}
-use mathlib.Core.Bool.{Bool, true, false, cond, _&&_, _||_}
+use mathlib.Core.Bool.{Bool, true, false, cond, _||_}
 use mathlib.Core.List.{List, [], _∷_}
 use lib.ListN.{length}
 use lib.Dec.{ltb}
-use borrow.Author.Tests.{le-leb, lt-leb, ltb-true, ltb-false}
-use Rattle.lists.specs.Scans.{within}
+use borrow.Author.Tests.{ltb-true, ltb-false}
+use Rattle.lists.proofs.Ranges.{within-yes, within-no}
 use Rattle.utf8.specs.Utf8.{Range, _‥_, table37, fits, fitsAny, isSequence}
 use Rattle.utf8.specs.Decoding.{packed, leadIn, leadOf, starts, sizeIn, sizeOf}
-
-below : (lo hi b : ℕ) → b < lo → within lo hi b ≡ false
-below lo hi b h = simp (lt-leb _ _ h)
-
-above : (lo hi b : ℕ) → hi < b → within lo hi b ≡ false
-above lo hi b h = go (lib.Dec.leb lo b) (lt-leb _ _ h)
-  where
-    go : (t : Bool) → lib.Dec.leb b hi ≡ false → (t && lib.Dec.leb b hi) ≡ false
-    go true e = e
-    go false e = refl
-
-pub inside : (lo hi b : ℕ) → lo ≤ b → b ≤ hi → within lo hi b ≡ true
-inside lo hi b h k = simp (le-leb _ _ h, le-leb _ _ k)
 
 -- what the table says of the byte is what these rows of it say
 record Seen (rows : List (List Range)) (b : ℕ) : Type 0 where
@@ -36,7 +23,7 @@ seen-all b = record { size = λ s. refl; fit = λ q. refl; lead = refl }
 
 seen-past : {lo hi b : ℕ} {row : List Range} {rows : List (List Range)} → hi < b → Seen ((lo ‥ hi ∷ row) ∷ rows) b → Seen rows b
 seen-past {lo} {hi} {b} h v =
-    let e = above lo hi b h in
+    let e = within-no lo hi b (λ l k. omega arith) in
     record { size = λ s. v .size s ∙ simp e; fit = λ q. v .fit q ∙ simp e; lead = v .lead ∙ simp e }
 
 -- no row of these is the byte's
@@ -50,7 +37,7 @@ ahead-none b = record { size = λ s. refl; fit = λ q. refl; lead = refl }
 
 ahead-more : (lo hi : ℕ) (row : List Range) {b : ℕ} {rows : List (List Range)} → b < lo → Ahead rows b → Ahead ((lo ‥ hi ∷ row) ∷ rows) b
 ahead-more lo hi row {b} h a =
-    let e = below lo hi b h in
+    let e = within-no lo hi b (λ l k. omega arith) in
     record { size = λ s. simp e (a .size s); fit = λ q. simp e (a .fit q); lead = simp e (a .lead) }
 
 -- the byte opens sequences whose later bytes are in these ranges
@@ -69,7 +56,7 @@ packed-same a b (r ∷ row) = refl
 
 opened : {lo hi b : ℕ} {row : List Range} {rows : List (List Range)} → lo ≤ b → b ≤ hi → Seen ((lo ‥ hi ∷ row) ∷ rows) b → Ahead rows b → Opens b row
 opened {lo} {hi} {b} {row} h k v a =
-    let e = inside lo hi b h k in
+    let e = within-yes lo hi b h k in
     record {
       size = λ s. v .size s ∙ simp (e, a .size s);
       fit = λ q. v .fit q ∙ simp (e, a .fit q) (or-false (fits row q));

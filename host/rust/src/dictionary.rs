@@ -45,7 +45,7 @@ impl Dictionary {
         &self.pool
     }
 
-    /// Adds a word, trimmed at both edges; true if the set changed. Refused with 2, 7, and 8 where the pool can't grow.
+    /// Adds a word, trimmed as `str::trim` does; true if the set changed. Refused with 2, 7, and 8 where the pool can't grow.
     pub fn add(&mut self, word: &str) -> Result<bool, Error> {
         let word = scalars(word)?;
         loop {
@@ -56,7 +56,7 @@ impl Dictionary {
         }
     }
 
-    /// Removes a word, trimmed at both edges; true if the set changed. Refused with 2 and 7.
+    /// Removes a word, trimmed as `str::trim` does; true if the set changed. Refused with 2 and 7.
     pub fn remove(&mut self, word: &str) -> Result<bool, Error> {
         Ok(ffi::remove(&mut self.pool, &scalars(word)?)? == 1)
     }

@@ -70,17 +70,41 @@ fn a_taken_over_pool_with_a_part_node_grows() {
 #[test]
 fn a_word_is_trimmed_and_at_most_255_long() {
     let mut words = Dictionary::new();
-    assert_eq!(words.add(&format!(" {}\n", "ก".repeat(255))), Ok(true));
+    assert_eq!(words.add(&format!(" {}\u{a0}\n", "ก".repeat(255))), Ok(true));
     assert_eq!(words.add(&"ก".repeat(256)), Err(Error::WordTooLong(256)));
     assert_eq!(words.add(&"ก".repeat(65_536)), Err(Error::TooManyScalars(65_536)));
-    assert_eq!(words.add("\t "), Ok(false));
+    assert_eq!(words.add("\t \u{3000}"), Ok(false));
     assert_eq!(words.len(), 1);
+}
+
+#[test]
+fn each_character_is_trimmed_as_by_the_standard_library() {
+    let mut words = Dictionary::with_nodes(3);
+    for c in '\0'..=char::MAX {
+        let kept = Ok(!c.is_whitespace());
+        assert_eq!((words.add(&c.to_string()), words.remove(&c.to_string())), (kept, kept), "{c:?}");
+    }
+    for c in ('\0'..=char::MAX).filter(|c| c.is_whitespace()) {
+        let word = format!("{c}a{c}");
+        assert_eq!((words.add(&word), words.contains(&word), words.remove("a")), (Ok(true), Ok(false), Ok(true)), "{c:?}");
+    }
+    assert!(words.is_empty());
+}
+
+#[test]
+fn a_pool_with_a_no_break_space_at_a_word_s_edge_is_refused() {
+    let mut words = Dictionary::with_nodes(3);
+    assert_eq!(words.add("กa"), Ok(true));
+    let mut pool = words.pool().to_vec();
+    assert_eq!(pool[16], 'a' as u32);
+    pool[16] = 0xA0;
+    assert_eq!(Dictionary::from_pool(pool), Err(Error::NotADictionary));
 }
 
 /// A pool of a node for each of the first characters that a word may start with, as many as there may be, and later cells.
 fn full_pool() -> Vec<u32> {
     let mut pool = vec![0, 1, MAX_NODES as u32 - 1, 0, MAX_NODES as u32, 0, 0, 0];
-    let letters = (0..=0x10FFFF).filter(|&cell| char::from_u32(cell).is_some() && !matches!(cell, 9..=13 | 32));
+    let letters = (0..=0x10FFFF).filter(|&cell| char::from_u32(cell).is_some_and(|c| !c.is_whitespace()));
     for letter in letters.take(MAX_NODES - 1) {
         pool.extend([letter, MAX_NODES as u32, 0, 1, 0, 0, 0, 0]);
     }
