@@ -1,9 +1,9 @@
 -- Assumes nothing.
 use native.Mathlib.Omega.{arith}
-use Rattle.newmm.proofs.Calls.{refused-early, short, refused-scratch, accepted-early}
+use Rattle.newmm_answers.proofs.Checks.{refused-early, short, refused-scratch, accepted-early}
 use borrow.Author.Needs.{needs}
-use Rattle.newmm.proofs.check_cut.Statement.{statement}
-use Rattle.newmm.proofs.check_cut.Tie as tie
+use Rattle.newmm_answers.proofs.check_cut.Statement.{statement}
+use Rattle.newmm_answers.proofs.check_cut.Tie as tie
 
 check-requires : tie.Need-check-requires
 check-requires c κs = search needs
