@@ -1,5 +1,5 @@
--- What the functions ask: the cells of a dictionary, the flags of the text's cluster ends, and a
--- place of the text.
+-- What a function at a place of a text asks: the cells of a dictionary, the flags of the text's
+-- cluster ends, and the place.
 use Prim.Native.Nat.{ℕ, _<_}
 use mathlib.Core.Path.{_≡_}
 use mathlib.Core.List.{List}
