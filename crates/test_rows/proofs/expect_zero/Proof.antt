@@ -3,14 +3,14 @@ use Prim.Native.Nat.{_-_}
 use mathlib.Core.Path.{_≡_, refl}
 use lib.ListN.{length}
 use borrow.Author.Needs.{needs}
-use Rattle.test_cut.proofs.expect_leftovers.Statement.{statement}
-use Rattle.test_cut.proofs.expect_leftovers.Tie as tie
+use Rattle.test_rows.proofs.expect_zero.Statement.{statement}
+use Rattle.test_rows.proofs.expect_zero.Tie as tie
 
 abbrev Inv-loop : tie.InvT-loop
-Inv-loop row start k₀ t4 k = k ≡ k
+Inv-loop row k₀ t3 k = k ≡ k
 
 abbrev μ-loop : tie.MeasureT-loop
-μ-loop row start k₀ t4 k = length row - k
+μ-loop row k₀ t3 k = length row - k
 
 loop-holds : tie.Need-loop-holds Inv-loop μ-loop
 loop-holds c = refl
@@ -20,9 +20,6 @@ mul-if1 c = search needs
 
 shared-slice-read-if1 : tie.Need-shared-slice-read-if1 Inv-loop μ-loop
 shared-slice-read-if1 c = search needs
-
-leftover-requires : tie.Need-leftover-requires Inv-loop μ-loop
-leftover-requires c κs = search needs
 
 slice-aggregate-print : tie.Need-slice-aggregate-print Inv-loop μ-loop
 slice-aggregate-print c = search needs
@@ -45,8 +42,8 @@ loop-again c = refl
 returns-2 : tie.Need-returns-2 Inv-loop μ-loop
 returns-2 c = search needs
 
-pub expect-leftovers-spec : {M : Type 1} → statement M
-expect-leftovers-spec =
+pub expect-zero-spec : {M : Type 1} → statement M
+expect-zero-spec =
     tie.close
     (tie.spec
     Inv-loop
@@ -54,7 +51,6 @@ expect-leftovers-spec =
     loop-holds
     mul-if1
     shared-slice-read-if1
-    leftover-requires
     slice-aggregate-print
     print-requires
     returns

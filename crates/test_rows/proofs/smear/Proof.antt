@@ -4,8 +4,8 @@ use mathlib.Core.Path.{_≡_, refl}
 use native.Mathlib.Omega.{arith}
 use lib.ListN.{length, length-set}
 use borrow.Author.Needs.{needs}
-use Rattle.test_cut.proofs.smear.Statement.{statement}
-use Rattle.test_cut.proofs.smear.Tie as tie
+use Rattle.test_rows.proofs.smear.Statement.{statement}
+use Rattle.test_rows.proofs.smear.Tie as tie
 
 abbrev Inv-loop : tie.InvT-loop
 Inv-loop row₀ k₀ row k = length row ≡ length row₀
