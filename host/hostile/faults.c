@@ -100,7 +100,7 @@ uint32_t __wrap_fetlockice_cut_safe(CUT) {
     return number;
 }
 
-/* 13: a claim that stops short is right; 14: a cell behind the claim is read; 15: the token after the wrong one is named */
+/* 13: a claim that stops short is right; 14: a cell behind the claim is read; 15: the token behind is named */
 uint32_t __wrap_fetlockice_check_claim(CLAIM) {
     if (FAULT == 14) (void)*(const volatile uint32_t *)(claim + ends);
     uint32_t number = __real_fetlockice_check_claim(CLAIM_WITH);

@@ -1,4 +1,5 @@
--- Telling the answer to a claim whose case is known, and one that the library gave. Assumes nothing.
+-- Telling the answer to a claim whose case is known, and one that the library gave. Assumes
+-- nothing.
 use Prim.Native.Nat.{ℕ}
 use mathlib.Core.Path.{_≡_, sym, ap, _∙_}
 use Rattle.refusal.specs.declared.Refusal.{Refusal}

@@ -19,7 +19,8 @@ pub record ToldClaim : Type 0 where
 abbrev pub toldClaim : (number right token detail : ℕ) → ToldClaim
 toldClaim number right token detail = record { number = number; right = right; token = token; detail = detail }
 
--- Right is 1, and token 0; right is 0, and token the first that is wrong; a refused call has neither.
+-- Right is 1, and token 0; or right is 0, and token the first that is wrong. A refused call has
+-- neither.
 abbrev pub tellsClaim : ClaimAnswer → ToldClaim
 tellsClaim Right = toldClaim 0 1 0 0
 tellsClaim (Wrong k) = toldClaim 0 0 k 0

@@ -48,7 +48,8 @@ fn token_right(text: &[u32], pool: &[u32], flags: &[u32], b: usize, e: usize) ->
 // Goes over the tokens up to the first that is wrong.
 fn judge(text: &[u32], pool: &[u32], flags: &[u32], claimed: &[u32]) -> ClaimAnswer
     requires { ⌜ Judges (now text) (now pool) (now flags) ⌝ }
-    ensures { λ r. ⌜ r ≡ verdictTold (verdict (givenBy (now (text .entry)) (now (pool .entry))) (now (claimed .entry))) ⌝ }
+    ensures { λ r. ⌜ r ≡
+        verdictTold (verdict (givenBy (now (text .entry)) (now (pool .entry))) (now (claimed .entry))) ⌝ }
 {
     let mut b = 0;
     let mut k = 0;
@@ -69,7 +70,8 @@ fn judge(text: &[u32], pool: &[u32], flags: &[u32], claimed: &[u32]) -> ClaimAns
 // Checks a claim that none of the refusals 2 to 5 is due to.
 fn claim_checked(text: &[u32], pool: &[u32], claimed: &[u32], scratch: &mut [u32]) -> ClaimAnswer
     requires { ⌜ Passes (now text) (now pool) (length (now scratch)) ⌝ }
-    ensures { λ r. ⌜ Claims (claim (now (text .entry)) (now (pool .entry)) (now (claimed .entry)) (now (scratch .entry)))
+    ensures { λ r. ⌜ Claims
+        (claim (now (text .entry)) (now (pool .entry)) (now (claimed .entry)) (now (scratch .entry)))
         r (now (scratch .exit)) ⌝ }
 {
     let cells = NODE * capacity(pool.len());
@@ -84,7 +86,8 @@ fn claim_checked(text: &[u32], pool: &[u32], claimed: &[u32], scratch: &mut [u32
 // Checks ends that are claimed for the plain cut of a text by the words of a pool: right, or the
 // first token that is not. Each token is walked once. Refusals 2 to 5.
 pub fn check_claim(text: &[u32], pool: &[u32], claimed: &[u32], scratch: &mut [u32]) -> ClaimAnswer
-    ensures { λ r. ⌜ Claims (claim (now (text .entry)) (now (pool .entry)) (now (claimed .entry)) (now (scratch .entry)))
+    ensures { λ r. ⌜ Claims
+        (claim (now (text .entry)) (now (pool .entry)) (now (claimed .entry)) (now (scratch .entry)))
         r (now (scratch .exit)) ⌝ }
 {
     let checked = check_cut(text, pool, scratch.len());

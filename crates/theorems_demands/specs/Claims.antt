@@ -85,8 +85,8 @@ SameVerdict a b =
     → scratchFor (length (b .text)) ≤ length (b .scratch)
     → claimAnswerOf b ≡ verdictTold v
 
--- Equal words, equal verdict: for any two pools that pass and hold the same words, however they came
--- about.
+-- Equal words, equal verdict: for any two pools that pass and hold the same words, however they
+-- came about.
 abbrev pub SameWordsSameVerdict : Type 0
 SameWordsSameVerdict =
     (a b : Claim) (v w : Words)

@@ -29,7 +29,8 @@ pub struct Cut<'t> {
 /// What the check of a claim finds.
 #[derive(Clone, Copy, Debug, PartialEq, Eq, Hash)]
 pub enum Verdict {
-    /// Every token is a word that ends at a cluster end, or the span of the non-dictionary rule where no such word starts.
+    /// Each token is a word that ends at a cluster end, or the span of the non-dictionary rule where no such word
+    /// starts.
     Right,
     /// The first token that is not so, counted from 0.
     Wrong(usize),
@@ -56,8 +57,8 @@ impl Cutter {
         Ok(Cut { tokens: tokens(text, &self.ends[..count]), edges })
     }
 
-    /// Checks ends, in characters, that another program gives for the plain cut of a text. Ours are right; others may be,
-    /// too. Refused with 2.
+    /// Checks ends, in characters, that another program gives for the plain cut of a text. Ours are right; others may
+    /// be, too. Refused with 2.
     pub fn check_claim(&mut self, dictionary: &Dictionary, text: &str, ends: &[usize]) -> Result<Verdict, Error> {
         // an end that no cell holds is over the text's length, as is the largest that one holds
         let claim: Vec<u32> = ends.iter().map(|&end| u32::try_from(end).unwrap_or(u32::MAX)).collect();
