@@ -10,6 +10,9 @@
 /* One check of the pool, and the search for words at every place of the text; answers their number: crates/bench_prefix_search. */
 size_t search_places(const uint32_t *pool, size_t pool_len, const uint32_t *text, size_t text_len, uint32_t *out, size_t out_len);
 
+/* An earlier library, linked as the side "before", may lack it. */
+#pragma weak fetlockice_check_claim
+
 enum op { DECODE, CLUSTERS, PREFIX, PLACES, PLAIN, SAFE, CUT, CLAIM, CHECK, READ, READ_WIDE };
 static const char *const names[] = {"decode", "clusters", "prefix", "places", "plain",    "safe",
                                     "cut",    "claim",    "check",  "read",   "read-wide"};
