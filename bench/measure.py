@@ -133,6 +133,7 @@ def measure_rows():
     wanted += [(side, (op, texts, "")) for side, op in OTHERS for texts in (LINES, LONG)]
     wanted += [("ours", (op, LONG, words)) for words in ("small", "all") for op in ("check", "read", "read-wide")]
     wanted += [("ours", ("check", texts, words)) for texts, words in FIRSTS]
+    wanted += [("ours", (op, LONG, words)) for words in ("small", "all") for op in ("cut", "claim")]
     if os.path.exists(DRIVERS["before"]):
         wanted += [("before", (op, LONG, "all")) for op in ("places", "check")]
     times = rounds(wanted)
@@ -145,7 +146,7 @@ def measure_rows():
 
 
 def growth():
-    """The cost of plain cutting by length: ordinary text, and the three worst cases."""
+    """The cost of plain cutting by length, and of checking its ends: ordinary text, and the three worst cases."""
     found = []
     for case, words in CASES:
         rust = True
@@ -156,6 +157,7 @@ def growth():
             row = {"case": case, "words": words, "n": n, "instructions": instructions_of("ours", *what)}
             row["ours"] = min(time_of("ours", *what) for _ in range(ROUNDS))
             row["rust"] = min(time_of("rust", *what) for _ in range(ROUNDS)) if rust else None
+            row["claim"] = instructions_of("ours", "claim", *what[1:])
             found.append(row)
     return found
 

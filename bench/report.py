@@ -156,6 +156,26 @@ def of_case(r, case, words):
     return {row["n"]: row for row in r.growth if (row["case"], row["words"]) == (case, words)}
 
 
+def claims(r):
+    """A claim of our own ends against the plain cut that gives them, both on scalars and without the check of the pool."""
+    head = ["words", "cut, ns", "instr.", "claim, ns", "instr.", "claim / cut", "by instr."]
+    per, rows = r.sizes[LONG]["characters"], []
+    for words in ("small", "all"):
+        costs = [[of("ours", op, LONG, words) - of("ours", "check", LONG, words) for of in (r.time, r.count)] for op in ("cut", "claim")]
+        shown = [ns(x / per) for cost in costs for x in cost]
+        rows.append([r.words(words)] + shown + ["%.2f" % (costs[1][k] / costs[0][k]) for k in (0, 1)])
+    return table(head, rows)
+
+
+def claims_grown(r):
+    """The instructions a character of a claim of our own ends, by length."""
+    rows = []
+    for row in r.growth:
+        label = WORST.get(row["case"], "ordinary text, %s words" % r.words(row["words"]))
+        rows.append([label, "{:,}".format(row["n"]), ns(row["instructions"] / row["n"]), ns(row["claim"] / row["n"])])
+    return table(["text, words", "n", "plain, from bytes to ends", "claim, on scalars"], rows)
+
+
 def growth(r):
     ordinary = of_case(r, "ordinary", "all")[65535]["ours"] / 65535
     head = ["text, words", "n", "ours ns", "instr.", "times ordinary text", "Rust ns", "Rust / ours"]
@@ -232,6 +252,9 @@ def limits(r):
     for words in ("all", "small"):
         ratios = [of("ours", "check", LONG, words) / of("ours", "read", LONG, words) for of in (r.time, r.count)]
         yield row("the check of the pool against a plain read of its cells, %s words" % r.words(words), 3, ratios)
+    for words in ("all", "small"):
+        ratios = [(of("ours", "claim", LONG, words) - of("ours", "check", LONG, words)) / (of("ours", "cut", LONG, words) - of("ours", "check", LONG, words)) for of in (r.time, r.count)]
+        yield row("a claim of our own ends against the plain cut, the check left out, %s words" % r.words(words), 1, ratios)
     firsts = {
         "prefix lookup, 26 Latin and 4,974 CJK first characters more, against %s words" % r.words("all"): ((LONG, "many"), (LONG, "all")),
         "prefix lookup, 20,000 evenly spaced first characters against 200": [("spaced-%d.txt" % n, "spaced-%d" % n) for n in (20000, 200)],
@@ -262,6 +285,7 @@ def sections(r):
     yield "## Ours and the Rust", both(r)
     yield "## libthai and ICU", others(r)
     yield "## The check of the pool", ["Refusal 4 costs one check in every call that is lent a pool.", "", *pools(r)]
+    yield "## Checking a claim", [*claims(r), "", "Instructions a character, the check of the pool included:", "", *claims_grown(r)]
     yield "## Loading and memory", ["Ours adds the words one by one. The pool is as long as its nodes need.", "", *memory(r)]
     yield "## Growth", ["![cost a character against the text's length](cost.svg)", "", *growth(r)]
 

@@ -10,12 +10,16 @@
 /* One check of the pool, and the search for words at every place of the text; answers their number: crates/bench_prefix_search. */
 size_t search_places(const uint32_t *pool, size_t pool_len, const uint32_t *text, size_t text_len, uint32_t *out, size_t out_len);
 
-enum op { DECODE, CLUSTERS, PREFIX, PLACES, PLAIN, SAFE, CHECK, READ, READ_WIDE };
-static const char *const names[] = {"decode", "clusters", "prefix", "places", "plain", "safe", "check", "read", "read-wide"};
+/* An earlier library, linked as the side "before", may lack it. */
+#pragma weak fetlockice_check_claim
+
+enum op { DECODE, CLUSTERS, PREFIX, PLACES, PLAIN, SAFE, CUT, CLAIM, CHECK, READ, READ_WIDE };
+static const char *const names[] = {"decode", "clusters", "prefix", "places", "plain",    "safe",
+                                    "cut",    "claim",    "check",  "read",   "read-wide"};
 
 static enum op op;
-static uint32_t *pool, *out, *scratch, *cells, **scalars;
-static size_t pool_len, *lengths;
+static uint32_t *pool, *out, *scratch, *cells, **scalars, **ends;
+static size_t pool_len, *lengths, *end_counts;
 static volatile uint32_t kept;
 
 static void accepted(uint32_t answer) {
@@ -38,6 +42,23 @@ static size_t cut(size_t i) {
         accepted(fetlockice_cut_safe(cells, n, pool, pool_len, out, n, scratch, FETLOCKICE_SCRATCH_CELLS(n), &count, &edges,
                                      &detail));
     return count;
+}
+
+/* The plain cut of scalars. */
+static size_t cut_scalars(size_t i, uint32_t *to) {
+    size_t n = lengths[i], count, edges, detail;
+    accepted(fetlockice_cut_plain(scalars[i], n, pool, pool_len, to, n, scratch, FETLOCKICE_SCRATCH_CELLS(n), &count, &edges,
+                                  &detail));
+    return count;
+}
+
+/* The check of these ends, which are right. */
+static size_t claim(size_t i) {
+    size_t n = lengths[i], right, token, detail;
+    accepted(fetlockice_check_claim(scalars[i], n, pool, pool_len, ends[i], end_counts[i], scratch, FETLOCKICE_SCRATCH_CELLS(n),
+                                    &right, &token, &detail));
+    if (!right) die("our own ends are not right");
+    return right;
 }
 
 /* An empty word is searched for in no time, so this is the check of the pool. */
@@ -70,6 +91,8 @@ static size_t answer(size_t i) {
     case PLACES: return search_places(pool, pool_len, scalars[i], lengths[i], out, lengths[i]);
     case PLAIN:
     case SAFE: return cut(i);
+    case CUT: return cut_scalars(i, out);
+    case CLAIM: return claim(i);
     case CHECK: return check();
     case READ: return read_cells();
     case READ_WIDE: return read_wide();
@@ -142,6 +165,16 @@ static void prepare(const char *path) {
     }
 }
 
+/* The ends that are claimed. */
+static void prepare_claims(void) {
+    ends = room(text_count * sizeof *ends);
+    end_counts = room(text_count * sizeof *end_counts);
+    for (size_t i = 0; i < text_count; i++) {
+        ends[i] = room(4 * lengths[i]);
+        end_counts[i] = cut_scalars(i, ends[i]);
+    }
+}
+
 int main(int argc, char **argv) {
     if ((argc == 5 || argc == 6) && !strcmp(argv[1], "load")) {
         load(argv[2], strtoul(argv[3], NULL, 10), argv[4], argv[5]);
@@ -152,6 +185,7 @@ int main(int argc, char **argv) {
         if (++op > READ_WIDE) die(argv[2]);
     prepare(argv[3]);
     if (argc > 4) pool = (uint32_t *)read_file(argv[4], &pool_len), pool_len /= 4;
+    if (op == CLAIM) prepare_claims();
     if (!strcmp(argv[1], "answers")) answers();
     else if (!strcmp(argv[1], "time")) printf("%.1f\n", best_ns());
     else bench_pass();

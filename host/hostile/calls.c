@@ -18,15 +18,17 @@ static const unsigned refusals[OPS] = {
     [WORD_COUNT] = 1 << 4,
     [CUT_PLAIN] = 1 << 2 | 1 << 3 | 1 << 4 | 1 << 5 | 1 << 6,
     [CUT_SAFE] = 1 << 2 | 1 << 3 | 1 << 4 | 1 << 5 | 1 << 6,
+    [CHECK_CLAIM] = 1 << 2 | 1 << 3 | 1 << 4 | 1 << 5,
 };
 
 int writes_output(enum op op) { return op == DECODE || op == CLUSTERS || op == PREFIX_LENGTHS || cuts(op); }
 int writes_pool(enum op op) { return op == FRESH || op == ADD || op == REMOVE; }
 int cuts(enum op op) { return op == CUT_PLAIN || op == CUT_SAFE; }
+int uses_scratch(enum op op) { return cuts(op) || op == CHECK_CLAIM; }
 
 /* The rows of one call. */
 struct rows {
-    struct row text, pool, out, scratch;
+    struct row text, pool, claim, out, scratch;
 };
 
 /* The numbers that a call sets, with guards between them. */
@@ -34,8 +36,8 @@ struct numbers {
     size_t guard0, count, guard1, edges, guard2, detail, guard3;
 };
 
-static uint32_t exported(const struct call *c, const void *text, uint32_t *pool, uint32_t *out, uint32_t *scratch,
-                         struct numbers *to) {
+static uint32_t exported(const struct call *c, const void *text, uint32_t *pool, const uint32_t *claim, uint32_t *out,
+                         uint32_t *scratch, struct numbers *to) {
     switch (c->op) {
     case DECODE: return fetlockice_decode(text, c->n, out, c->room, &to->count, &to->detail);
     case CLUSTERS: return fetlockice_clusters(text, c->n, out, c->room, &to->count, &to->detail);
@@ -49,6 +51,9 @@ static uint32_t exported(const struct call *c, const void *text, uint32_t *pool,
     case CUT_PLAIN:
         return fetlockice_cut_plain(text, c->n, pool, c->cells, out, c->room, scratch, c->scratch, &to->count,
                                     &to->edges, &to->detail);
+    case CHECK_CLAIM:
+        return fetlockice_check_claim(text, c->n, pool, c->cells, claim, c->ends, scratch, c->scratch, &to->count,
+                                      &to->edges, &to->detail);
     default:
         return fetlockice_cut_safe(text, c->n, pool, c->cells, out, c->room, scratch, c->scratch, &to->count,
                                    &to->edges, &to->detail);
@@ -64,11 +69,12 @@ static int all_zero(const struct row *row) {
 /* What every call keeps, by its answer. */
 static void check_rows(const struct call *c, const struct rows *rows, const struct answer *a) {
     check_kept(&rows->text, 0, "a text was written");
+    check_kept(&rows->claim, 0, "a claim was written");
     size_t pool_kept = writes_pool(c->op) && a->number == 0 ? 32 * nodes_of(c->cells) : 0;
     check_kept(&rows->pool, pool_kept, "a pool was written that must be kept");
     must(a->count <= c->room || !writes_output(c->op), "more was told of than the output has cells");
     check_kept(&rows->out, writes_output(c->op) ? 4 * a->count : 0, "an output was written that must be kept");
-    int untouched = !cuts(c->op) || (a->number >= 2 && a->number <= 5);
+    int untouched = !uses_scratch(c->op) || (a->number >= 2 && a->number <= 5);
     check_kept(&rows->scratch, untouched ? 0 : rows->scratch.size, "scratch was written that must be kept");
     must(untouched || all_zero(&rows->scratch), "scratch isn't all zero");
 }
@@ -78,10 +84,10 @@ static void check_numbers(const struct call *c, const struct answer *a, const st
     must(before->guard0 == after->guard0 && before->guard1 == after->guard1 && before->guard2 == after->guard2 &&
              before->guard3 == after->guard3,
          "a guard between two numbers was written");
-    must(cuts(c->op) || before->edges == after->edges, "edges were told of where none are");
+    must(uses_scratch(c->op) || before->edges == after->edges, "edges were told of where none are");
     must(a->number == 0 || (a->number < 32 && (refusals[c->op] >> a->number & 1) != 0),
          "a refusal that the function doesn't have");
-    must(a->number == 0 ? a->detail == 0 : a->count == 0 && (!cuts(c->op) || a->edges == 0),
+    must(a->number == 0 ? a->detail == 0 : a->count == 0 && (!uses_scratch(c->op) || a->edges == 0),
          "a number isn't 0 that must be");
 }
 
@@ -89,14 +95,15 @@ static struct answer call_once(const struct call *c, struct rows *rows) {
     size_t size = c->op == DECODE ? 1 : 4;
     void *text = lend(&rows->text, c->text, size * c->n);
     uint32_t *pool = lend(&rows->pool, c->op == FRESH ? NULL : c->pool, 4 * c->cells);
+    uint32_t *claim = lend(&rows->claim, c->claim, 4 * c->ends);
     uint32_t *out = lend(&rows->out, NULL, 4 * c->room);
     uint32_t *scratch = lend(&rows->scratch, NULL, 4 * c->scratch);
     struct numbers before = {draw(), draw(), draw(), draw(), draw(), draw(), draw()}, after = before;
     calls++;
     calls_of[c->op]++;
-    struct answer a = {.number = exported(c, text, pool, out, scratch, &after), .out = out, .pool = pool};
+    struct answer a = {.number = exported(c, text, pool, claim, out, scratch, &after), .out = out, .pool = pool};
     a.count = after.count;
-    a.edges = cuts(c->op) ? after.edges : 0;
+    a.edges = uses_scratch(c->op) ? after.edges : 0;
     a.detail = after.detail;
     check_numbers(c, &a, &before, &after);
     check_rows(c, rows, &a);

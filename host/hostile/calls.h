@@ -5,7 +5,20 @@
 #include <stddef.h>
 #include <stdint.h>
 
-enum op { DECODE, CLUSTERS, FRESH, ADD, REMOVE, CONTAINS, PREFIX_LENGTHS, WORD_COUNT, CUT_PLAIN, CUT_SAFE, OPS };
+enum op {
+    DECODE,
+    CLUSTERS,
+    FRESH,
+    ADD,
+    REMOVE,
+    CONTAINS,
+    PREFIX_LENGTHS,
+    WORD_COUNT,
+    CUT_PLAIN,
+    CUT_SAFE,
+    CHECK_CLAIM,
+    OPS
+};
 
 struct call {
     enum op op;
@@ -15,18 +28,21 @@ struct call {
     size_t cells;
     size_t room;    /* output cells */
     size_t scratch; /* scratch cells */
+    const uint32_t *claim;
+    size_t ends; /* its length */
 };
 
 struct answer {
     uint32_t number;
-    size_t count, edges, detail;
-    const uint32_t *out; /* the output and the pool, for as long as three more pairs of calls */
+    size_t count, edges, detail; /* of a claim: right, token, detail */
+    const uint32_t *out;         /* the output and the pool, for as long as three more pairs of calls */
     const uint32_t *pool;
 };
 
 int writes_output(enum op op);
 int writes_pool(enum op op);
 int cuts(enum op op);
+int uses_scratch(enum op op);
 
 /* Calls twice, with different leftovers in output, scratch and numbers and at different places. Everything that must be
  * kept was, and the two answers are equal, bit by bit. */

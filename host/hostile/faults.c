@@ -5,6 +5,10 @@
     const uint32_t *text, size_t n, const uint32_t *pool, size_t cells, uint32_t *out, size_t room, uint32_t *scratch, \
         size_t len, size_t *count, size_t *edges, size_t *detail
 #define CUT_WITH text, n, pool, cells, out, room, scratch, len, count, edges, detail
+#define CLAIM                                                                                                          \
+    const uint32_t *text, size_t n, const uint32_t *pool, size_t cells, const uint32_t *claim, size_t ends,            \
+        uint32_t *scratch, size_t len, size_t *right, size_t *token, size_t *detail
+#define CLAIM_WITH text, n, pool, cells, claim, ends, scratch, len, right, token, detail
 
 uint32_t __real_fetlockice_decode(const uint8_t *, size_t, uint32_t *, size_t, size_t *, size_t *);
 uint32_t __real_fetlockice_clusters(const uint32_t *, size_t, uint32_t *, size_t, size_t *, size_t *);
@@ -17,6 +21,7 @@ uint32_t __real_fetlockice_prefix_lengths(const uint32_t *, size_t, const uint32
 uint32_t __real_fetlockice_word_count(const uint32_t *, size_t, size_t *, size_t *);
 uint32_t __real_fetlockice_cut_plain(CUT);
 uint32_t __real_fetlockice_cut_safe(CUT);
+uint32_t __real_fetlockice_check_claim(CLAIM);
 
 /* 1: the detail of a refusal is one too high */
 uint32_t __wrap_fetlockice_decode(const uint8_t *bytes, size_t n, uint32_t *out, size_t room, size_t *count,
@@ -92,5 +97,14 @@ uint32_t __wrap_fetlockice_cut_safe(CUT) {
     if (FAULT == 10 && number == 0) scratch[len - 1] = old;
     if (FAULT == 11 && number == 0) *edges += 1;
     if (FAULT == 12 && number == FETLOCKICE_SCRATCH_TOO_SHORT && len > 0) scratch[0] = 0;
+    return number;
+}
+
+/* 13: a claim that stops short is right; 14: a cell behind the claim is read; 15: the token behind is named */
+uint32_t __wrap_fetlockice_check_claim(CLAIM) {
+    if (FAULT == 14) (void)*(const volatile uint32_t *)(claim + ends);
+    uint32_t number = __real_fetlockice_check_claim(CLAIM_WITH);
+    if (FAULT == 13 && number == 0 && *right == 0 && *token == ends) *right = 1, *token = 0;
+    if (FAULT == 15 && number == 0 && *right == 0) *token += 1;
     return number;
 }

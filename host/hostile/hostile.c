@@ -10,7 +10,7 @@
 #include <string.h>
 #include <unistd.h>
 
-static uint32_t pool[POOL_ROOM], text[TEXT_ROOM], scalars[TEXT_ROOM * 4];
+static uint32_t pool[POOL_ROOM], text[TEXT_ROOM], scalars[TEXT_ROOM * 4], claim[2 * TEXT_ROOM];
 static uint8_t bytes[TEXT_ROOM * 4];
 static unsigned long answers[9];
 
@@ -23,7 +23,7 @@ static struct refusal due(const struct call *c, int is_dict) {
     struct refusal r = c->op == WORD_COUNT ? (struct refusal){0, 0} : text_refusal(c->text, c->n);
     if (r.number != 0 || c->op == CLUSTERS) return r;
     if (!is_dict) return (struct refusal){4, 0};
-    if (cuts(c->op) && c->scratch < 9 * c->n + 128) return (struct refusal){5, 9 * c->n + 128};
+    if (uses_scratch(c->op) && c->scratch < 9 * c->n + 128) return (struct refusal){5, 9 * c->n + 128};
     if (c->op != ADD && c->op != REMOVE) return r;
     trimmed(c->text, c->n, &start, &end);
     if (end - start > 255) return (struct refusal){7, end - start};
@@ -64,6 +64,30 @@ static void check_cut(const struct call *c, const struct answer *a) {
     must(c->n >= 140 ||
              (b.number == 0 && b.edges == a->edges && b.count == a->count && memcmp(a->out, b.out, 4 * a->count) == 0),
          "modes differ below 140");
+    other.scratch = 9 * c->n + 127;
+    b = call_twice(&other);
+    must(b.number == 5 && b.detail == 9 * c->n + 128, "scratch a cell too short is not refused");
+}
+
+/* The verdict is the model's, by the text's clusters, and the ends of the plain cut are right. */
+static void check_verdict(const struct call *c, const struct answer *a) {
+    static unsigned char is_end[TEXT_ROOM + 1];
+    struct call other = {.op = CLUSTERS, .text = c->text, .n = c->n, .room = c->n};
+    struct answer b = call_twice(&other);
+    memset(is_end, 0, c->n + 1);
+    for (size_t i = 0; i < b.count; i++) is_end[b.out[i]] = 1;
+    long token = wrong_token(c->text, c->n, is_end, c->pool, c->claim, c->ends);
+    must(a->count == (token < 0) && a->edges == (token < 0 ? 0 : (size_t)token), "the verdict is wrong");
+    other = *c;
+    other.op = CUT_PLAIN;
+    other.room = c->n;
+    b = call_twice(&other);
+    must(b.number == 0, "the plain cut is refused");
+    other.op = CHECK_CLAIM;
+    other.claim = b.out;
+    other.ends = b.count;
+    b = call_twice(&other);
+    must(b.number == 0 && b.count == 1, "the ends of the plain cut are not right");
     other.scratch = 9 * c->n + 127;
     b = call_twice(&other);
     must(b.number == 5 && b.detail == 9 * c->n + 128, "scratch a cell too short is not refused");
@@ -126,8 +150,20 @@ static void check_accepted(const struct call *c, const struct answer *a) {
     case WORD_COUNT: must(a->count == words_of(c->pool), "the word count is wrong"); break;
     case CUT_PLAIN:
     case CUT_SAFE: check_cut(c, a); break;
+    case CHECK_CLAIM: check_verdict(c, a); break;
     default: check_change(c, a); break;
     }
+}
+
+/* A claim near the ends of the plain cut, where there are any. */
+static void claim_for(struct call *c) {
+    struct call plain = *c;
+    plain.op = CUT_PLAIN;
+    plain.room = c->n;
+    plain.scratch = 9 * c->n + 128;
+    struct answer a = c->n <= 65535 ? call_twice(&plain) : (struct answer){.count = 0};
+    c->claim = claim;
+    c->ends = make_claim(claim, a.out, a.count, c->n);
 }
 
 static struct call make_call(enum op op, int *is_dict) {
@@ -141,7 +177,8 @@ static struct call make_call(enum op op, int *is_dict) {
     else if (op != FRESH && op != WORD_COUNT)
         c.n = make_sheet(text, pool, *is_dict);
     if (writes_output(op)) c.room = make_room(op == PREFIX_LENGTHS ? below(4) : c.n);
-    if (cuts(op)) c.scratch = below(4) == 0 ? make_room(9 * c.n + 128) : 9 * c.n + 128 + below(4);
+    if (uses_scratch(op)) c.scratch = below(4) == 0 ? make_room(9 * c.n + 128) : 9 * c.n + 128 + below(4);
+    if (op == CHECK_CLAIM) claim_for(&c);
     return c;
 }
 

@@ -141,3 +141,32 @@ size_t make_pool(uint32_t *pool) {
         pool[i] = kind == 18 ? (uint32_t)draw() : (uint32_t)(below(4) == 0 ? below(n / 8 + 2) : 0);
     return n;
 }
+
+/* A cell that is near a position of the text, or any. */
+static uint32_t claimed(size_t n) {
+    size_t kind = below(6);
+    return kind == 0 ? 0 : kind == 1 ? (uint32_t)(n + below(3)) : kind == 2 ? (uint32_t)draw() : (uint32_t)below(n + 2);
+}
+
+size_t make_claim(uint32_t *claim, const uint32_t *ends, size_t count, size_t n) {
+    size_t kind = below(10), at = below(count + 1), m = count;
+    if (count > 0) memcpy(claim, ends, count * sizeof *claim);
+    if (kind < 3) return m;
+    if (kind == 3) return at;
+    if (kind == 4 && at < m) {
+        memmove(claim + at, claim + at + 1, (--m - at) * sizeof *claim);
+    } else if (kind == 5 && at < m) {
+        claim[at] += below(2) == 0 ? 1 : (uint32_t)-1;
+    } else if (kind == 6 && at < m) {
+        claim[at] = claimed(n);
+    } else if (kind == 7) {
+        memmove(claim + at + 1, claim + at, (m++ - at) * sizeof *claim);
+        claim[at] = claimed(n);
+    } else if (kind == 8) {
+        for (size_t k = 1 + below(4); k > 0; k--) claim[m++] = claimed(n);
+    } else {
+        m = length() % (n + 20);
+        for (size_t i = 0; i < m; i++) claim[i] = claimed(n);
+    }
+    return m;
+}

@@ -26,6 +26,9 @@ size_t make_sheet(uint32_t *text, const uint32_t *pool, int is_dictionary);
 size_t make_bytes(uint8_t *bytes);
 size_t make_pool(uint32_t *pool);
 
+/* A claim for a text of n characters: some ends as they are, or a little damaged, or anything. */
+size_t make_claim(uint32_t *claim, const uint32_t *ends, size_t count, size_t n);
+
 /* A length of 0, 1, about the one needed, or any up to twice that. */
 size_t make_room(size_t needed);
 

@@ -98,6 +98,81 @@ size_t lacking(const uint32_t *pool, const uint32_t *word, size_t n, int *held) 
     return 0;
 }
 
+/* The characters from the start of a text that pass a test. */
+static size_t leading(const uint32_t *text, size_t n, int (*passes)(uint32_t)) {
+    size_t k = 0;
+    while (k < n && passes(text[k])) k++;
+    return k;
+}
+
+static int is_letter(uint32_t x) { return x == '-' || (x >= 'a' && x <= 'z') || (x >= 'A' && x <= 'Z'); }
+static int is_digit(uint32_t x) { return x >= '0' && x <= '9'; }
+static int is_thai_digit(uint32_t x) { return x >= 0xE50 && x <= 0xE59; }
+static int is_space(uint32_t x) { return x == ' ' || x == '\t'; }
+
+/* Digits, and then commas or points that digits follow. */
+static size_t number(const uint32_t *text, size_t n, int (*digit)(uint32_t)) {
+    size_t k = leading(text, n, digit), more;
+    while (k > 0 && k < n && (text[k] == ',' || text[k] == '.') && (more = leading(text + k + 1, n - k - 1, digit)) > 0)
+        k += 1 + more;
+    return k;
+}
+
+/* The length of the first of the five alternatives of a run that isn't Thai, 0 for none. */
+static size_t non_thai(const uint32_t *text, size_t n) {
+    size_t k;
+    if ((k = leading(text, n, is_letter)) > 0) return k;
+    if ((k = number(text, n, is_digit)) > 0) return k;
+    if ((k = number(text, n, is_thai_digit)) > 0) return k;
+    if ((k = leading(text, n, is_space)) > 0) return k;
+    if (n > 1 && text[0] == '\r' && text[1] == '\n') return 2;
+    return n > 0 && text[0] == '\n';
+}
+
+/* What the words that start at b and end at a cluster end come to: how many end at e; how many there are; and how many
+ * of these aren't one or two of the letters U+0E01 to U+0E2E. */
+struct words {
+    size_t here, all, stopping;
+};
+
+static struct words words_at(const uint32_t *text, size_t n, const unsigned char *is_end, const uint32_t *pool,
+                             size_t b, size_t e) {
+    struct words found = {0, 0, 0};
+    size_t node = 0, letters = 0;
+    for (size_t p = b; p < n; p++) {
+        size_t child = pool[8 * node + 1], end = child + pool[8 * node + 2];
+        while (child < end && pool[8 * child] != text[p]) child++;
+        if (child == end) break;
+        node = child;
+        letters += text[p] >= 0xE01 && text[p] <= 0xE2E;
+        if (pool[8 * node + 3] == 0 || !is_end[p + 1]) continue;
+        found.here += p + 1 == e;
+        found.all++;
+        found.stopping += p + 1 - b > 2 || letters < p + 1 - b;
+    }
+    return found;
+}
+
+static size_t other_end(const uint32_t *text, size_t n, const unsigned char *is_end, const uint32_t *pool, size_t b) {
+    size_t k = non_thai(text + b, n - b);
+    if (k > 0) return b + k;
+    for (size_t p = b + 1; p < n; p++)
+        if (is_end[p] && (non_thai(text + p, n - p) > 0 || words_at(text, n, is_end, pool, p, 0).stopping > 0))
+            return p;
+    return n;
+}
+
+long wrong_token(const uint32_t *text, size_t n, const unsigned char *is_end, const uint32_t *pool,
+                 const uint32_t *claim, size_t ends) {
+    size_t b = 0;
+    for (size_t k = 0; k < ends; b = claim[k++]) {
+        if (claim[k] <= b || claim[k] > n) return (long)k;
+        struct words found = words_at(text, n, is_end, pool, b, claim[k]);
+        if (found.here == 0 && (found.all > 0 || claim[k] != other_end(text, n, is_end, pool, b))) return (long)k;
+    }
+    return b == n ? -1 : (long)ends;
+}
+
 size_t words_of(const uint32_t *pool) {
     size_t n = 0;
     for (size_t i = 0; i < pool[4]; i++) n += pool[8 * i + 3];

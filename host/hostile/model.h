@@ -32,6 +32,11 @@ void trimmed(const uint32_t *word, size_t n, size_t *start, size_t *end);
 /* How many nodes of a dictionary a word lacks, and whether it is held. */
 size_t lacking(const uint32_t *pool, const uint32_t *word, size_t n, int *held);
 
+/* The first token of a claim that is wrong, or -1: of ends for the plain cut of a text by the words of a dictionary.
+ * `is_end` has a flag for each position of the text: whether a cluster ends there. */
+long wrong_token(const uint32_t *text, size_t n, const unsigned char *is_end, const uint32_t *pool,
+                 const uint32_t *claim, size_t ends);
+
 /* How many words a dictionary has. */
 size_t words_of(const uint32_t *pool);
 

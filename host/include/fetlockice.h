@@ -5,11 +5,12 @@
  *
  *   *count   accepted: the count that the call tells of; refused: 0
  *   *edges   accepted: the edges recorded in the whole cut; refused: 0
+ *   *right, *token  of a claim: 1 and 0 if it is right; 0 and the first token that is wrong; refused: 0 and 0
  *   *detail  accepted: 0; refused: the refusal's detail, below
  *
  * Lent memory. A row that a call takes as const is only read. A refused call changes no output and no pool. An
  * accepted one writes the first *count cells of the output and keeps the rest. Scratch is untouched after refusals 2
- * to 5, and all zero after refusal 6 and after an accepted cut, every lent cell of it; on entry it may hold anything.
+ * to 5, and all zero after refusal 6 and after an accepted call, every lent cell of it; on entry it may hold anything.
  * Nothing is kept from one call to the next, nothing is allocated and nothing is freed.
  *
  * THE CALLER'S DUTIES. Everything else about the contents is the library's to answer.
@@ -53,7 +54,7 @@ extern "C" {
  * 20,560, as it goes down a word of 255 scalars by recursion; fetlockice_decode 4,616, the others under 1,000. */
 #define FETLOCKICE_MAX_STACK 65536
 
-/* The scratch cells that a cut of n scalars asks for. */
+/* The scratch cells that a call on a text of n scalars asks for. */
 #define FETLOCKICE_SCRATCH_CELLS(n) (9 * (size_t)(n) + 128)
 
 /* What a call answers. The lowest number that applies to the call is given. */
@@ -115,6 +116,17 @@ uint32_t fetlockice_cut_plain(const uint32_t *text, size_t text_len, const uint3
 uint32_t fetlockice_cut_safe(const uint32_t *text, size_t text_len, const uint32_t *pool, size_t pool_len,
                              uint32_t *out, size_t out_len, uint32_t *scratch, size_t scratch_len, size_t *count,
                              size_t *edges, size_t *detail);
+
+/* Checks ends that another program gives for the plain cut of the text, by the words of the pool. The claim is right
+ * exactly if its ends rise strictly to the length, and each token either is a word of the pool that ends at a cluster
+ * end, or starts where no such word starts and is the span of the rule for text that is in no dictionary. *right: 1, or
+ * 0; then *token: the first token that breaks this, counted from 0. Ends that stop short name the token after the last;
+ * an empty text takes only an empty claim. A wrong claim is an answer, not a refusal: the claim may be longer than the
+ * text, and its cells may hold anything. Every answer of fetlockice_cut_plain is right; another claim may be, too.
+ * Scratch as for a cut. Refusals 2, 3, 4, 5. */
+uint32_t fetlockice_check_claim(const uint32_t *text, size_t text_len, const uint32_t *pool, size_t pool_len,
+                                const uint32_t *claim, size_t claim_len, uint32_t *scratch, size_t scratch_len,
+                                size_t *right, size_t *token, size_t *detail);
 
 #ifdef __cplusplus
 }

@@ -14,11 +14,12 @@ static const unsigned char PAINT = 0xA5;
 static unsigned char stack[STACK];
 static ucontext_t here, there;
 static void (*call)(void);
-static size_t most[10];
+static size_t most[11];
 
 static uint8_t bytes[4 * LONG];
-static uint32_t pool[CELLS], text[LONG + 1], word[1024], out[LONG + 1], scratch[FETLOCKICE_SCRATCH_CELLS(LONG)];
-static size_t bytes_len, pool_len, text_len, word_len, out_len, scratch_len, count, edges, detail;
+static uint32_t pool[CELLS], text[LONG + 1], word[1024], out[LONG + 1], claim[LONG + 1];
+static uint32_t scratch[FETLOCKICE_SCRATCH_CELLS(LONG)];
+static size_t bytes_len, pool_len, text_len, word_len, out_len, claim_len, scratch_len, count, edges, detail;
 
 static void decode(void) { fetlockice_decode(bytes, bytes_len, out, out_len, &count, &detail); }
 static void clusters(void) { fetlockice_clusters(text, text_len, out, out_len, &count, &detail); }
@@ -35,10 +36,17 @@ static void safe(void) {
     fetlockice_cut_safe(text, text_len, pool, pool_len, out, out_len, scratch, scratch_len, &count, &edges, &detail);
 }
 
-static void (*const calls[])(void) = {decode, clusters, fresh, add, drop, contains, lengths, words, plain, safe};
-static const char *const names[] = {"decode",         "clusters",   "fresh",     "add",      "remove", "contains",
-                                    "prefix_lengths", "word_count", "cut_plain", "cut_safe"};
-enum { DECODE, CLUSTERS, FRESH, ADD, REMOVE, CONTAINS, PREFIX_LENGTHS, WORD_COUNT, CUT_PLAIN, CUT_SAFE, ALL };
+static void judge(void) {
+    fetlockice_check_claim(text, text_len, pool, pool_len, claim, claim_len, scratch, scratch_len, &count, &edges,
+                           &detail);
+}
+
+static void (*const calls[])(void) = {decode, clusters, fresh, add, drop, contains, lengths, words, plain, safe, judge};
+static const char *const names[] = {"decode",         "clusters",   "fresh",     "add",      "remove",     "contains",
+                                    "prefix_lengths", "word_count", "cut_plain", "cut_safe", "check_claim"};
+enum {
+    DECODE, CLUSTERS, FRESH, ADD, REMOVE, CONTAINS, PREFIX_LENGTHS, WORD_COUNT, CUT_PLAIN, CUT_SAFE, CHECK_CLAIM, ALL
+};
 
 static void enter(void) { call(); }
 
@@ -91,6 +99,15 @@ static void dictionary(void) {
     make(CONTAINS), make(WORD_COUNT);
 }
 
+/* The ends of the plain cut that was made last, as they are and with one of them changed. */
+static void claims(void) {
+    claim_len = count;
+    memcpy(claim, out, count * sizeof *claim);
+    make(CHECK_CLAIM);
+    if (claim_len > 0) claim[draw((uint32_t)claim_len)] = draw(0xFFFFFFFF);
+    make(CHECK_CLAIM);
+}
+
 /* Every call on texts of some length, with rows that are long enough and with rows that are not. */
 static void on_texts(size_t len) {
     text_len = len;
@@ -102,7 +119,8 @@ static void on_texts(size_t len) {
         out_len = room ? len : draw((uint32_t)len + 1);
         scratch_len = room < 2 ? FETLOCKICE_SCRATCH_CELLS(len < LONG ? len : LONG) : draw(9 * (uint32_t)len + 128);
         if (scratch_len > FETLOCKICE_SCRATCH_CELLS(LONG)) scratch_len = FETLOCKICE_SCRATCH_CELLS(LONG);
-        make(CLUSTERS), make(PREFIX_LENGTHS), make(CUT_PLAIN), make(CUT_SAFE);
+        make(CLUSTERS), make(PREFIX_LENGTHS), make(CUT_SAFE), make(CUT_PLAIN);
+        claims();
     }
 }
 

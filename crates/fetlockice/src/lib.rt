@@ -1,9 +1,11 @@
 // The functions that hosts, written in C or Rust, link: each hands its call on to the function of
 // the same name in a host_ crate, and has that function's contract. No struct crosses.
+mod claims;
 mod cuts;
 mod texts;
 mod words;
 
+pub use claims::fetlockice_check_claim;
 pub use cuts::fetlockice_cut_plain;
 pub use cuts::fetlockice_cut_safe;
 pub use texts::fetlockice_clusters;

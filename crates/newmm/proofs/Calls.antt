@@ -9,58 +9,32 @@ use mathlib.Core.Option.{Option}
 use lib.ListN.{length, getD, take, drop, replicate, length-append, length-replicate, getD-replicate, List·getD-eq-default, replicate-append-replicate}
 use lib.Seq.{drop-at, drop-length, length-take-le, take-length}
 use lib.Dec.{ltb}
-use borrow.Author.Tests.{ltb-false, lt-ltb, le-ltb}
+use borrow.Author.Tests.{lt-ltb, le-ltb}
 use Rattle.refusal.specs.declared.Refusal.{Refusal}
-use Rattle.refusal.specs.declared.Refusal.the-variants.{ScratchTooShort, OutputTooShort}
+use Rattle.refusal.specs.declared.Refusal.the-variants.{OutputTooShort}
 use Rattle.refusal.specs.declared.Answer.{Answer}
 use Rattle.refusal.specs.declared.Answer.the-variants.{Accepted, Refused}
 use Rattle.refusal.specs.Answers.{Cause, answer, output}
 use Rattle.refusal.proofs.Order.{refused-first, accepted-first}
 use Rattle.trie_pool.specs.Words.{holds}
-use Rattle.trie_pool.specs.Rules.{isDictionary}
 use Rattle.trie_pool.specs.Meaning.{Words, meaning}
-use Rattle.trie_check.specs.Refusals.{held, readCauses}
-use Rattle.refusal.proofs.Causes.{None, none-of, again, still, cause-yes, cause-kept}
-use Rattle.trie_check.proofs.Refusals.{read-of}
-use Rattle.trie_check.proofs.Parts.{known-is, readable, held-part}
+use Rattle.trie_check.specs.Refusals.{held}
+use Rattle.refusal.proofs.Causes.{still}
+use Rattle.trie_check.proofs.Parts.{readable, held-part}
 use Rattle.newmm_rules.specs.Cutting.{Cut}
 use Rattle.newmm_one_cut.specs.declared.Ends.{Ends}
 use Rattle.newmm_rules.specs.declared.Mode.{Mode}
 use Rattle.newmm_rules.proofs.Climbing.{few}
 use Rattle.newmm_rules.proofs.Modes.{modes-climb}
+use Rattle.newmm_answers.proofs.Checks.{at-most, known, room}
 use Rattle.newmm_answers.proofs.Plain.{plain-right}
 use Rattle.newmm_answers.specs.declared.CutAnswer.{CutAnswer}
 use Rattle.newmm_answers.specs.declared.CutAnswer.the-variants as variants
-use Rattle.newmm_answers.specs.Answers.{plainCut, cutOf, scratchFor, scratchCause, scratchCauses, outCauses, firstCauses, accepts, told, cleared}
+use Rattle.newmm_answers.specs.Answers.{plainCut, cutOf, scratchFor, outCauses, firstCauses, accepts, told, cleared}
 use Rattle.newmm_answers.specs.Calls.{Call, call, answerOf, outOf, scratchOf, Cuts}
 use Rattle.newmm_segment.specs.inner.Written.{Ready, Written}
 use Rattle.newmm_segment.proofs.Samples.{front, behind, fits}
-use Rattle.newmm.specs.inner.Calls.{Passes}
-
--- ---- refusals 2 to 5
-
-module _ (text pool : List ℕ) (cells : ℕ) {a : Answer} (is : a ≡ answer (readCauses text (meaning pool)) (length text)) where
-  pub refused-early : {r : Refusal} → a ≡ Refused r → a ≡ answer (firstCauses text (meaning pool) cells) (length text)
-  refused-early e = e ∙ sym (refused-first (readCauses text (meaning pool)) (scratchCauses text cells) (length text) (length text) (sym is ∙ e))
-
-  module _ {n : ℕ} (yes′ : a ≡ Accepted n) where
-    first : answer (readCauses text (meaning pool)) (length text) ≡ Accepted n
-    first = sym is ∙ yes′
-
-    pub size-is : n ≡ length text
-    size-is = let q : Accepted (length text) ≡ Accepted n = again (readCauses text (meaning pool)) (length text) (length text) first ∙ first in cc
-
-    pub short : n ≤ 65535
-    short = omega (arith, size-is, read-of text (meaning pool) (length text) n first .short)
-
-    pub refused-scratch : {k : ℕ} → k ≡ scratchFor n → cells < k → Refused (ScratchTooShort k) ≡ answer (firstCauses text (meaning pool) cells) (length text)
-    refused-scratch {k} e l =
-        let q : k ≡ scratchFor (length text) = omega (arith, size-is) in
-        ap (λ (z : ℕ). Refused (ScratchTooShort z)) q
-        ∙ cause-yes (readCauses text (meaning pool)) (scratchCause (length text) cells) (length text) (length text) first (lt-ltb cells (scratchFor (length text)) (omega arith))
-
-    pub accepted-early : {k : ℕ} → k ≡ scratchFor n → k ≤ cells → Accepted n ≡ answer (firstCauses text (meaning pool) cells) (length text)
-    accepted-early e l = cause-kept (readCauses text (meaning pool)) (scratchCause (length text) cells) (length text) first (le-ltb cells (scratchFor (length text)) (omega (arith, size-is)))
+use Rattle.newmm_answers.specs.inner.Passing.{Passes}
 
 -- ---- a call that passes
 
@@ -82,24 +56,18 @@ pub record Lent (text pool row : List ℕ) (cells n : ℕ) : Type 0 where
   pub blank : row ≡ replicate {A = ℕ} cells 0
 
 module _ {text pool row : List ℕ} {cells n : ℕ} (p : Lent text pool row cells n) where
-  rows : None (firstCauses text (meaning pool) cells)
-  rows = none-of (firstCauses text (meaning pool) cells) 0 0 (p .passes .accepted)
-
-  known : isDictionary pool ≡ true
-  known = known-is pool (rows .1 .1 .0)
-
   words : held (meaning pool) ≡ holds (take (8 * n) pool)
-  words = held-part pool n (p .nodes) known
+  words = held-part pool n (p .nodes) (known (p .passes))
 
   room-is : scratchFor (length text) ≤ cells
-  room-is = ltb-false cells (scratchFor (length text)) (rows .1 .1 .1 .0)
+  room-is = room (p .passes)
 
   pub ready : Ready text (take (8 * n) pool) row
   ready =
       subst (λ (l : List ℕ). Ready text (take (8 * n) pool) l) (sym (p .blank))
       (record {
-        short = ltb-false 65535 (length text) (rows .0);
-        root-is = readable pool n (p .nodes) known;
+        short = at-most (p .passes);
+        root-is = readable pool n (p .nodes) (known (p .passes));
         room = omega (arith, room-is, length-replicate {A = ℕ} cells 0);
         blank = zeros-blank cells;
       })
@@ -124,8 +92,8 @@ module _ {mode : Mode} {text pool row : List ℕ} {cells : ℕ} {r : Ends} (z : 
   unfolding cutOf
   few-ends = omega (arith, few (modes-climb (plainCut (held (meaning pool))) (plain-right (held (meaning pool))) text mode))
 
-  room : r .ends ≤ cells
-  room = omega (arith, v .ends, few-ends, room-is (z .lent))
+  inside : r .ends ≤ cells
+  inside = omega (arith, v .ends, few-ends, room-is (z .lent))
 
   pub ends-fit : r .ends ≤ length row
   ends-fit = fits v (omega (arith, few-ends, room-is (z .lent), length-replicate {A = ℕ} cells 0))
@@ -136,7 +104,7 @@ module _ {mode : Mode} {text pool row : List ℕ} {cells : ℕ} {r : Ends} (z : 
   -- the ends are cleared again
   all-zero : {row′ : List ℕ} → row′ ≡ replicate {A = ℕ} (r .ends) 0 ++ drop (r .ends) row → row′ ≡ replicate {A = ℕ} cells 0
   all-zero e =
-      let d : cells ≡ r .ends + (cells - r .ends) = omega (arith, room) in
+      let d : cells ≡ r .ends + (cells - r .ends) = omega (arith, inside) in
       let y : drop (length (whole .ends)) (replicate {A = ℕ} cells 0) ≡ replicate {A = ℕ} (cells - r .ends) 0 =
       ap (λ (k : ℕ). drop k (replicate {A = ℕ} cells 0)) (sym (v .ends))
       ∙ ap (λ (k : ℕ). drop (r .ends) (replicate {A = ℕ} k 0)) d
@@ -201,6 +169,3 @@ module _ (mode : Mode) (text pool scratch : List ℕ) {a : Answer} (is : a ≡ a
           sym (ap (λ (x : Answer). cleared x scratch) (refused 0)),
         ),
       )
-
-  pub passes : {n : ℕ} → a ≡ Accepted n → Passes text pool (length scratch)
-  passes yes′ = record { accepted = sym (again (firstCauses text (meaning pool) (length scratch)) (length text) 0 (sym is ∙ yes′)) }

@@ -2,36 +2,15 @@
 use cells::clear_first;
 use cells::copy;
 use newmm_answers::CutAnswer;
-use newmm_answers::scratch_for;
+use newmm_answers::check_cut;
 use newmm_rules::Mode;
 use newmm_segment::segment_single;
 use refusal::Answer;
 use refusal::Refusal;
 use trie_check::capacity;
-use trie_check::check;
-ghost use mathlib.Core.Path.{_≡_};
 ghost use lib.ListN.{length};
-ghost use Rattle.refusal.specs.Answers.{answer};
-ghost use Rattle.trie_pool.specs.Meaning.{meaning};
-ghost use Rattle.newmm_answers.specs.Answers.{firstCauses};
 ghost use Rattle.newmm_answers.specs.Calls.{call, Cuts};
-ghost use Rattle.newmm.specs.inner.Calls.{Passes};
-
-// Refusals 2, 3, 4 and 5, by the number of scratch cells; accepted with the text's length.
-fn check_cut(text: &[u32], pool: &[u32], cells: usize) -> Answer
-    ensures { λ r. ⌜ r ≡ answer (firstCauses (now (text .entry)) (meaning (now (pool .entry))) cells)
-        (length (now (text .entry))) ⌝ }
-{
-    let checked = check(pool, text);
-    let Answer::Accepted(n) = checked else {
-        return checked;
-    };
-    let needed = scratch_for(n);
-    if cells < needed {
-        return Answer::Refused(Refusal::ScratchTooShort(needed));
-    }
-    Answer::Accepted(n)
-}
+ghost use Rattle.newmm_answers.specs.inner.Passing.{Passes};
 
 // Cuts a text that none of the refusals 2 to 5 is due to.
 fn cut_checked(

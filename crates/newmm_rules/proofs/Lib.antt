@@ -5,6 +5,7 @@ pub mod Lengths
 pub mod Search
 pub mod Edges
 pub mod Tokens
+pub mod Claims
 pub mod Recording
 pub mod Turns
 pub mod Result

@@ -8,6 +8,7 @@ pub mod Search
 pub mod NonThai
 pub mod NonDictionary
 pub mod Tokens
+pub mod Claims
 pub mod Fewest
 pub mod Stretches
 pub mod Longest

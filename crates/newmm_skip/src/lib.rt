@@ -10,7 +10,7 @@ ghost use Prim.Native.Nat.{_<_};
 ghost use lib.ListN.{length};
 ghost use Rattle.newmm_rules.specs.NonDictionary.{isShort, skipEnd, tokenEnd};
 ghost use Rattle.newmm_word_step.specs.inner.Walks.{givenBy};
-ghost use Rattle.newmm_skip.specs.inner.Places.{Place};
+ghost use Rattle.newmm_word_step.specs.inner.Places.{Place};
 
 // Whether the word is one or two consonants.
 fn is_short(word: &[u32]) -> bool

@@ -1,2 +1,3 @@
 -- Words of inner contracts. No public contract needs them.
 pub mod Walks
+pub mod Places

@@ -4,7 +4,6 @@
 // 01 says, a `?` is written.
 use newmm::cut;
 use newmm_answers::CutAnswer;
-use newmm_answers::scratch_for;
 use newmm_rules::Mode;
 use test_lines::behind;
 use test_lines::field;
@@ -18,8 +17,11 @@ use test_lines::print_numbers;
 use test_lines::print_refusal;
 use test_lines::read_cells;
 use test_lines::read_input;
+use test_rows::expect_leftovers;
+use test_rows::expect_zero;
+use test_rows::scratch_cells;
+use test_rows::smear;
 use test_words::hold;
-ghost use Prim.Native.Nat.{_≤_};
 
 const INPUT: usize = 589824;
 
@@ -95,22 +97,6 @@ fn lend(line: &[u8], pool: &[u32], text: &mut [u32], out: &mut [u32], scratch: &
     print(b"?");
 }
 
-// As many scratch cells as a text of n characters needs for `*`, at most `most`.
-fn scratch_cells(text: &[u8], n: usize, most: usize) -> usize
-    ensures { λ r. ⌜ r ≤ most ⌝ }
-{
-    if is(text, b"*") {
-        if n <= 65536 {
-            let needed = scratch_for(n);
-            if needed < most {
-                return needed;
-            }
-        }
-        return most;
-    }
-    lent(text, most)
-}
-
 fn call(text: &[u32], pool: &[u32], out: &mut [u32], scratch: &mut [u32], mode: Mode) {
     smear(out);
     smear(scratch);
@@ -134,45 +120,5 @@ fn call(text: &[u32], pool: &[u32], out: &mut [u32], scratch: &mut [u32], mode: 
             expect_leftovers(out, 0);
             print_refusal(r);
         }
-    }
-}
-
-// What an earlier call may have left: positions, and cells that are no position.
-fn leftover(k: usize) -> u32 {
-    if k % 2 == 0 {
-        return 4294967295;
-    }
-    3
-}
-
-fn smear(row: &mut [u32]) {
-    let mut k = 0;
-    while k < row.len() {
-        row[k] = leftover(k);
-        k += 1;
-    }
-}
-
-// Writes a `?` where a cell from `start` on isn't what `smear` put there.
-fn expect_leftovers(row: &[u32], start: usize) {
-    let mut k = start;
-    while k < row.len() {
-        if row[k] != leftover(k) {
-            print(b"?");
-            return;
-        }
-        k += 1;
-    }
-}
-
-// Writes a `?` where a cell isn't zero.
-fn expect_zero(row: &[u32]) {
-    let mut k = 0;
-    while k < row.len() {
-        if row[k] != 0 {
-            print(b"?");
-            return;
-        }
-        k += 1;
     }
 }

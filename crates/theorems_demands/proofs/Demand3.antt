@@ -33,7 +33,7 @@ told-ends (Refused r) k n e h = absurd (let z : _≡_ {A = ℕ} 0 1 = cc in omeg
 pub accepted-is : (rs : List Cause) (n k : ℕ) → answer rs n ≡ Accepted k → n ≡ k
 accepted-is rs n k h = let q : Accepted n ≡ Accepted k = again rs n n h ∙ h in cc
 
-all-pass : (rs : List Cause) (n : ℕ) → None rs → answer rs n ≡ Accepted n
+pub all-pass : (rs : List Cause) (n : ℕ) → None rs → answer rs n ≡ Accepted n
 all-pass [] n t = refl
 all-pass (r ∷ rs) n t = ap (λ (b : Bool). cond b (Refused (r .refusal)) (answer rs n)) (t .0) ∙ all-pass rs n (t .1)
 

@@ -17,6 +17,7 @@ use Rattle.trie_check.specs.Refusals.{poolCauses, readCauses}
 use Rattle.trie_char.specs.Refusals.{prefixCauses, removeCauses, addCauses, freshCauses}
 use Rattle.newmm_rules.specs.declared.Mode.{Mode}
 use Rattle.newmm_answers.specs.Answers.{cutCauses}
+use Rattle.newmm_claim.specs.Answers.{claimCauses}
 
 -- Decoding: 1, 2, 6.
 pub decode-order : (bytes : List ℕ) (room : ℕ) → numbers (decodeCauses bytes room) ≡ 1 ∷ 2 ∷ 6 ∷ []
@@ -34,6 +35,10 @@ prefix-order text pool out = refl
 pub cut-order : (mode : Mode) (text pool : List ℕ) (cells room : ℕ)
     → numbers (cutCauses mode text (meaning pool) cells room) ≡ 2 ∷ 3 ∷ 4 ∷ 5 ∷ 6 ∷ []
 cut-order mode text pool cells room = refl
+
+-- Checking a claim (02, ticket 12), as cutting, without 6: 2, 3, 4, 5.
+pub claim-order : (text pool : List ℕ) (cells : ℕ) → numbers (claimCauses text (meaning pool) cells) ≡ 2 ∷ 3 ∷ 4 ∷ 5 ∷ []
+claim-order text pool cells = refl
 
 -- Add: 2, 3, 4, 7, 8.
 pub add-order : (word pool : List ℕ) → numbers (addCauses word pool) ≡ 2 ∷ 3 ∷ 4 ∷ 7 ∷ 8 ∷ []
@@ -69,6 +74,9 @@ prefix-rises = ((omega arith, (omega arith, (omega arith, tt))), ((omega arith, 
 
 pub cut-rises : Rising (2 ∷ 3 ∷ 4 ∷ 5 ∷ 6 ∷ [])
 cut-rises = ((omega arith, (omega arith, (omega arith, (omega arith, tt)))), ((omega arith, (omega arith, (omega arith, tt))), ((omega arith, (omega arith, tt)), ((omega arith, tt), (tt, tt)))))
+
+pub claim-rises : Rising (2 ∷ 3 ∷ 4 ∷ 5 ∷ [])
+claim-rises = ((omega arith, (omega arith, (omega arith, tt))), ((omega arith, (omega arith, tt)), ((omega arith, tt), (tt, tt))))
 
 pub add-rises : Rising (2 ∷ 3 ∷ 4 ∷ 7 ∷ 8 ∷ [])
 add-rises = ((omega arith, (omega arith, (omega arith, (omega arith, tt)))), ((omega arith, (omega arith, (omega arith, tt))), ((omega arith, (omega arith, tt)), ((omega arith, tt), (tt, tt)))))

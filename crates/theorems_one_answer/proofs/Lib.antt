@@ -5,6 +5,7 @@ pub mod Clusters
 pub mod Dictionary
 pub mod Cut
 pub mod Demand3
+pub mod Claims
 pub mod Hosts
 pub mod Views
 pub mod Sheets

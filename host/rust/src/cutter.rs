@@ -26,6 +26,16 @@ pub struct Cut<'t> {
     pub edges: usize,
 }
 
+/// What the check of a claim finds.
+#[derive(Clone, Copy, Debug, PartialEq, Eq, Hash)]
+pub enum Verdict {
+    /// Each token is a word that ends at a cluster end, or the span of the non-dictionary rule where no such word
+    /// starts.
+    Right,
+    /// The first token that is not so, counted from 0.
+    Wrong(usize),
+}
+
 /// Cuts texts, with scratch of its own that serves again.
 #[derive(Clone, Debug, Default)]
 pub struct Cutter {
@@ -41,15 +51,47 @@ impl Cutter {
     /// Cuts a text by the words of a dictionary. Joined, the tokens are the text. Refused with 2.
     pub fn cut<'t>(&mut self, dictionary: &Dictionary, text: &'t str, mode: Mode) -> Result<Cut<'t>, Error> {
         let cells = scalars(text)?;
-        let needed = 9 * cells.len() + 128;
-        if self.scratch.len() < needed {
-            self.scratch.resize(needed, 0);
-            self.ends.resize(cells.len(), 0);
-        }
-        let (count, edges) =
-            ffi::cut(mode == Mode::Safe, &cells, dictionary.pool(), &mut self.ends, &mut self.scratch[..needed])?;
+        self.ends.resize(self.ends.len().max(cells.len()), 0);
+        let scratch = scratch_for(&mut self.scratch, cells.len());
+        let (count, edges) = ffi::cut(mode == Mode::Safe, &cells, dictionary.pool(), &mut self.ends, scratch)?;
         Ok(Cut { tokens: tokens(text, &self.ends[..count]), edges })
     }
+
+    /// Checks ends, in characters, that another program gives for the plain cut of a text. Ours are right; others may
+    /// be, too. Refused with 2.
+    pub fn check_claim(&mut self, dictionary: &Dictionary, text: &str, ends: &[usize]) -> Result<Verdict, Error> {
+        // an end that no cell holds is over the text's length, as is the largest that one holds
+        let claim: Vec<u32> = ends.iter().map(|&end| u32::try_from(end).unwrap_or(u32::MAX)).collect();
+        let cells = scalars(text)?;
+        let scratch = scratch_for(&mut self.scratch, cells.len());
+        let (right, token) = ffi::check_claim(&cells, dictionary.pool(), &claim, scratch)?;
+        Ok(if right { Verdict::Right } else { Verdict::Wrong(token) })
+    }
+
+    /// The same with the tokens themselves. A token that is not the part of the text at its place is wrong, as one at a
+    /// wrong end is. Refused with 2.
+    pub fn check_tokens(&mut self, dictionary: &Dictionary, text: &str, tokens: &[&str]) -> Result<Verdict, Error> {
+        let (mut rest, mut end) = (text, 0);
+        let mut ends = Vec::with_capacity(tokens.len());
+        for token in tokens {
+            match rest.strip_prefix(*token) {
+                Some(behind) => rest = behind,
+                None => break,
+            }
+            end += token.chars().count();
+            ends.push(end);
+        }
+        let found = self.check_claim(dictionary, text, &ends)?;
+        // tokens that are no part of the text are left out, so that the first of them is the token after the last end
+        Ok(if ends.len() < tokens.len() && found == Verdict::Right { Verdict::Wrong(ends.len()) } else { found })
+    }
+}
+
+/// The scratch cells for a text of so many characters.
+fn scratch_for(scratch: &mut Vec<u32>, characters: usize) -> &mut [u32] {
+    let needed = 9 * characters + 128;
+    scratch.resize(scratch.len().max(needed), 0);
+    &mut scratch[..needed]
 }
 
 /// The parts of a text between ends in characters, which rise to its length.

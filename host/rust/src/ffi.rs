@@ -81,6 +81,19 @@ extern "C" {
         edges: &mut usize,
         detail: &mut usize,
     ) -> u32;
+    fn fetlockice_check_claim(
+        text: *const u32,
+        text_len: usize,
+        pool: *const u32,
+        pool_len: usize,
+        claim: *const u32,
+        claim_len: usize,
+        scratch: *mut u32,
+        scratch_len: usize,
+        right: &mut usize,
+        token: &mut usize,
+        detail: &mut usize,
+    ) -> u32;
 }
 
 pub fn decode(bytes: &[u8], out: &mut [u32]) -> Result<usize, Error> {
@@ -173,4 +186,25 @@ pub fn cut(
         )
     };
     accepted(number, detail, (count, edges))
+}
+
+/// Whether the claim is right, and the first token that is wrong.
+pub fn check_claim(text: &[u32], pool: &[u32], claim: &[u32], scratch: &mut [u32]) -> Result<(bool, usize), Error> {
+    let (mut right, mut token, mut detail) = (0, 0, 0);
+    let number = unsafe {
+        fetlockice_check_claim(
+            text.as_ptr(),
+            text.len(),
+            pool.as_ptr(),
+            pool.len(),
+            claim.as_ptr(),
+            claim.len(),
+            scratch.as_mut_ptr(),
+            scratch.len(),
+            &mut right,
+            &mut token,
+            &mut detail,
+        )
+    };
+    accepted(number, detail, (right == 1, token))
 }

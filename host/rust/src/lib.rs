@@ -14,7 +14,7 @@ mod dictionary;
 mod error;
 mod ffi;
 
-pub use cutter::{Cut, Cutter, Mode, Token};
+pub use cutter::{Cut, Cutter, Mode, Token, Verdict};
 pub use dictionary::{Dictionary, MAX_NODES};
 pub use error::Error;
 

@@ -1,6 +1,6 @@
 //! The answers of this crate against those that the test programs of crates/ are held to: an independent model's and the
 //! Rust's. Lines that a `str`, a growing pool or rows of one's own can't bring about are left out.
-use fetlockice::{clusters, decode, Cutter, Dictionary, Error, Mode};
+use fetlockice::{clusters, decode, Cutter, Dictionary, Error, Mode, Verdict};
 use std::fs;
 
 /// The lines of a test program with that operation, in fields, each with its answer.
@@ -177,4 +177,47 @@ fn cuts() {
             format!("{} {}", row(&ends, ","), cut.edges)
         }))
     });
+}
+
+fn verdict(found: Verdict) -> String {
+    match found {
+        Verdict::Right => "yes".into(),
+        Verdict::Wrong(token) => token.to_string(),
+    }
+}
+
+/// The parts of a text between ends in characters, where they rise within it.
+fn parts<'t>(text: &'t str, ends: &[usize]) -> Option<Vec<&'t str>> {
+    let places: Vec<usize> = text.char_indices().map(|(at, _)| at).chain([text.len()]).collect();
+    let starts = [0].into_iter().chain(ends.iter().copied());
+    starts.zip(ends).map(|(start, &end)| text.get(*places.get(start)?..*places.get(end)?)).collect()
+}
+
+#[test]
+fn claims() {
+    let mut cutter = Cutter::new();
+    hold(lines("test_claim", "claim"), 2500, |line| {
+        roomy(&line[4])?;
+        let (words, text) = (words(&line[1])?, text(&line[2])?);
+        let ends: Vec<usize> = cells(&line[3]).into_iter().map(|end| end as usize).collect();
+        let found = cutter.check_claim(&words, &text, &ends);
+        if let Some(tokens) = parts(&text, &ends) {
+            assert_eq!(cutter.check_tokens(&words, &text, &tokens), found, "{line:?}");
+        }
+        Some(told(found, verdict))
+    });
+}
+
+#[test]
+fn tokens_of_another_text() {
+    let words = Dictionary::from_words(["กข", "กขค", "คง", "ง"]).unwrap();
+    let mut cutter = Cutter::new();
+    let mut check = |tokens: &[&str]| cutter.check_tokens(&words, "กขคง", tokens).unwrap();
+    assert_eq!(check(&["กขค", "ง"]), Verdict::Right);
+    assert_eq!(check(&["กข", "ขง"]), Verdict::Wrong(1));
+    assert_eq!(check(&["กข", "คง", "ก"]), Verdict::Wrong(2));
+    assert_eq!(check(&["ก", "ขคง"]), Verdict::Wrong(0));
+    assert_eq!(check(&["", "กข", "คง"]), Verdict::Wrong(0));
+    assert_eq!(cutter.check_claim(&words, "กขคง", &[2, usize::MAX]), Ok(Verdict::Wrong(1)));
+    assert_eq!(cutter.check_claim(&words, &"ก".repeat(65_536), &[]), Err(Error::TooManyScalars(65_536)));
 }

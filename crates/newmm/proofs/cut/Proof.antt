@@ -1,5 +1,7 @@
 -- Assumes nothing.
-use Rattle.newmm.proofs.Calls.{passes, early-cuts}
+use lib.ListN.{length}
+use Rattle.newmm_answers.proofs.Checks.{passes}
+use Rattle.newmm.proofs.Calls.{early-cuts}
 use borrow.Author.Needs.{needs}
 use Rattle.newmm.proofs.cut.Statement.{statement}
 use Rattle.newmm.proofs.cut.Tie as tie
@@ -18,7 +20,7 @@ cut-checked-requires c κs =
     let c2 = c .before .before in
     let c4 = c2 .before .before in
     let c9 = c4 .before .before .before .before .before in
-    passes (c9 .args .mode) (c9 .args .text .now) (c9 .args .pool .now) (c9 .args .scratch .now)
+    passes (c9 .args .text .now) (c9 .args .pool .now) (length (c9 .args .scratch .now))
     (c4 .check-cut .ensures) (c2 .enum-told .given .1)
 
 returns : tie.Need-returns
