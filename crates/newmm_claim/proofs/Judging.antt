@@ -13,7 +13,9 @@ use Rattle.newmm_rules.specs.Claims.{Verdict, right, wrong, tokenRight, verdict
 use Rattle.newmm_rules.proofs.Tokens.{spans}
 use Rattle.newmm_rules.proofs.Claims.{right-token}
 use Rattle.newmm_claim.specs.declared.ClaimAnswer.the-variants.{Right, Wrong}
+use Rattle.newmm_word_step.specs.inner.Places.{Place}
 use Rattle.newmm_claim.specs.Answers.{verdictTold}
+use Rattle.newmm_claim.specs.inner.Judging.{Judges}
 
 -- the tokens before k are right, and token k starts at b
 pub record Judging (g : Given) (claimed : List ℕ) (b k : ℕ) : Type 0 where
@@ -44,15 +46,31 @@ module _ {g : Given} {claimed : List ℕ} {b k : ℕ} (j : Judging g claimed b k
               ∙ ap (λ (x : ℕ). verdictFrom g x e (drop x claimed)) i;
         }
 
-  module _ (all : length claimed ≤ k) where
-    at-end : (t : Bool) → eqb b (size g) ≡ t → verdict g claimed ≡ cond t right (wrong k)
-    unfolding verdictFrom
-    at-end t h =
-        j .rest ∙ ap (verdictFrom g k b) (drop-of-length-le claimed {i = k} all)
-        ∙ ap (λ (u : Bool). cond u right (wrong k)) h
+  none-left : length claimed ≤ k → (t : Bool) → eqb b (size g) ≡ t → verdict g claimed ≡ cond t right (wrong k)
+  unfolding verdictFrom
+  none-left all t h =
+      j .rest ∙ ap (verdictFrom g k b) (drop-of-length-le claimed {i = k} all)
+      ∙ ap (λ (u : Bool). cond u right (wrong k)) h
 
-    pub judge-short : b < size g → Wrong k ≡ verdictTold (verdict g claimed)
-    judge-short h = sym (ap verdictTold (at-end false (ne-eqb b (size g) (λ q. omega arith))))
+  pub judge-short : b < size g → length claimed ≤ k → Wrong k ≡ verdictTold (verdict g claimed)
+  judge-short h all = sym (ap verdictTold (none-left all false (ne-eqb b (size g) (λ q. omega arith))))
 
-    pub judge-right : size g ≤ b → Right ≡ verdictTold (verdict g claimed)
-    judge-right h = sym (ap verdictTold (at-end true (eq-eqb b (size g) (omega (arith, j .inside)))))
+  module _ (through : size g ≤ b) where
+    pub judge-right : length claimed ≤ k → Right ≡ verdictTold (verdict g claimed)
+    judge-right all = sym (ap verdictTold (none-left all true (eq-eqb b (size g) (omega (arith, j .inside)))))
+
+    -- no token starts at the text's end
+    pub judge-extra : k < length claimed → Wrong k ≡ verdictTold (verdict g claimed)
+    judge-extra more = sym (ap verdictTold (next more false (go (tokenRight g b (getD claimed k 0)) refl)))
+      where
+        go : (t : Bool) → tokenRight g b (getD claimed k 0) ≡ t → t ≡ false
+        go true h = let s = spans (right-token g b (getD claimed k 0) h) in absurd (omega (arith, s .0, s .1))
+        go false h = refl
+
+-- what the call on a token asks
+pub place-of : {text pool flags : List ℕ} {b : ℕ} → Judges text pool flags → b < length text → Place text pool flags b
+place-of j h = record { inside = h; root-is = j .root-is; flags-are = j .flags-are }
+
+-- less of the text is left
+pub onward : (g : Given) (b e : ℕ) {t : Bool} → t ≡ tokenRight g b e → t ≡ true → b < e
+onward g b e r s = spans (right-token g b e (sym r ∙ s)) .0

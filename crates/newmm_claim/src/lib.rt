@@ -14,6 +14,7 @@ ghost use mathlib.Core.Path.{_≡_};
 ghost use lib.ListN.{length};
 ghost use Rattle.newmm_answers.specs.inner.Passing.{Passes};
 ghost use Rattle.newmm_rules.specs.Claims.{tokenRight, verdict};
+ghost use Rattle.newmm_word_step.specs.inner.Places.{Place};
 ghost use Rattle.newmm_word_step.specs.inner.Walks.{givenBy};
 ghost use Rattle.newmm_claim.specs.Answers.{verdictTold, claim, Claims};
 ghost use Rattle.newmm_claim.specs.inner.Judging.{Judges};
@@ -26,17 +27,12 @@ pub enum ClaimAnswer {
     Refused(Refusal),
 }
 
-// Whether the token from b to e is right.
+// Whether the token from b to e is right. No word and no span ends at b or before, or behind the
+// text, so e may be any number.
 fn token_right(text: &[u32], pool: &[u32], flags: &[u32], b: usize, e: usize) -> bool
-    requires { ⌜ Judges (now text) (now pool) (now flags) ⌝ }
+    requires { ⌜ Place (now text) (now pool) (now flags) b ⌝ }
     ensures { λ r. ⌜ r ≡ tokenRight (givenBy (now (text .entry)) (now (pool .entry))) b e ⌝ }
 {
-    if e <= b {
-        return false;
-    }
-    if text.len() < e {
-        return false;
-    }
     let found = words_at(text, pool, flags, b, e);
     match found {
         Found::Here => true,
@@ -45,7 +41,7 @@ fn token_right(text: &[u32], pool: &[u32], flags: &[u32], b: usize, e: usize) ->
     }
 }
 
-// Goes over the tokens up to the first that is wrong.
+// Goes over the tokens up to the first that is wrong, or to the text's end.
 fn judge(text: &[u32], pool: &[u32], flags: &[u32], claimed: &[u32]) -> ClaimAnswer
     requires { ⌜ Judges (now text) (now pool) (now flags) ⌝ }
     ensures { λ r. ⌜ r ≡
@@ -53,7 +49,10 @@ fn judge(text: &[u32], pool: &[u32], flags: &[u32], claimed: &[u32]) -> ClaimAns
 {
     let mut b = 0;
     let mut k = 0;
-    while k < claimed.len() {
+    while b < text.len() {
+        if claimed.len() <= k {
+            return ClaimAnswer::Wrong(k);
+        }
         let e = wide(claimed[k]);
         if !token_right(text, pool, flags, b, e) {
             return ClaimAnswer::Wrong(k);
@@ -61,7 +60,7 @@ fn judge(text: &[u32], pool: &[u32], flags: &[u32], claimed: &[u32]) -> ClaimAns
         b = e;
         k += 1;
     }
-    if b < text.len() {
+    if k < claimed.len() {
         return ClaimAnswer::Wrong(k);
     }
     ClaimAnswer::Right
