@@ -10,3 +10,4 @@ pub mod Orders
 pub mod Counts
 pub mod FewestWords
 pub mod Fails
+pub mod Sheet

@@ -6,3 +6,4 @@ pub mod Ends
 pub mod Cases
 pub mod LongTexts
 pub mod FewestWords
+pub mod Sheet
