@@ -1,11 +1,8 @@
-// Cutting, for hosts: a call for each mode.
-use crate::telling::tell_cut;
-use newmm::cut;
-use newmm_rules::Mode;
+// Cutting: a call for each mode.
 ghost use Rattle.newmm_rules.specs.declared.Mode.the-variants.{Plain, Safe};
 ghost use Rattle.newmm_answers.specs.Calls.{call};
-ghost use Rattle.fetlockice.specs.Told.{toldCut};
-ghost use Rattle.fetlockice.specs.Rows.{CutTold};
+ghost use Rattle.host_telling.specs.Told.{toldCut};
+ghost use Rattle.host_cuts.specs.Calls.{CutTold};
 
 // Cuts a text plainly: the ends of its tokens, in characters, at the front of out; accepted with
 // their number and that of the edges. Refusals 2 to 6.
@@ -24,8 +21,7 @@ pub extern "C" fn fetlockice_cut_plain(
         (toldCut r (now (count .exit)) (now (edges .exit)) (now (detail .exit)))
         (now (out .exit)) (now (scratch .exit)) ⌝ }
 {
-    let plain = cut(text, pool, out, scratch, Mode::Plain);
-    tell_cut(plain, count, edges, detail)
+    host_cuts::cut_plain(text, pool, out, scratch, count, edges, detail)
 }
 
 // Cuts a text in safe mode; the rest as in the plain cut.
@@ -44,6 +40,5 @@ pub extern "C" fn fetlockice_cut_safe(
         (toldCut r (now (count .exit)) (now (edges .exit)) (now (detail .exit)))
         (now (out .exit)) (now (scratch .exit)) ⌝ }
 {
-    let safe = cut(text, pool, out, scratch, Mode::Safe);
-    tell_cut(safe, count, edges, detail)
+    host_cuts::cut_safe(text, pool, out, scratch, count, edges, detail)
 }

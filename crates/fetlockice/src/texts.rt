@@ -1,13 +1,6 @@
-// Bytes, scalars and clusters, for hosts.
-use crate::telling::tell;
-use tcc::tcc_pos;
-use utf8::decode;
-ghost use mathlib.Core.Path.{_≡_};
-ghost use lib.ListN.{length};
-ghost use Rattle.utf8.specs.Decoding.{decoded};
-ghost use Rattle.tcc.specs.Answers.{clustersAnswer};
-ghost use Rattle.fetlockice.specs.Told.{told, tells};
-ghost use Rattle.fetlockice.specs.Rows.{scalarsOut, clustersOut};
+// Bytes, scalars and clusters.
+ghost use Rattle.host_telling.specs.Told.{told};
+ghost use Rattle.host_texts.specs.Calls.{DecodeTold, ClustersTold};
 
 // The scalars of UTF-8 bytes, at the front of out; accepted with their number. Refusals 1, 2, 6.
 #[no_mangle]
@@ -17,12 +10,10 @@ pub extern "C" fn fetlockice_decode(
     count: &mut usize,
     detail: &mut usize,
 ) -> u32
-    ensures { λ r. ⌜ told r (now (count .exit)) (now (detail .exit))
-        ≡ tells (decoded (now (bytes .entry)) (length (now (out .entry)))) ⌝ }
-    ensures { λ _. ⌜ now (out .exit) ≡ scalarsOut (now (bytes .entry)) (now (out .entry)) ⌝ }
+    ensures { λ r. ⌜ DecodeTold (now (bytes .entry)) (now (out .entry))
+        (told r (now (count .exit)) (now (detail .exit))) (now (out .exit)) ⌝ }
 {
-    let scalars = decode(bytes, out);
-    tell(scalars, count, detail)
+    host_texts::decode(bytes, out, count, detail)
 }
 
 // The ends of a text's clusters, in characters, at the front of out; accepted with their number.
@@ -34,10 +25,8 @@ pub extern "C" fn fetlockice_clusters(
     count: &mut usize,
     detail: &mut usize,
 ) -> u32
-    ensures { λ r. ⌜ told r (now (count .exit)) (now (detail .exit))
-        ≡ tells (clustersAnswer (now (text .entry)) (length (now (out .entry)))) ⌝ }
-    ensures { λ _. ⌜ now (out .exit) ≡ clustersOut (now (text .entry)) (now (out .entry)) ⌝ }
+    ensures { λ r. ⌜ ClustersTold (now (text .entry)) (now (out .entry))
+        (told r (now (count .exit)) (now (detail .exit))) (now (out .exit)) ⌝ }
 {
-    let ends = tcc_pos(text, out);
-    tell(ends, count, detail)
+    host_texts::clusters(text, out, count, detail)
 }

@@ -25,7 +25,7 @@ use Rattle.fetlockice.proofs.fetlockice_cut_safe.Reads as cut-safe-contract
 use Rattle.trie_pool.specs.Meaning.{noWord}
 use Rattle.trie_char.proofs.One.{one-after}
 use Rattle.trie_char.specs.Answers.{freshAnswer, addAnswer, removeAnswer, added, removed}
-use Rattle.fetlockice.specs.Told.{Told, told, toldCut}
+use Rattle.host_telling.specs.Told.{Told, told, toldCut}
 use Rattle.theorems_one_answer.specs.OneAnswer.{OneAnswer}
 use Rattle.theorems_one_answer.proofs.Shapes.{answer, both, answer-and-two-rows}
 

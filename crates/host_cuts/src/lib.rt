@@ -1,0 +1,47 @@
+// Cutting, as hosts are told it: a function for each mode.
+use host_telling::tell_cut;
+use newmm::cut;
+use newmm_rules::Mode;
+ghost use Rattle.newmm_rules.specs.declared.Mode.the-variants.{Plain, Safe};
+ghost use Rattle.newmm_answers.specs.Calls.{call};
+ghost use Rattle.host_telling.specs.Told.{toldCut};
+ghost use Rattle.host_cuts.specs.Calls.{CutTold};
+
+// Cuts a text plainly: the ends of its tokens, in characters, at the front of out; accepted with
+// their number and that of the edges. Refusals 2 to 6.
+pub fn cut_plain(
+    text: &[u32],
+    pool: &[u32],
+    out: &mut [u32],
+    scratch: &mut [u32],
+    count: &mut usize,
+    edges: &mut usize,
+    detail: &mut usize,
+) -> u32
+    ensures { λ r. ⌜ CutTold
+        (call (now (text .entry)) (now (pool .entry)) (now (out .entry)) (now (scratch .entry)) Plain)
+        (toldCut r (now (count .exit)) (now (edges .exit)) (now (detail .exit)))
+        (now (out .exit)) (now (scratch .exit)) ⌝ }
+{
+    let plain = cut(text, pool, out, scratch, Mode::Plain);
+    tell_cut(plain, count, edges, detail)
+}
+
+// Cuts a text in safe mode; the rest as in the plain cut.
+pub fn cut_safe(
+    text: &[u32],
+    pool: &[u32],
+    out: &mut [u32],
+    scratch: &mut [u32],
+    count: &mut usize,
+    edges: &mut usize,
+    detail: &mut usize,
+) -> u32
+    ensures { λ r. ⌜ CutTold
+        (call (now (text .entry)) (now (pool .entry)) (now (out .entry)) (now (scratch .entry)) Safe)
+        (toldCut r (now (count .exit)) (now (edges .exit)) (now (detail .exit)))
+        (now (out .exit)) (now (scratch .exit)) ⌝ }
+{
+    let safe = cut(text, pool, out, scratch, Mode::Safe);
+    tell_cut(safe, count, edges, detail)
+}
