@@ -18,11 +18,12 @@ static const unsigned refusals[OPS] = {
     [WORD_COUNT] = 1 << 4,
     [CUT_PLAIN] = 1 << 2 | 1 << 3 | 1 << 4 | 1 << 5 | 1 << 6,
     [CUT_SAFE] = 1 << 2 | 1 << 3 | 1 << 4 | 1 << 5 | 1 << 6,
+    [CUT_SHEET] = 1 << 2 | 1 << 3 | 1 << 4 | 1 << 5 | 1 << 6,
 };
 
 int writes_output(enum op op) { return op == DECODE || op == CLUSTERS || op == PREFIX_LENGTHS || cuts(op); }
 int writes_pool(enum op op) { return op == FRESH || op == ADD || op == REMOVE; }
-int cuts(enum op op) { return op == CUT_PLAIN || op == CUT_SAFE; }
+int cuts(enum op op) { return op == CUT_PLAIN || op == CUT_SAFE || op == CUT_SHEET; }
 
 /* The rows of one call. */
 struct rows {
@@ -49,9 +50,12 @@ static uint32_t exported(const struct call *c, const void *text, uint32_t *pool,
     case CUT_PLAIN:
         return fetlockice_cut_plain(text, c->n, pool, c->cells, out, c->room, scratch, c->scratch, &to->count,
                                     &to->edges, &to->detail);
-    default:
+    case CUT_SAFE:
         return fetlockice_cut_safe(text, c->n, pool, c->cells, out, c->room, scratch, c->scratch, &to->count,
                                    &to->edges, &to->detail);
+    default:
+        return fetlockice_cut_sheet(text, c->n, pool, c->cells, out, c->room, scratch, c->scratch, &to->count,
+                                    &to->edges, &to->detail);
     }
 }
 

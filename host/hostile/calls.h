@@ -5,7 +5,20 @@
 #include <stddef.h>
 #include <stdint.h>
 
-enum op { DECODE, CLUSTERS, FRESH, ADD, REMOVE, CONTAINS, PREFIX_LENGTHS, WORD_COUNT, CUT_PLAIN, CUT_SAFE, OPS };
+enum op {
+    DECODE,
+    CLUSTERS,
+    FRESH,
+    ADD,
+    REMOVE,
+    CONTAINS,
+    PREFIX_LENGTHS,
+    WORD_COUNT,
+    CUT_PLAIN,
+    CUT_SAFE,
+    CUT_SHEET,
+    OPS
+};
 
 struct call {
     enum op op;

@@ -17,6 +17,7 @@ uint32_t __real_fetlockice_prefix_lengths(const uint32_t *, size_t, const uint32
 uint32_t __real_fetlockice_word_count(const uint32_t *, size_t, size_t *, size_t *);
 uint32_t __real_fetlockice_cut_plain(CUT);
 uint32_t __real_fetlockice_cut_safe(CUT);
+uint32_t __real_fetlockice_cut_sheet(CUT);
 
 /* 1: the detail of a refusal is one too high */
 uint32_t __wrap_fetlockice_decode(const uint8_t *bytes, size_t n, uint32_t *out, size_t room, size_t *count,
@@ -93,4 +94,10 @@ uint32_t __wrap_fetlockice_cut_safe(CUT) {
     if (FAULT == 11 && number == 0) *edges += 1;
     if (FAULT == 12 && number == FETLOCKICE_SCRATCH_TOO_SHORT && len > 0) scratch[0] = 0;
     return number;
+}
+
+/* 13: the profile "sheet" is safe mode */
+uint32_t __wrap_fetlockice_cut_sheet(CUT) {
+    if (FAULT == 13) return __real_fetlockice_cut_safe(CUT_WITH);
+    return __real_fetlockice_cut_sheet(CUT_WITH);
 }

@@ -7,6 +7,9 @@ pub enum Mode {
     Plain,
     /// In parts, where it has 140 characters or more.
     Safe,
+    /// In parts as [`Mode::Safe`], but where a space ends a part it is cut right behind that space: no part but the last has
+    /// under 100 characters.
+    Sheet,
 }
 
 /// A token: a part of the caller's text, and where it ends there.
@@ -46,8 +49,7 @@ impl Cutter {
             self.scratch.resize(needed, 0);
             self.ends.resize(cells.len(), 0);
         }
-        let (count, edges) =
-            ffi::cut(mode == Mode::Safe, &cells, dictionary.pool(), &mut self.ends, &mut self.scratch[..needed])?;
+        let (count, edges) = ffi::cut(mode, &cells, dictionary.pool(), &mut self.ends, &mut self.scratch[..needed])?;
         Ok(Cut { tokens: tokens(text, &self.ends[..count]), edges })
     }
 }
