@@ -108,6 +108,19 @@ def both(r):
     return table(head, rows)
 
 
+def modes(r):
+    head = ["text, words", "plain ns", "instr.", "safe ns", "instr.", "sheet ns", "instr.", "sheet / safe", "by instr."]
+    rows = []
+    for words in ("small", "all"):
+        for texts in (LINES, LONG):
+            row = ["%s; %s words" % (where(r, texts), r.words(words))]
+            for op in ("plain", "safe", "sheet"):
+                cells = r.cells("ours", op, texts, words)
+                row += [cells[0], cells[2]]
+            rows.append(row + ["%.2f" % (of("ours", "sheet", texts, words) / of("ours", "safe", texts, words)) for of in (r.time, r.count)])
+    return table(head, rows)
+
+
 def others(r):
     sides, ops = {"libthai": "libthai", "icu": "ICU"}, {"plain": "word breaks", "decode": "decoding to UTF-16"}
 
@@ -232,6 +245,9 @@ def limits(r):
     for words in ("all", "small"):
         ratios = [of("ours", "check", LONG, words) / of("ours", "read", LONG, words) for of in (r.time, r.count)]
         yield row("the check of the pool against a plain read of its cells, %s words" % r.words(words), 3, ratios)
+    for words in ("all", "small"):
+        ratios = [of("ours", "sheet", LONG, words) / of("ours", "safe", LONG, words) for of in (r.time, r.count)]
+        yield row("the profile sheet against safe mode, one long text, %s words" % r.words(words), 1.05, ratios)
     firsts = {
         "prefix lookup, 26 Latin and 4,974 CJK first characters more, against %s words" % r.words("all"): ((LONG, "many"), (LONG, "all")),
         "prefix lookup, 20,000 evenly spaced first characters against 200": [("spaced-%d.txt" % n, "spaced-%d" % n) for n in (20000, 200)],
@@ -260,6 +276,7 @@ def sections(r):
     head = ["target, at least: the speed of the library before", "asked", "by time", "by instructions", ""]
     yield "## Targets", [*least, "", *most] + (["", *table(head, before)] if before else [])
     yield "## Ours and the Rust", both(r)
+    yield "## The three modes", modes(r)
     yield "## libthai and ICU", others(r)
     yield "## The check of the pool", ["Refusal 4 costs one check in every call that is lent a pool.", "", *pools(r)]
     yield "## Loading and memory", ["Ours adds the words one by one. The pool is as long as its nodes need.", "", *memory(r)]
