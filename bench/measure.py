@@ -133,6 +133,7 @@ def measure_rows():
     wanted += [(side, (op, texts, "")) for side, op in OTHERS for texts in (LINES, LONG)]
     wanted += [("ours", (op, LONG, words)) for words in ("small", "all") for op in ("check", "read", "read-wide")]
     wanted += [("ours", ("check", texts, words)) for texts, words in FIRSTS]
+    wanted += [("ours", ("sheet", texts, words)) for words in ("small", "all") for texts in (LINES, LONG)]
     wanted += [("ours", (op, LONG, words)) for words in ("small", "all") for op in ("cut", "claim")]
     if os.path.exists(DRIVERS["before"]):
         wanted += [("before", (op, LONG, "all")) for op in ("places", "check")]

@@ -108,6 +108,19 @@ def both(r):
     return table(head, rows)
 
 
+def modes(r):
+    head = ["text, words", "plain ns", "instr.", "safe ns", "instr.", "sheet ns", "instr.", "sheet / safe", "by instr."]
+    rows = []
+    for words in ("small", "all"):
+        for texts in (LINES, LONG):
+            row = ["%s; %s words" % (where(r, texts), r.words(words))]
+            for op in ("plain", "safe", "sheet"):
+                cells = r.cells("ours", op, texts, words)
+                row += [cells[0], cells[2]]
+            rows.append(row + ["%.2f" % (of("ours", "sheet", texts, words) / of("ours", "safe", texts, words)) for of in (r.time, r.count)])
+    return table(head, rows)
+
+
 def others(r):
     sides, ops = {"libthai": "libthai", "icu": "ICU"}, {"plain": "word breaks", "decode": "decoding to UTF-16"}
 
@@ -253,6 +266,8 @@ def limits(r):
         ratios = [of("ours", "check", LONG, words) / of("ours", "read", LONG, words) for of in (r.time, r.count)]
         yield row("the check of the pool against a plain read of its cells, %s words" % r.words(words), 3, ratios)
     for words in ("all", "small"):
+        ratios = [of("ours", "sheet", LONG, words) / of("ours", "safe", LONG, words) for of in (r.time, r.count)]
+        yield row("the profile sheet against safe mode, one long text, %s words" % r.words(words), 1.05, ratios)
         ratios = [(of("ours", "claim", LONG, words) - of("ours", "check", LONG, words)) / (of("ours", "cut", LONG, words) - of("ours", "check", LONG, words)) for of in (r.time, r.count)]
         yield row("a claim of our own ends against the plain cut, the check left out, %s words" % r.words(words), 1, ratios)
     firsts = {
@@ -283,6 +298,7 @@ def sections(r):
     head = ["target, at least: the speed of the library before", "asked", "by time", "by instructions", ""]
     yield "## Targets", [*least, "", *most] + (["", *table(head, before)] if before else [])
     yield "## Ours and the Rust", both(r)
+    yield "## The three modes", modes(r)
     yield "## libthai and ICU", others(r)
     yield "## The check of the pool", ["Refusal 4 costs one check in every call that is lent a pool.", "", *pools(r)]
     yield "## Checking a claim", [*claims(r), "", "Instructions a character, the check of the pool included:", "", *claims_grown(r)]

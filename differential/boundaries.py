@@ -23,6 +23,16 @@ DOCUMENT = [
 ]
 
 
+# The cuts that ticket 10 was planned with, in the profile "sheet" and without words, with the ends given for them.
+SHEETS = [
+    (KO * 139 + " ", [139, 140]),
+    (KO * 105 + " " + KO * 34, [105, 106, 140]),
+    (" " * 140, [140]),
+    (" " * 141, [140, 141]),
+    (" " * 280, [140, 280]),
+]
+
+
 def edges():
     """Texts in which about 50 edges stand at once: from one place, from two, and from every place."""
     yield [KO * 2, KO * 3], KO * 30
@@ -92,3 +102,34 @@ def cases():
             yield "plain", held, text
             if len(text) >= 139:
                 yield "safe", held, text
+
+
+def spaced(n, places, space=" ", letter=KO):
+    """A text of n letters with spaces at these places."""
+    return "".join(space if k in places else letter for k in range(n))
+
+
+def sheets():
+    """The profile "sheet": words and a text, on both sides of each of its lines."""
+    for text, _ in SHEETS:
+        yield [], text
+    for n in 1, 99, 100, 101, 138, 139, 140, 141, 179, 180, 181, 239, 240, 241, 279, 280, 281:
+        for held in [], [KO * 7], [KO * 2, KO * 3]:
+            yield held, KO * n
+            yield held, " " * n
+            yield held, spaced(n, {n - 1})
+            yield held, spaced(n, {n - 1}, "\u00a0")
+    # a space at every place of a sample and beside it, alone and with a second one
+    for place in range(98, 143):
+        for n in 140, 141, 150, 280:
+            yield [], spaced(n, {place}, letter="a")
+            yield [KO * 3, KO * 5], spaced(n, {place})
+        yield [KO * 3, KO * 5], spaced(320, {place, 100, 139, place + 101})
+        yield [KO * 3, KO * 5], spaced(200, {place}, "\u00a0")
+    # a no-break space or a tab behind the last space, and a word over the cut
+    for other in "\u00a0", "\t", "\u3000":
+        yield [KO * 3], spaced(120, {110}) + other + KO * 100
+    yield [KO + " " + KO, KO], spaced(300, {105, 120, 230})
+    yield [KO + AA], " " * 40 + (KO + AA) * 120
+    for longest in range(1, 39):
+        yield [KO * longest, KHO * longest], NGO * 100 + KO * longest + KHO * longest + NGO * 60

@@ -433,6 +433,26 @@ class SafeCuts:
         return lines.cut("safe" if rng.random() < 0.9 else "plain", some_words(rng, text), text)
 
 
+class SheetBoundaries:
+    """The profile "sheet" on both sides of each of its lines."""
+    held = list(boundaries.sheets())
+    op, weight, size = "cut", 3, len(held)
+
+    def line(self, rng, i):
+        return lines.cut("sheet", *self.held[i])
+
+
+class SheetCuts:
+    """The profile "sheet" around its boundaries, with spaces and no-break spaces in and beside the sampled places."""
+    op, weight, size = "cut", 8, None
+
+    def line(self, rng, i):
+        text = with_spaces(rng, some_text(rng, rng.choice(LENGTHS)))
+        if rng.random() < 0.2:
+            text = text.replace(" ", "\u00a0", rng.randint(1, 3))
+        return lines.cut("sheet", some_words(rng, text), text)
+
+
 class DenseCuts:
     """Many edges: runs of a character with words of many lengths, around the limit of 50, whole or broken."""
     op, weight, size = "cut", 6, None
@@ -479,10 +499,10 @@ class RealCuts:
             text += rng.choice(["", " "]) + rng.choice(real.texts())
         if rng.random() < 0.3:
             text = damaged(rng, text)
-        return lines.cut(rng.choice(["plain", "safe"]), real.words_in(text[:3000]), text[:3000])
+        return lines.cut(rng.choice(["plain", "safe", "sheet"]), real.words_in(text[:3000]), text[:3000])
 
 
-MADE = [ShortClusters, LookaheadClusters, AllThaiClusters, RandomClusters, ShortScripts, RandomScripts, Prefixes, CrowdedScripts, CrowdedPrefixes, EachBlank, SpacedScripts, SpacedPrefixes, SpacedCuts, ShortCuts, ShortNonThai, ShortClassCuts, BoundaryCuts, RandomCuts, SafeCuts, DenseCuts, LongWords]
+MADE = [ShortClusters, LookaheadClusters, AllThaiClusters, RandomClusters, ShortScripts, RandomScripts, Prefixes, CrowdedScripts, CrowdedPrefixes, EachBlank, SpacedScripts, SpacedPrefixes, SpacedCuts, ShortCuts, ShortNonThai, ShortClassCuts, BoundaryCuts, RandomCuts, SafeCuts, SheetBoundaries, SheetCuts, DenseCuts, LongWords]
 REAL = [RealClusters, RealCuts]
 
 

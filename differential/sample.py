@@ -1,6 +1,7 @@
-"""Keeps a sample of the made cases with the Rust's answers in tests/vectors/rust.txt: differential/sample.py
+"""Keeps a sample of the made cases with the Rust's answers in tests/vectors/rust.txt, and one in the profile "sheet", put
+together from the Rust's plain cuts, in tests/vectors/sheet.txt: differential/sample.py
 
-The scripts in tests/ put its lines behind their own. It is the same each time. The Rust is what differential/setup has
+The scripts in tests/ put their lines behind their own. They are the same each time. The Rust is what differential/setup has
 built. No real text and no real words are in it.
 """
 import os
@@ -8,6 +9,7 @@ import os
 import boundaries
 import generate
 import lines
+import sheet
 import sides
 
 SEED = 1
@@ -36,11 +38,15 @@ KEPT = {
     generate.DenseCuts: (60, 250),
     generate.LongWords: (6, 1500),
 }
+SHEETS = {
+    generate.SheetBoundaries: (generate.SheetBoundaries.size, 2000),
+    generate.SheetCuts: (60, 700),
+}
 
 
-def sampled():
+def sampled(kept):
     """Lines of every group, in order."""
-    for group, (count, longest) in KEPT.items():
+    for group, (count, longest) in kept.items():
         # More than is kept, since lines that are too long fall out.
         fitting = [line for _, line in generate.cases([group], 20 * count, SEED) if len(line) <= longest]
         yield from fitting[:: max(1, len(fitting) // count)][:count]
@@ -53,13 +59,29 @@ def hold_to_document(answered):
             raise SystemExit("document 01 and the Rust differ on %r, %s" % (text, mode))
 
 
-def main():
-    given = list(sampled())
-    answered = list(zip(given, sides.rust(given)))
-    hold_to_document(dict(answered))
-    with open(os.path.join(sides.ROOT, "tests", "vectors", "rust.txt"), "w", encoding="ascii") as out:
+def hold_parts(answered, in_sheet):
+    """Stops where parts that are joined here give other ends than the Rust's safe mode, or than ticket 10 was planned with."""
+    line = sheet.against_safe(answered, sides.rust)
+    if line:
+        raise SystemExit("the parts joined and the Rust's safe mode differ on %s" % line)
+    for text, ends in boundaries.SHEETS:
+        if in_sheet[lines.cut("sheet", [], text)].split(" ")[1] != ",".join(map(str, ends)):
+            raise SystemExit("ticket 10 was planned with other ends of %r" % text)
+
+
+def keep(name, answered):
+    with open(os.path.join(sides.ROOT, "tests", "vectors", name), "w", encoding="ascii") as out:
         out.writelines("%s\t=>\t%s\n" % pair for pair in answered)
-    print("tests/vectors/rust.txt: %d lines" % len(answered))
+    print("tests/vectors/%s: %d lines" % (name, len(answered)))
+
+
+def main():
+    given, in_sheet = list(sampled(KEPT)), list(dict.fromkeys(sampled(SHEETS)))
+    answered, joined = list(zip(given, sides.rust(given))), list(zip(in_sheet, sides.rust(in_sheet)))
+    hold_to_document(dict(answered))
+    hold_parts(answered, dict(joined))
+    keep("rust.txt", answered)
+    keep("sheet.txt", joined)
 
 
 main()

@@ -3,6 +3,8 @@ import functools
 import os
 import subprocess
 
+import sheet
+
 ROOT = os.path.dirname(os.path.dirname(os.path.abspath(__file__)))
 RUST = os.path.join(ROOT, "target", "differential", "cargo", "release", "nlpo3-answers")
 
@@ -13,6 +15,7 @@ PROGRAMS = {
     "dict": ["test_trie_char"],
     "cut plain": ["test_cut"],
     "cut safe": ["test_cut"],
+    "cut sheet": ["test_cut"],
 }
 
 
@@ -41,7 +44,11 @@ def run(program, lines):
 
 
 def rust(lines):
-    return run(RUST, lines)
+    """The Rust's answers. The profile "sheet" is put together from its plain cuts."""
+    in_parts = [line for line in lines if kind(line) == "cut sheet"]
+    joined = iter(sheet.answers(in_parts, lambda given: run(RUST, given)))
+    own = iter(run(RUST, [line for line in lines if kind(line) != "cut sheet"]))
+    return [next(joined if kind(line) == "cut sheet" else own) for line in lines]
 
 
 def ours(lines):

@@ -2,9 +2,10 @@
 
     python3 tests/make_cut.py
 
-The independent model's lines for cut are taken, and from them lines with too little scratch, too little output, a bad
-text or a bad pool. tests/fewest.py has more texts, each told stretch by stretch. What those refuse with, document 01 says: the conditions in their order, each with its detail. The
-Rust's lines stand behind them.
+The independent model's lines for cut are taken, those in the three modes too, and from them lines with too little scratch,
+too little output, a bad text or a bad pool. What those refuse with, document 01 says: the conditions in their order, each
+with its detail. tests/fewest.py has more texts, each told stretch by stretch. The Rust's lines stand behind them, and those
+in the profile "sheet", whose parts the Rust has cut.
 """
 import fewest
 import vectors
@@ -57,7 +58,7 @@ def bad_calls():
     """Texts that are too long or hold a cell that is no scalar, with pools that pass and that don't, and rows of no cells."""
     a, good, empty = 0x61, cells_of({(0x61,)}, 16), []
     texts = [[a] * (LONGEST + 1), [a] * LONGEST + [0xD800], [0xD800], [a, 0xDFFF, 0x110000], [a, a, 0x110000], [0xFFFFFFFF], [a, 0xD7FF, 0xE000, 0x10FFFF]]
-    for mode in "plain", "safe":
+    for mode in "plain", "safe", "sheet":
         for text in texts:
             for pool in good, empty:
                 answer = refusal(text, pool == good, 0, 0, [])
@@ -69,17 +70,21 @@ def pool_calls():
     for line, answer in pools():
         cells = line.split("\t")[1]
         if answer.startswith("!"):
-            for mode, scratch, out in ("plain", "*", "*"), ("safe", "0", "0"):
+            for mode, scratch, out in ("plain", "*", "*"), ("safe", "0", "0"), ("sheet", "*", "0"):
                 yield ["cut_pool", mode, cells, "E01.E02", scratch, out], "! 4 0"
 
 
-def main():
-    found = vectors.model("cut")
-    lines = list(found)
+def other_rows(found, every):
+    """Other rows lent to the short lines that are accepted, to one in so many of them."""
     accepted = [line for line in found if line[1].startswith("ok") and len(line[0][2] + line[0][3]) < SHORT]
-    for fields, expected in accepted[::6]:
-        lines += lent_rows(fields, expected)
-    vectors.write("test_cut", lines + fewest.lines() + list(bad_calls()) + list(pool_calls()) + vectors.rust("cut"))
+    return [line for fields, expected in accepted[::every] for line in lent_rows(fields, expected)]
+
+
+def main():
+    model, modes = vectors.model("cut"), vectors.read("cuts.txt", ["cut"])
+    lines = model + other_rows(model, 6) + modes + other_rows([line for line in modes if line[0][1] == "sheet"], 3)
+    lines += fewest.lines() + list(bad_calls()) + list(pool_calls())
+    vectors.write("test_cut", lines + vectors.rust("cut") + vectors.read("sheet.txt", ["cut"]))
 
 
 main()

@@ -10,12 +10,13 @@
 /* One check of the pool, and the search for words at every place of the text; answers their number: crates/bench_prefix_search. */
 size_t search_places(const uint32_t *pool, size_t pool_len, const uint32_t *text, size_t text_len, uint32_t *out, size_t out_len);
 
-/* An earlier library, linked as the side "before", may lack it. */
+/* An earlier library, linked as the side "before", may lack these. */
+#pragma weak fetlockice_cut_sheet
 #pragma weak fetlockice_check_claim
 
-enum op { DECODE, CLUSTERS, PREFIX, PLACES, PLAIN, SAFE, CUT, CLAIM, CHECK, READ, READ_WIDE };
-static const char *const names[] = {"decode", "clusters", "prefix", "places", "plain",    "safe",
-                                    "cut",    "claim",    "check",  "read",   "read-wide"};
+enum op { DECODE, CLUSTERS, PREFIX, PLACES, PLAIN, SAFE, SHEET, CUT, CLAIM, CHECK, READ, READ_WIDE };
+static const char *const names[] = {"decode", "clusters", "prefix", "places", "plain", "safe",
+                                    "sheet",  "cut",      "claim",  "check",  "read",  "read-wide"};
 
 static enum op op;
 static uint32_t *pool, *out, *scratch, *cells, **scalars, **ends;
@@ -38,9 +39,12 @@ static size_t cut(size_t i) {
     if (op == PLAIN)
         accepted(fetlockice_cut_plain(cells, n, pool, pool_len, out, n, scratch, FETLOCKICE_SCRATCH_CELLS(n), &count, &edges,
                                       &detail));
-    else
+    else if (op == SAFE)
         accepted(fetlockice_cut_safe(cells, n, pool, pool_len, out, n, scratch, FETLOCKICE_SCRATCH_CELLS(n), &count, &edges,
                                      &detail));
+    else
+        accepted(fetlockice_cut_sheet(cells, n, pool, pool_len, out, n, scratch, FETLOCKICE_SCRATCH_CELLS(n), &count, &edges,
+                                      &detail));
     return count;
 }
 
@@ -90,7 +94,8 @@ static size_t answer(size_t i) {
         return count;
     case PLACES: return search_places(pool, pool_len, scalars[i], lengths[i], out, lengths[i]);
     case PLAIN:
-    case SAFE: return cut(i);
+    case SAFE:
+    case SHEET: return cut(i);
     case CUT: return cut_scalars(i, out);
     case CLAIM: return claim(i);
     case CHECK: return check();

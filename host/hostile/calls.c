@@ -18,12 +18,13 @@ static const unsigned refusals[OPS] = {
     [WORD_COUNT] = 1 << 4,
     [CUT_PLAIN] = 1 << 2 | 1 << 3 | 1 << 4 | 1 << 5 | 1 << 6,
     [CUT_SAFE] = 1 << 2 | 1 << 3 | 1 << 4 | 1 << 5 | 1 << 6,
+    [CUT_SHEET] = 1 << 2 | 1 << 3 | 1 << 4 | 1 << 5 | 1 << 6,
     [CHECK_CLAIM] = 1 << 2 | 1 << 3 | 1 << 4 | 1 << 5,
 };
 
 int writes_output(enum op op) { return op == DECODE || op == CLUSTERS || op == PREFIX_LENGTHS || cuts(op); }
 int writes_pool(enum op op) { return op == FRESH || op == ADD || op == REMOVE; }
-int cuts(enum op op) { return op == CUT_PLAIN || op == CUT_SAFE; }
+int cuts(enum op op) { return op == CUT_PLAIN || op == CUT_SAFE || op == CUT_SHEET; }
 int uses_scratch(enum op op) { return cuts(op) || op == CHECK_CLAIM; }
 
 /* The rows of one call. */
@@ -54,9 +55,12 @@ static uint32_t exported(const struct call *c, const void *text, uint32_t *pool,
     case CHECK_CLAIM:
         return fetlockice_check_claim(text, c->n, pool, c->cells, claim, c->ends, scratch, c->scratch, &to->count,
                                       &to->edges, &to->detail);
-    default:
+    case CUT_SAFE:
         return fetlockice_cut_safe(text, c->n, pool, c->cells, out, c->room, scratch, c->scratch, &to->count,
                                    &to->edges, &to->detail);
+    default:
+        return fetlockice_cut_sheet(text, c->n, pool, c->cells, out, c->room, scratch, c->scratch, &to->count,
+                                    &to->edges, &to->detail);
     }
 }
 

@@ -16,6 +16,7 @@ enum op {
     WORD_COUNT,
     CUT_PLAIN,
     CUT_SAFE,
+    CUT_SHEET,
     CHECK_CLAIM,
     OPS
 };

@@ -21,6 +21,7 @@ uint32_t __real_fetlockice_prefix_lengths(const uint32_t *, size_t, const uint32
 uint32_t __real_fetlockice_word_count(const uint32_t *, size_t, size_t *, size_t *);
 uint32_t __real_fetlockice_cut_plain(CUT);
 uint32_t __real_fetlockice_cut_safe(CUT);
+uint32_t __real_fetlockice_cut_sheet(CUT);
 uint32_t __real_fetlockice_check_claim(CLAIM);
 
 /* 1: the detail of a refusal is one too high */
@@ -100,11 +101,17 @@ uint32_t __wrap_fetlockice_cut_safe(CUT) {
     return number;
 }
 
-/* 13: a claim that stops short is right; 14: a cell behind the claim is read; 15: the token behind is named */
+/* 13: the profile "sheet" is safe mode */
+uint32_t __wrap_fetlockice_cut_sheet(CUT) {
+    if (FAULT == 13) return __real_fetlockice_cut_safe(CUT_WITH);
+    return __real_fetlockice_cut_sheet(CUT_WITH);
+}
+
+/* 14: a claim that stops short is right; 15: a cell behind the claim is read; 16: the token behind is named */
 uint32_t __wrap_fetlockice_check_claim(CLAIM) {
-    if (FAULT == 14) (void)*(const volatile uint32_t *)(claim + ends);
+    if (FAULT == 15) (void)*(const volatile uint32_t *)(claim + ends);
     uint32_t number = __real_fetlockice_check_claim(CLAIM_WITH);
-    if (FAULT == 13 && number == 0 && *right == 0 && *token == ends) *right = 1, *token = 0;
-    if (FAULT == 15 && number == 0 && *right == 0) *token += 1;
+    if (FAULT == 14 && number == 0 && *right == 0 && *token == ends) *right = 1, *token = 0;
+    if (FAULT == 16 && number == 0 && *right == 0) *token += 1;
     return number;
 }

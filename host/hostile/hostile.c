@@ -3,6 +3,7 @@
 #include "calls.h"
 #include "inputs.h"
 #include "model.h"
+#include "parts.h"
 #include "rows.h"
 #include <signal.h>
 #include <stdio.h>
@@ -10,7 +11,7 @@
 #include <string.h>
 #include <unistd.h>
 
-static uint32_t pool[POOL_ROOM], text[TEXT_ROOM], scalars[TEXT_ROOM * 4], claim[2 * TEXT_ROOM];
+static uint32_t pool[POOL_ROOM], text[TEXT_ROOM], scalars[TEXT_ROOM * 4], ends[TEXT_ROOM], claim[2 * TEXT_ROOM];
 static uint8_t bytes[TEXT_ROOM * 4];
 static unsigned long answers[9];
 
@@ -58,7 +59,7 @@ static void check_ends(const struct call *c, const struct answer *a) {
 static void check_cut(const struct call *c, const struct answer *a) {
     struct call other = *c;
     check_ends(c, a);
-    other.op = c->op == CUT_PLAIN ? CUT_SAFE : CUT_PLAIN;
+    other.op = CUT_PLAIN + (c->op - CUT_PLAIN + 1 + below(2)) % 3;
     struct answer b = call_twice(&other);
     must(b.number == 0 || b.number == 6, "the other mode is refused");
     must(c->n >= 140 ||
@@ -149,7 +150,8 @@ static void check_accepted(const struct call *c, const struct answer *a) {
     case PREFIX_LENGTHS: check_prefixes(c, a); break;
     case WORD_COUNT: must(a->count == words_of(c->pool), "the word count is wrong"); break;
     case CUT_PLAIN:
-    case CUT_SAFE: check_cut(c, a); break;
+    case CUT_SAFE:
+    case CUT_SHEET: check_cut(c, a); break;
     case CHECK_CLAIM: check_verdict(c, a); break;
     default: check_change(c, a); break;
     }
@@ -193,8 +195,10 @@ static void step(void) {
          "another refusal than is due");
     if (a.number == 6) check_fit(&c, &a);
     if (a.number != 0) return;
+    if (cuts(c.op)) memcpy(ends, a.out, 4 * a.count);
     check_accepted(&c, &a);
     if (writes_output(c.op)) check_fit(&c, &a);
+    if (cuts(c.op)) check_parts(&c, &a, ends);
 }
 
 /* A trap, or a call that doesn't end. */

@@ -117,6 +117,12 @@ uint32_t fetlockice_cut_safe(const uint32_t *text, size_t text_len, const uint32
                              uint32_t *out, size_t out_len, uint32_t *scratch, size_t scratch_len, size_t *count,
                              size_t *edges, size_t *detail);
 
+/* The same by the profile "sheet": as in safe mode, but where characters 100 to 139 of what remains hold a space U+0020,
+ * the part ends right behind the last one of them. So every part but the last has 100 to 140 characters. */
+uint32_t fetlockice_cut_sheet(const uint32_t *text, size_t text_len, const uint32_t *pool, size_t pool_len,
+                              uint32_t *out, size_t out_len, uint32_t *scratch, size_t scratch_len, size_t *count,
+                              size_t *edges, size_t *detail);
+
 /* Checks ends that another program gives for the plain cut of the text, by the words of the pool. The claim is right
  * exactly if its ends rise strictly to the length, and each token either is a word of the pool that ends at a cluster
  * end, or starts where no such word starts and is the span of the rule for text that is in no dictionary. *right: 1, or

@@ -14,7 +14,7 @@ static const unsigned char PAINT = 0xA5;
 static unsigned char stack[STACK];
 static ucontext_t here, there;
 static void (*call)(void);
-static size_t most[11];
+static size_t most[12];
 
 static uint8_t bytes[4 * LONG];
 static uint32_t pool[CELLS], text[LONG + 1], word[1024], out[LONG + 1], claim[LONG + 1];
@@ -36,16 +36,33 @@ static void safe(void) {
     fetlockice_cut_safe(text, text_len, pool, pool_len, out, out_len, scratch, scratch_len, &count, &edges, &detail);
 }
 
+static void sheet(void) {
+    fetlockice_cut_sheet(text, text_len, pool, pool_len, out, out_len, scratch, scratch_len, &count, &edges, &detail);
+}
+
 static void judge(void) {
     fetlockice_check_claim(text, text_len, pool, pool_len, claim, claim_len, scratch, scratch_len, &count, &edges,
                            &detail);
 }
 
-static void (*const calls[])(void) = {decode, clusters, fresh, add, drop, contains, lengths, words, plain, safe, judge};
-static const char *const names[] = {"decode",         "clusters",   "fresh",     "add",      "remove",     "contains",
-                                    "prefix_lengths", "word_count", "cut_plain", "cut_safe", "check_claim"};
+static void (*const calls[])(void) = {decode,  clusters, fresh, add,  drop,  contains,
+                                      lengths, words,    plain, safe, sheet, judge};
+static const char *const names[] = {"decode",         "clusters",   "fresh",     "add",      "remove",    "contains",
+                                    "prefix_lengths", "word_count", "cut_plain", "cut_safe", "cut_sheet", "check_claim"};
 enum {
-    DECODE, CLUSTERS, FRESH, ADD, REMOVE, CONTAINS, PREFIX_LENGTHS, WORD_COUNT, CUT_PLAIN, CUT_SAFE, CHECK_CLAIM, ALL
+    DECODE,
+    CLUSTERS,
+    FRESH,
+    ADD,
+    REMOVE,
+    CONTAINS,
+    PREFIX_LENGTHS,
+    WORD_COUNT,
+    CUT_PLAIN,
+    CUT_SAFE,
+    CUT_SHEET,
+    CHECK_CLAIM,
+    ALL
 };
 
 static void enter(void) { call(); }
@@ -119,7 +136,7 @@ static void on_texts(size_t len) {
         out_len = room ? len : draw((uint32_t)len + 1);
         scratch_len = room < 2 ? FETLOCKICE_SCRATCH_CELLS(len < LONG ? len : LONG) : draw(9 * (uint32_t)len + 128);
         if (scratch_len > FETLOCKICE_SCRATCH_CELLS(LONG)) scratch_len = FETLOCKICE_SCRATCH_CELLS(LONG);
-        make(CLUSTERS), make(PREFIX_LENGTHS), make(CUT_SAFE), make(CUT_PLAIN);
+        make(CLUSTERS), make(PREFIX_LENGTHS), make(CUT_SAFE), make(CUT_SHEET), make(CUT_PLAIN);
         claims();
     }
 }
@@ -163,7 +180,8 @@ int main(int argc, char **argv) {
     }
     for (int which = 0; which < ALL; which++) {
         int over = most[which] > FETLOCKICE_MAX_STACK / 2;
-        printf("%6zu fetlockice_%s%s\n", most[which], names[which], over ? ": more than half of FETLOCKICE_MAX_STACK" : "");
+        printf("%6zu fetlockice_%s%s\n", most[which], names[which],
+               over ? ": more than half of FETLOCKICE_MAX_STACK" : "");
         failed += over;
     }
     printf("stack/run: %d of %d functions take at most %d bytes, half of FETLOCKICE_MAX_STACK\n", ALL - failed, ALL,

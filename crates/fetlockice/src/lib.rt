@@ -8,6 +8,7 @@ mod words;
 pub use claims::fetlockice_check_claim;
 pub use cuts::fetlockice_cut_plain;
 pub use cuts::fetlockice_cut_safe;
+pub use cuts::fetlockice_cut_sheet;
 pub use texts::fetlockice_clusters;
 pub use texts::fetlockice_decode;
 pub use words::fetlockice_add;

@@ -2,7 +2,7 @@
 use host_telling::tell_cut;
 use newmm::cut;
 use newmm_rules::Mode;
-ghost use Rattle.newmm_rules.specs.declared.Mode.the-variants.{Plain, Safe};
+ghost use Rattle.newmm_rules.specs.declared.Mode.the-variants.{Plain, Safe, Sheet};
 ghost use Rattle.newmm_answers.specs.Calls.{call};
 ghost use Rattle.host_telling.specs.Told.{toldCut};
 ghost use Rattle.host_cuts.specs.Calls.{CutTold};
@@ -44,4 +44,23 @@ pub fn cut_safe(
 {
     let safe = cut(text, pool, out, scratch, Mode::Safe);
     tell_cut(safe, count, edges, detail)
+}
+
+// Cuts a text by the profile "sheet"; the rest as in the plain cut.
+pub fn cut_sheet(
+    text: &[u32],
+    pool: &[u32],
+    out: &mut [u32],
+    scratch: &mut [u32],
+    count: &mut usize,
+    edges: &mut usize,
+    detail: &mut usize,
+) -> u32
+    ensures { λ r. ⌜ CutTold
+        (call (now (text .entry)) (now (pool .entry)) (now (out .entry)) (now (scratch .entry)) Sheet)
+        (toldCut r (now (count .exit)) (now (edges .exit)) (now (detail .exit)))
+        (now (out .exit)) (now (scratch .exit)) ⌝ }
+{
+    let sheet = cut(text, pool, out, scratch, Mode::Sheet);
+    tell_cut(sheet, count, edges, detail)
 }

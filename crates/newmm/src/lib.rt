@@ -38,9 +38,9 @@ fn cut_checked(
     CutAnswer::Ends(n, r.edges)
 }
 
-// Cuts a text by the words of a pool, plainly or in safe mode: the ends of the tokens, rising, at
-// the front of the output. Answers their number and the number of edges recorded in the whole call.
-// Refusals 2 to 6.
+// Cuts a text by the words of a pool, in a mode: the ends of the tokens, rising, at the front of
+// the output. Answers their number and the number of edges recorded in the whole call. Refusals 2
+// to 6.
 pub fn cut(
     text: &[u32],
     pool: &[u32],

@@ -12,8 +12,10 @@ pub mod Result
 pub mod SameWords
 pub mod Climbing
 pub mod Samples
+pub mod Spaces
 pub mod Parts
 pub mod Modes
+pub mod Sheet
 pub mod Shortest
 pub mod Fewer
 pub mod Stretches

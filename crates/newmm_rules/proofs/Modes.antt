@@ -8,15 +8,18 @@ use lib.ListN.{length}
 use lib.Dec.{ltb}
 use Rattle.newmm_rules.specs.Cutting.{Cut}
 use Rattle.newmm_rules.specs.declared.Mode.{Mode}
-use Rattle.newmm_rules.specs.declared.Mode.the-variants.{Plain, Safe}
+use Rattle.newmm_rules.specs.declared.Mode.the-variants.{Plain, Safe, Sheet}
 use Rattle.newmm_rules.specs.Parts.{Cutter, runsOf}
-use Rattle.newmm_rules.specs.Modes.{joined, inParts, unshifted, segmented}
+use Rattle.newmm_rules.specs.Modes.{joined, inParts, unshifted, behindSpace, segmented}
 use Rattle.newmm_rules.specs.inner.Climbing.{Climbs}
 use Rattle.newmm_rules.proofs.Samples.{Fits, Right}
 use Rattle.newmm_rules.proofs.Parts.{made-up, parts-climb, glued}
 
 pub unshifted-fits : Fits unshifted
 unshifted-fits = record { some = λ i h. omega arith; inside = λ i h. omega arith }
+
+pub behind-space-fits : Fits behindSpace
+behind-space-fits = record { some = λ i h. omega arith; inside = λ i h. omega arith }
 
 -- ENDS RISE STRICTLY to n in every mode, none for an empty text, where those of the plain cut do.
 module _ (plain : Cutter) (r : Right plain) (text : List ℕ) where
@@ -34,6 +37,7 @@ module _ (plain : Cutter) (r : Right plain) (text : List ℕ) where
   pub modes-climb : (mode : Mode) → Climbs 0 (segmented mode plain text .ends) (length text)
   modes-climb Plain = r text
   modes-climb Safe = parts-right unshifted unshifted-fits
+  modes-climb Sheet = parts-right behindSpace behind-space-fits
 
 -- Plain cuts that agree on every text give equal answers in every mode.
 pub same-cuts : (mode : Mode) (plain plain′ : Cutter) → ((t : List ℕ) → plain t ≡ plain′ t) → (text : List ℕ) → segmented mode plain text ≡ segmented mode plain′ text

@@ -41,7 +41,7 @@ pub starts-inside : {a z : ℕ} {es : List ℕ} → Climbs a es z → a < z → 
 starts-inside there h = absurd (omega arith)
 starts-inside {a} {z} (up {e = e} {es = es} h r) k = one-more a e z es h (λ q. no-ends r q) (λ l. starts-inside r l) (onward r)
 
-sample-long : (rest : List ℕ) → 140 ≤ length rest → length (sampleOf rest) ≡ 40
+pub sample-long : (rest : List ℕ) → 140 ≤ length rest → length (sampleOf rest) ≡ 40
 sample-long rest h = length-take-le 40 (drop 100 rest) (omega (arith, length-drop 100 rest))
 
 -- what a mode may ask of its space cut: a part has a character or more, and no more than the sample

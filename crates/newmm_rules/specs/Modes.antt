@@ -4,10 +4,10 @@ use mathlib.Core.Bool.{Bool, cond}
 use mathlib.Core.List.{List, [], _∷_, _++_, map}
 use lib.ListN.{length}
 use lib.Dec.{ltb}
-use Rattle.newmm_rules.specs.Limits.{textScanEnd}
+use Rattle.newmm_rules.specs.Limits.{textScanBegin, textScanEnd}
 use Rattle.newmm_rules.specs.Cutting.{Cut}
 use Rattle.newmm_rules.specs.declared.Mode.{Mode}
-use Rattle.newmm_rules.specs.declared.Mode.the-variants.{Plain, Safe}
+use Rattle.newmm_rules.specs.declared.Mode.the-variants.{Plain, Safe, Sheet}
 use Rattle.newmm_rules.specs.Parts.{Cutter, Runs, runsOf}
 
 abbrev pub shifted : ℕ → List ℕ → List ℕ
@@ -36,6 +36,12 @@ inParts spaceCut plain text =
 abbrev pub unshifted : ℕ → ℕ
 unshifted i = i + 1
 
+-- The profile "sheet" (02, ticket 10): the cut is 101 plus the index of the last space in the
+-- sample, so it is right behind that space.
+abbrev pub behindSpace : ℕ → ℕ
+behindSpace i = i + (textScanBegin + 1)
+
 abbrev pub segmented : Mode → Cutter → List ℕ → Cut
 segmented Plain plain text = plain text
 segmented Safe plain text = inParts unshifted plain text
+segmented Sheet plain text = inParts behindSpace plain text

@@ -9,8 +9,10 @@ pub const TEXT_SCAN_BEGIN: usize = 100;
 
 pub const TEXT_SCAN_END: usize = 140;
 
-// How a text is cut.
+// How a text is cut: as a whole, in parts as the Rust has them, or by the profile "sheet", in parts
+// that end right behind a space.
 pub enum Mode {
     Plain,
     Safe,
+    Sheet,
 }

@@ -1,13 +1,14 @@
--- The longest token, met from the left. Assumes nothing.
+-- The longest token, met from the left, and the ends that are cleared on the way. Assumes nothing.
 use Prim.Native.Nat.{ℕ, zero, suc, _+_, _-_, _≤_, _<_, max}
 use native.Mathlib.Omega.{arith}
 use mathlib.Core.Path.{_≡_, refl, sym, _∙_, ap, subst}
 use mathlib.Core.Bool.{Bool, true, false, cond}
-use mathlib.Core.List.{List, [], _∷_}
-use lib.ListN.{length, getD, drop, drop-of-length-le}
-use lib.Seq.{drop-cons}
+use mathlib.Core.List.{List, [], _∷_, _++_}
+use lib.ListN.{length, getD, set, take, drop, replicate, drop-of-length-le, length-replicate, getD-replicate}
+use lib.Seq.{drop-cons, getD-take, length-take-le, take-all}
 use lib.Dec.{leb}
 use borrow.Author.Tests.{leb-true, leb-false, le-leb, lt-leb}
+use Rattle.cells.proofs.Filling.{Filled, filled-none, filled-more, filled-all, unmoved}
 use Rattle.newmm_rules.specs.inner.Climbing.{Climbs, there, up}
 use Rattle.newmm_rules.specs.Longest.{lengths, longest, beforeLongest}
 use Rattle.newmm_segment.specs.inner.Written.{Rising}
@@ -98,3 +99,54 @@ none-left start (suc most) from h = rw (lt-leb (suc most) 0 (omega arith)) refl
 
 pub met-all : {ends : List ℕ} {start most from i : ℕ} → Met ends start most from i → length ends ≤ i → start ≡ beforeLongest (lengths 0 ends)
 met-all {ends} {start} {most} {from} m l = sym (m .same ∙ ap (best start most from) (drop-of-length-le ends l) ∙ none-left start most from (m .first))
+
+-- the first i of the ends at the front of a row have been met, and cleared
+pub record Meeting (old row : List ℕ) (count start most from i : ℕ) : Type 0 where
+  pub met : Met (take count old) start most from i
+  pub cleared : Filled (replicate {A = ℕ} count 0) old row count i
+
+pub meeting-none : (row : List ℕ) (count : ℕ) → count ≤ length row → Rising (take count row) → Meeting row row count 0 0 0 0
+meeting-none row count h r =
+    record {
+      met = met-none (take count row) r;
+      cleared = filled-none (replicate {A = ℕ} count 0) row count (omega (arith, length-replicate {A = ℕ} count 0)) h;
+    }
+
+module _ {old row : List ℕ} {count start most from i : ℕ} (m : Meeting old row count start most from i) (l : i < count) where
+  front-long : length (take count old) ≡ count
+  front-long = length-take-le count old (m .cleared .fits)
+
+  -- the end that is read
+  pub end-is : getD row i 0 ≡ getD (take count old) i 0
+  end-is = unmoved (m .cleared) l ∙ sym (getD-take count old i 0 l)
+
+  pub end-above : from < getD row i 0
+  end-above = omega (arith, end-is, above (m .met) (omega (arith, front-long)))
+
+  zero-next : Filled (replicate {A = ℕ} count 0) old (set row i 0) count (i + 1)
+  zero-next = filled-more (m .cleared) 0 l (sym (getD-replicate {A = ℕ} count i 0 0 l))
+
+  module _ (e : ℕ) (is : e ≡ getD row i 0) where
+    same-end : e ≡ getD (take count old) i 0
+    same-end = is ∙ end-is
+
+    pub meeting-yes : most ≤ e - from → Meeting old (set row i 0) count from (e - from) e (i + 1)
+    meeting-yes k =
+        record {
+          met = subst (λ (z : ℕ). Met (take count old) from (z - from) z (i + 1)) (sym same-end) (met-yes (m .met) (omega (arith, front-long)) (omega (arith, same-end)));
+          cleared = zero-next;
+        }
+
+    pub meeting-no : e - from < most → Meeting old (set row i 0) count start most e (i + 1)
+    meeting-no k =
+        record {
+          met = subst (λ (z : ℕ). Met (take count old) start most z (i + 1)) (sym same-end) (met-no (m .met) (omega (arith, front-long)) (omega (arith, same-end)));
+          cleared = zero-next;
+        }
+
+module _ {old row : List ℕ} {count start most from i : ℕ} (m : Meeting old row count start most from i) (l : count ≤ i) where
+  pub start-is : start ≡ beforeLongest (lengths 0 (take count old))
+  start-is = met-all (m .met) (omega (arith, length-take-le count old (m .cleared .fits)))
+
+  pub zeros-are : row ≡ replicate {A = ℕ} count 0 ++ drop count old
+  zeros-are = filled-all (m .cleared) l ∙ ap (λ (z : List ℕ). z ++ drop count old) (take-all count (replicate {A = ℕ} count 0) (omega (arith, length-replicate {A = ℕ} count 0)))

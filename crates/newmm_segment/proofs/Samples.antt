@@ -3,7 +3,7 @@ use Prim.Native.Nat.{ℕ, zero, suc, _+_, _*_, _-_, _≤_, _<_}
 use native.Mathlib.Omega.{arith}
 use mathlib.Core.Path.{_≡_, refl, sym, _∙_, ap, subst}
 use mathlib.Core.List.{List, [], _∷_, _++_, map}
-use lib.ListN.{length, getD, take, drop, replicate, length-append, length-take, length-drop, List·getD-append}
+use lib.ListN.{length, getD, take, drop, replicate, length-append, length-take, List·getD-append}
 use lib.Seq.{length-take-le, take-at, drop-at}
 use Rattle.char_string.specs.declared.blanks.Found.{Found}
 use Rattle.char_string.specs.declared.blanks.Found.the-variants.{At, Nothing}
@@ -19,7 +19,7 @@ use Rattle.newmm_rules.specs.Longest.{lengths, beforeLongest}
 use Rattle.newmm_rules.specs.Parts.{Cutter, sampleOf, cutFor, cutAt, sampled}
 use Rattle.newmm_rules.specs.Modes.{shifted, edgesOf}
 use Rattle.newmm_rules.proofs.Climbing.{onward, few}
-use Rattle.newmm_rules.proofs.Samples.{Fits, Right, space-inside, starts-inside, cut-inside}
+use Rattle.newmm_rules.proofs.Samples.{Fits, Right, sample-long, cut-inside}
 use Rattle.newmm_answers.specs.Answers.{plainCut}
 use Rattle.newmm_segment.specs.declared.Part.{Part}
 use Rattle.newmm_segment.specs.declared.PartEnd.{PartEnd}
@@ -87,7 +87,7 @@ module _ {rest pool row : List ℕ} (ready : Ready rest pool row) (long : 140 �
   abbrev space : ℕ → ℕ
   space i = i + by
 
-  pub at-space : (i : ℕ) → lastSpace (sampleOf rest) ≡ At i → Sampled space plain rest (record { at = i + by; edges = 0 })
+  pub at-space : (i : ℕ) → lastSpace (sampleOf rest) ≡ At i → Sampled space plain rest (record { from = by; at = i; edges = 0 })
   unfolding cutAt edgesOf
   at-space i e =
       record {
@@ -96,33 +96,24 @@ module _ {rest pool row : List ℕ} (ready : Ready rest pool row) (long : 140 �
       }
 
   module _ (row′ : List ℕ) {r : Ends} (w : Written (plain (sampleOf rest)) row row′ r) (right : Right plain) where
-    sample-long : length (sampleOf rest) ≡ 40
-    sample-long = length-take-le 40 (drop 100 rest) (omega (arith, length-drop 100 rest))
-
     pub sample-rising : Rising (take (r .ends) row′)
-    sample-rising = record { last = 40; climbs = subst (λ (es : List ℕ). Climbs 0 es 40) (sym (front w)) (subst (λ (z : ℕ). Climbs 0 (plain (sampleOf rest) .ends) z) sample-long (right (sampleOf rest))) }
+    sample-rising = record { last = 40; climbs = subst (λ (es : List ℕ). Climbs 0 es 40) (sym (front w)) (subst (λ (z : ℕ). Climbs 0 (plain (sampleOf rest) .ends) z) (sample-long rest long) (right (sampleOf rest))) }
 
     pub sample-fits : r .ends ≤ length row′
-    sample-fits = fits w (omega (arith, few (right (sampleOf rest)), sample-long, ready .room))
+    sample-fits = fits w (omega (arith, few (right (sampleOf rest)), sample-long rest long, ready .room))
 
-    pub start-small : (x : ℕ) → x ≡ beforeLongest (lengths 0 (take (r .ends) row′)) → x < 40
-    start-small x e =
-        let s = starts-inside (right (sampleOf rest)) (omega (arith, sample-long)) in
-        let q : x ≡ beforeLongest (lengths 0 (plain (sampleOf rest) .ends)) = e ∙ ap (λ (es : List ℕ). beforeLongest (lengths 0 es)) (front w) in
-        omega (arith, sample-long)
-
-    pub no-space : (x : ℕ) → lastSpace (sampleOf rest) ≡ Nothing → x ≡ beforeLongest (lengths 0 (take (r .ends) row′)) → Sampled space plain rest (record { at = 100 + x; edges = r .edges })
+    pub no-space : (x : ℕ) → lastSpace (sampleOf rest) ≡ Nothing → x ≡ beforeLongest (lengths 0 (take (r .ends) row′)) → Sampled space plain rest (record { from = 100; at = x; edges = r .edges })
     unfolding cutAt edgesOf
     no-space x e q =
         record {
-          at = ap (λ (y : ℕ). 100 + y) (q ∙ ap (λ (es : List ℕ). beforeLongest (lengths 0 es)) (front w)) ∙ sym (ap (cutFor space plain (sampleOf rest)) e);
+          at = (let z : x + 100 ≡ 100 + x = omega arith in z) ∙ ap (λ (y : ℕ). 100 + y) (q ∙ ap (λ (es : List ℕ). beforeLongest (lengths 0 es)) (front w)) ∙ sym (ap (cutFor space plain (sampleOf rest)) e);
           edges = w .edges ∙ (let z : plain (sampleOf rest) .edges ≡ plain (sampleOf rest) .edges + 0 = omega arith in z) ∙ sym (ap (λ (f : Found). edgesOf plain (sampled (sampleOf rest) f)) e);
         }
 
     pub row-back : (row″ : List ℕ) → row″ ≡ replicate {A = ℕ} (r .ends) 0 ++ drop (r .ends) row′ → row″ ≡ row
     row-back row″ h =
         h ∙ ap (λ (x : List ℕ). replicate {A = ℕ} (r .ends) 0 ++ x) (behind w) ∙ ap (λ (k : ℕ). replicate {A = ℕ} k 0 ++ drop (length (plain (sampleOf rest) .ends)) row) (w .ends)
-        ∙ blank-front (length (plain (sampleOf rest) .ends)) row (ready .blank) (omega (arith, few (right (sampleOf rest)), sample-long, ready .room))
+        ∙ blank-front (length (plain (sampleOf rest) .ends)) row (ready .blank) (omega (arith, few (right (sampleOf rest)), sample-long rest long, ready .room))
 
 -- a sample has 40 characters at most, and so few edges are recorded in it
 few-for : (plain : Cutter) → ((t : List ℕ) → plain t .edges ≤ 51 * length t) → (sample : List ℕ) → length sample ≤ 40 → (w : Found) → edgesOf plain (sampled sample w) ≤ 2040
@@ -140,24 +131,27 @@ by-fits by h l = record { some = λ i k. omega arith; inside = λ i k. omega ari
 
 module _ {rest pool row : List ℕ} (ready : Ready rest pool row) (long : 140 ≤ length rest) (by : ℕ) (some : 1 ≤ by) (most : by ≤ 101) (right : Right (plainCut (holds pool))) {p : PartEnd}
     (s : Sampled (λ (i : ℕ). i + by) (plainCut (holds pool)) rest p) where
-  pub part-inside : (0 < p .at) × (p .at ≤ 140)
+  abbrev size : ℕ
+  size = p .at + p .from
+
+  pub part-inside : (0 < size) × (size ≤ 140)
   part-inside =
       let c = cut-inside (λ (i : ℕ). i + by) (plainCut (holds pool)) (by-fits by some most) right rest long in
       (omega (arith, c .0, s .at), omega (arith, c .1, s .at))
 
-  pub part-ready : Ready (take (p .at) rest) pool row
+  pub part-ready : Ready (take size rest) pool row
   part-ready =
-      let l = length-take-le (p .at) rest (omega (arith, part-inside .1)) in
+      let l = length-take-le size rest (omega (arith, part-inside .1)) in
       record { short = omega (arith, ready .short, part-inside .1); root-is = ready .root-is; room = omega (arith, ready .room, part-inside .1); blank = ready .blank }
 
-  pub part-size : length (take (p .at) rest) ≡ p .at
-  part-size = length-take-le (p .at) rest (omega (arith, part-inside .1))
+  pub part-size : length (take size rest) ≡ size
+  part-size = length-take-le size rest (omega (arith, part-inside .1))
 
-  pub first-is : {r : Ends} {row₁ row′ : List ℕ} (start : ℕ) → row₁ ≡ row → Written (shiftedCut start (plainCut (holds pool) (take (p .at) rest))) row₁ row′ r
-      → FirstPart (λ (i : ℕ). i + by) (plainCut (holds pool)) rest start row row′ (record { size = p .at; ends = r .ends; edges = p .edges + r .edges })
+  pub first-is : {r : Ends} {row₁ row′ : List ℕ} (start : ℕ) → row₁ ≡ row → Written (shiftedCut start (plainCut (holds pool) (take size rest))) row₁ row′ r
+      → FirstPart (λ (i : ℕ). i + by) (plainCut (holds pool)) rest start row row′ (record { size = size; ends = r .ends; edges = p .edges + r .edges })
   first-is {r} {row₁} {row′} start same w =
-      let t : take (p .at) rest ≡ firstOf (λ (i : ℕ). i + by) (plainCut (holds pool)) rest = ap (λ (k : ℕ). take k rest) (s .at) in
-      let l = map-long (λ (e : ℕ). start + e) (plainCut (holds pool) (take (p .at) rest) .ends) in
+      let t : take size rest ≡ firstOf (λ (i : ℕ). i + by) (plainCut (holds pool)) rest = ap (λ (k : ℕ). take k rest) (s .at) in
+      let l = map-long (λ (e : ℕ). start + e) (plainCut (holds pool) (take size rest) .ends) in
       record {
         size = s .at;
         ends = w .ends ∙ l ∙ ap (λ (q : List ℕ). length (plainCut (holds pool) q .ends)) t;

@@ -1,5 +1,4 @@
 // Cutting in parts, after `segment_single` of newmm.rs.
-use cells::clear_first;
 use cells::shift;
 use cells::wide;
 use char_string::Found;
@@ -10,8 +9,9 @@ use newmm_rules::Mode;
 use newmm_rules::TEXT_SCAN_BEGIN;
 use newmm_rules::TEXT_SCAN_END;
 ghost use mathlib.Core.Path.{_≡_};
+ghost use mathlib.Core.List.{_++_};
 ghost use Prim.Native.Nat.{ℕ, _+_, _≤_};
-ghost use lib.ListN.{length};
+ghost use lib.ListN.{length, take, drop, replicate};
 ghost use Rattle.trie_pool.specs.Words.{holds};
 ghost use Rattle.newmm_rules.specs.Limits.{textScanBegin, textScanEnd};
 ghost use Rattle.newmm_rules.specs.Longest.{lengths, beforeLongest};
@@ -23,8 +23,12 @@ ghost use Rattle.newmm_segment.specs.inner.Written.{Rising, Ready, Writt
 // sample's begin.
 const UNSHIFTED: usize = 1;
 
-// Where a part ends, and the edges that were recorded to find that.
+// The profile "sheet" cuts right behind that space itself.
+const BEHIND_SPACE: usize = 101;
+
+// Where a part ends, `at` behind `from`, and the edges that were recorded to find that.
 pub struct PartEnd {
+    pub from: usize,
     pub at: usize,
     pub edges: usize,
 }
@@ -37,18 +41,21 @@ pub struct Part {
     pub edges: usize,
 }
 
-// Where the longest token starts, the last of equals.
-fn longest_start(ends: &[u32]) -> usize
-    requires { ⌜ Rising (now ends) ⌝ }
-    ensures { λ r. ⌜ r ≡ beforeLongest (lengths 0 (now (ends .entry))) ⌝ }
+// Where the longest token of a sample starts, the last of equals. The sample's ends, the first
+// `count` cells of the row, are cleared on the way.
+fn longest_start(row: &mut [u32], count: usize) -> usize
+    requires { ⌜ (count ≤ length (now row)) × Rising (take count (now row)) ⌝ }
+    ensures { λ r. ⌜ r ≡ beforeLongest (lengths 0 (take count (now (row .entry)))) ⌝ }
+    ensures { λ _. ⌜ now (row .exit) ≡ replicate count 0 ++ drop count (now (row .entry)) ⌝ }
 {
     let mut start = 0;
     let mut most = 0;
     let mut from = 0;
     let mut i = 0;
-    while i < ends.len() {
+    while i < count {
         let begin = from;
-        from = wide(ends[i]);
+        from = wide(row[i]);
+        row[i] = 0;
         i += 1;
         if most <= from - begin {
             start = begin;
@@ -63,8 +70,7 @@ fn longest_start(ends: &[u32]) -> usize
 // shifted by the sample's begin, and 101 where it is: more could lie behind the text's end.
 // The row comes back as it was.
 fn cut_at(rest: &[u32], pool: &[u32], row: &mut [u32], space_cut: usize) -> PartEnd
-    requires { ⌜ Ready (now rest) (now pool) (now row) × (textScanEnd ≤ length (now rest))
-        × («space_cut» ≤ textScanBegin + 1) ⌝ }
+    requires { ⌜ Ready (now rest) (now pool) (now row) × (textScanEnd ≤ length (now rest)) ⌝ }
     ensures { λ r. ⌜ Sampled (λ (i : ℕ). i + «space_cut») (plainCut (holds (now (pool .entry))))
         (now (rest .entry)) r ⌝ }
     ensures { λ _. ⌜ now (row .exit) ≡ now (row .entry) ⌝ }
@@ -73,15 +79,18 @@ fn cut_at(rest: &[u32], pool: &[u32], row: &mut [u32], space_cut: usize) -> Part
     let space = rfind_space_char_index(sample);
     match space {
         Found::At(i) => PartEnd {
-            at: i + space_cut,
+            from: space_cut,
+            at: i,
             edges: 0,
         },
         Found::Nothing => {
             let r = one_cut(sample, pool, row);
-            let k = r.ends;
-            let at = TEXT_SCAN_BEGIN + longest_start(&row[..k]);
-            clear_first(row, k);
-            PartEnd { at, edges: r.edges }
+            let at = longest_start(row, r.ends);
+            PartEnd {
+                from: TEXT_SCAN_BEGIN,
+                at,
+                edges: r.edges,
+            }
         }
     }
 }
@@ -106,7 +115,7 @@ fn first_part(rest: &[u32], pool: &[u32], row: &mut [u32], start: usize, space_c
         (now (rest .entry)) start (now (row .entry)) (now (row .exit)) r ⌝ }
 {
     let cut = cut_at(rest, pool, row, space_cut);
-    let size = cut.at;
+    let size = cut.at + cut.from;
     let r = cut_part(&rest[..size], pool, row, start);
     Part {
         size,
@@ -146,13 +155,15 @@ pub fn segment_single(text: &[u32], pool: &[u32], row: &mut [u32], mode: Mode) -
     ensures { λ r. ⌜ Written (cutOf mode (holds (now (pool .entry))) (now (text .entry)))
         (now (row .entry)) (now (row .exit)) r ⌝ }
 {
-    match mode {
-        Mode::Plain => one_cut(text, pool, row),
-        Mode::Safe => {
-            if text.len() < TEXT_SCAN_END {
-                return one_cut(text, pool, row);
-            }
-            in_parts(text, pool, row, UNSHIFTED)
-        }
+    if text.len() < TEXT_SCAN_END {
+        return one_cut(text, pool, row);
     }
+    let space_cut = match mode {
+        Mode::Plain => {
+            return one_cut(text, pool, row);
+        }
+        Mode::Safe => UNSHIFTED,
+        Mode::Sheet => BEHIND_SPACE,
+    };
+    in_parts(text, pool, row, space_cut)
 }

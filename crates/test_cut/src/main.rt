@@ -2,6 +2,7 @@
 //
 // Output and scratch are lent full of leftovers. Where a call leaves a cell otherwise than document
 // 01 says, a `?` is written.
+use libc::STDIN_FILENO;
 use newmm::cut;
 use newmm_answers::CutAnswer;
 use newmm_rules::Mode;
@@ -16,14 +17,16 @@ use test_lines::print_number;
 use test_lines::print_numbers;
 use test_lines::print_refusal;
 use test_lines::read_cells;
-use test_lines::read_input;
 use test_rows::expect_leftovers;
 use test_rows::expect_zero;
 use test_rows::scratch_cells;
 use test_rows::smear;
 use test_words::hold;
+ghost use Prim.Native.Nat.{_≤_};
+ghost use lib.ListN.{length};
 
-const INPUT: usize = 589824;
+// The input is read by so many bytes. A line has fewer.
+const INPUT: usize = 65536;
 
 // Words with a node for each of their characters.
 const POOL: usize = 262144;
@@ -39,8 +42,59 @@ fn main() {
     let mut text = [0u32; TEXT];
     let mut out = [0u32; TEXT];
     let mut scratch = [0u32; SCRATCH];
-    let n = read_input(&mut input);
-    replay(&input[..n], &mut pool, &mut text, &mut out, &mut scratch);
+    replay_all(&mut input, &mut pool, &mut text, &mut out, &mut scratch);
+}
+
+// Replays standard input, as many whole lines at once as the row holds. A proved loop has to end:
+// this one has more turns than any run uses up.
+fn replay_all(
+    input: &mut [u8],
+    pool: &mut [u32],
+    text: &mut [u32],
+    out: &mut [u32],
+    scratch: &mut [u32],
+) {
+    let mut kept = 0;
+    let mut turns = u64::MAX;
+    while turns > 0 {
+        let n = kept + io::read_full(STDIN_FILENO, &mut input[kept..]);
+        if n < input.len() {
+            replay(&input[..n], pool, text, out, scratch);
+            return;
+        }
+        let end = whole_lines(input);
+        replay(&input[..end], pool, text, out, scratch);
+        if end == 0 {
+            print(b"?");
+            return;
+        }
+        to_front(input, end);
+        kept = input.len() - end;
+        turns -= 1;
+    }
+}
+
+// Where the last whole line of a text ends; 0 where there is none.
+fn whole_lines(text: &[u8]) -> usize
+    ensures { λ r. ⌜ r ≤ length (now (text .entry)) ⌝ }
+{
+    let mut end = text.len();
+    while end > 0 {
+        if text[end - 1] == b'\n' {
+            return end;
+        }
+        end -= 1;
+    }
+    0
+}
+
+// Moves what stands from `start` on to the front.
+fn to_front(row: &mut [u8], start: usize) {
+    let mut k = start;
+    while k < row.len() {
+        row[k - start] = row[k];
+        k += 1;
+    }
 }
 
 fn replay(input: &[u8], pool: &mut [u32], text: &mut [u32], out: &mut [u32], scratch: &mut [u32]) {
@@ -73,28 +127,36 @@ fn lend(line: &[u8], pool: &[u32], text: &mut [u32], out: &mut [u32], scratch: &
     let n = read_cells(field(line, 3), text);
     let cells = scratch_cells(field(line, 4), n, scratch.len());
     let room = lent(field(line, 5), out.len());
-    let mode = field(line, 1);
-    if is(mode, b"plain") {
-        call(
+    let named = mode_of(field(line, 1));
+    match named {
+        Named::In(mode) => call(
             first(text, n),
             pool,
             &mut out[0..room],
             &mut scratch[0..cells],
-            Mode::Plain,
-        );
-        return;
+            mode,
+        ),
+        Named::Nothing => print(b"?"),
     }
-    if is(mode, b"safe") {
-        call(
-            first(text, n),
-            pool,
-            &mut out[0..room],
-            &mut scratch[0..cells],
-            Mode::Safe,
-        );
-        return;
+}
+
+// What a line calls its mode.
+enum Named {
+    In(Mode),
+    Nothing,
+}
+
+fn mode_of(name: &[u8]) -> Named {
+    if is(name, b"plain") {
+        return Named::In(Mode::Plain);
     }
-    print(b"?");
+    if is(name, b"safe") {
+        return Named::In(Mode::Safe);
+    }
+    if is(name, b"sheet") {
+        return Named::In(Mode::Sheet);
+    }
+    Named::Nothing
 }
 
 fn call(text: &[u32], pool: &[u32], out: &mut [u32], scratch: &mut [u32], mode: Mode) {

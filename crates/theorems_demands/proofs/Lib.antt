@@ -10,4 +10,5 @@ pub mod Orders
 pub mod Counts
 pub mod FewestWords
 pub mod Fails
+pub mod Sheet
 pub mod Claims

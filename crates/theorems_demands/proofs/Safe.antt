@@ -1,4 +1,4 @@
--- 01's texts of 139 and 140 characters, in both modes. Assumes nothing.
+-- Texts of 139 and 140 characters, in the three modes. Assumes nothing.
 use mathlib.Core.Path.{refl}
 use Rattle.lists.specs.Scans.{leading, behindLast}
 use Rattle.tcc_rules.specs.Patterns.{holdsAt, match}
@@ -14,8 +14,12 @@ use Rattle.newmm_rules.specs.Longest.{lengths, longest, beforeLongest}
 use Rattle.newmm_rules.specs.Parts.{cutAt, runsOf}
 use Rattle.newmm_rules.specs.Modes.{partEnds, edgesOf, inParts}
 use Rattle.newmm_answers.specs.Answers.{plainCut, cutOf}
-use Rattle.theorems_demands.specs.LongTexts.{LongTexts}
+use Rattle.theorems_demands.specs.LongTexts.{LongTexts, SheetTexts}
 
 pub long-texts : LongTexts
 unfolding leading behindLast holdsAt match clusterEnd endsFrom clusterEnds isEnd upFrom those firstOr any inserted groups number firstMatch nonThai wordEnds queued passed after searched pathTo stopsAt skipEnd tokenEnd recorded recordedAll graphOf settled turn turns cut lengths longest beforeLongest cutAt runsOf partEnds edgesOf inParts plainCut cutOf
 long-texts = (refl, refl, refl, refl, refl)
+
+pub sheet-texts : SheetTexts
+unfolding leading behindLast holdsAt match clusterEnd endsFrom clusterEnds isEnd upFrom those firstOr any inserted groups number firstMatch nonThai wordEnds queued passed after searched pathTo stopsAt skipEnd tokenEnd recorded recordedAll graphOf settled turn turns cut lengths longest beforeLongest cutAt runsOf partEnds edgesOf inParts plainCut cutOf
+sheet-texts = (refl, refl, refl, refl)

@@ -6,4 +6,5 @@ pub mod Ends
 pub mod Cases
 pub mod LongTexts
 pub mod FewestWords
+pub mod Sheet
 pub mod Claims

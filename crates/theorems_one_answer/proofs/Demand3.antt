@@ -18,10 +18,12 @@ use Rattle.theorems_demands.specs.Demand3.{Freshened, Added, Taken}
 use Rattle.theorems_demands.specs.Demand3 as demand
 use Rattle.theorems_demands.specs.Ends.{Wrote}
 use Rattle.theorems_demands.specs.FewestWords.{WroteStretches}
+use Rattle.theorems_demands.specs.Sheet.{WroteParts}
 use Rattle.theorems_demands.proofs.Demand3.{demand-3-any, demand-3}
 use Rattle.theorems_demands.proofs.Ends.{ends-wrote}
 use Rattle.theorems_demands.proofs.FewestWords.{stretches-wrote}
-use Rattle.theorems_one_answer.specs.Runs.{Run, callOf, outLeft, SameAnswers, Demand3AnyOfRuns, Demand3OfRuns, EndsOfRuns, FewestOfRuns}
+use Rattle.theorems_demands.proofs.Sheet.{parts-wrote}
+use Rattle.theorems_one_answer.specs.Runs.{Run, callOf, outLeft, SameAnswers, Demand3AnyOfRuns, Demand3OfRuns, EndsOfRuns, FewestOfRuns, SheetOfRuns}
 
 pub freshened : (κs : Lfts 1) (a : Dens κs fresh-kinds.ps) (x : resT fresh-kinds.r κs .Denot) (s : AtExit (endedOf 1 fresh-kinds.ps fresh-kinds.r) κs)
     → fresh-contract.Post κs a x s → Freshened x (a .0 .now) (s .0 .now)
@@ -62,3 +64,8 @@ pub fewest-of-runs : FewestOfRuns
 fewest-of-runs r n edges plain h =
     let p = answered r in
     subst (WroteStretches (callOf r) n edges) (sym (p .1)) (stretches-wrote (callOf r) n edges plain (sym (p .0) ∙ h))
+
+pub sheet-of-runs : SheetOfRuns
+sheet-of-runs r n edges sheet h =
+    let p = answered r in
+    subst (WroteParts (callOf r) n) (sym (p .1)) (parts-wrote (callOf r) n edges sheet (sym (p .0) ∙ h))

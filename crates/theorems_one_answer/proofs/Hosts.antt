@@ -22,6 +22,8 @@ use Rattle.fetlockice.proofs.fetlockice_cut_plain.Kinds as cut-plain-kinds
 use Rattle.fetlockice.proofs.fetlockice_cut_plain.Reads as cut-plain-contract
 use Rattle.fetlockice.proofs.fetlockice_cut_safe.Kinds as cut-safe-kinds
 use Rattle.fetlockice.proofs.fetlockice_cut_safe.Reads as cut-safe-contract
+use Rattle.fetlockice.proofs.fetlockice_cut_sheet.Kinds as cut-sheet-kinds
+use Rattle.fetlockice.proofs.fetlockice_cut_sheet.Reads as cut-sheet-contract
 use Rattle.fetlockice.proofs.fetlockice_check_claim.Kinds as check-claim-kinds
 use Rattle.fetlockice.proofs.fetlockice_check_claim.Reads as check-claim-contract
 use Rattle.trie_pool.specs.Meaning.{noWord}
@@ -81,6 +83,11 @@ pub cut-safe-one :
     OneAnswer {A = Told × List ℕ × List ℕ} 7 cut-safe-kinds.ps cut-safe-kinds.r cut-safe-contract.Post
     (λ κs number s. let out = s .1 .1 .0 .now in let scratch = s .1 .1 .1 .0 .now in let count = s .1 .1 .1 .1 .0 .now in let edges = s .1 .1 .1 .1 .1 .0 .now in let detail = s .1 .1 .1 .1 .1 .1 .0 .now in (toldCut number count edges detail, out, scratch))
 cut-safe-one κs a x y s t p q = answer-and-two-rows (p .0) (p .1 .0) (p .1 .1) (q .0) (q .1 .0) (q .1 .1)
+
+pub cut-sheet-one :
+    OneAnswer {A = Told × List ℕ × List ℕ} 7 cut-sheet-kinds.ps cut-sheet-kinds.r cut-sheet-contract.Post
+    (λ κs number s. let out = s .1 .1 .0 .now in let scratch = s .1 .1 .1 .0 .now in let count = s .1 .1 .1 .1 .0 .now in let edges = s .1 .1 .1 .1 .1 .0 .now in let detail = s .1 .1 .1 .1 .1 .1 .0 .now in (toldCut number count edges detail, out, scratch))
+cut-sheet-one κs a x y s t p q = answer-and-two-rows (p .0) (p .1 .0) (p .1 .1) (q .0) (q .1 .0) (q .1 .1)
 
 pub check-claim-one :
     OneAnswer {A = ToldClaim × List ℕ} 7 check-claim-kinds.ps check-claim-kinds.r check-claim-contract.Post

@@ -10,13 +10,14 @@ use denote.Triple.Clauses.{AtExit}
 use Rattle.newmm.proofs.cut.Kinds as cut-kinds
 use Rattle.newmm.proofs.cut.Reads as cut-contract
 use Rattle.trie_pool.specs.Meaning.{Words, meaning}
-use Rattle.newmm_rules.specs.declared.Mode.the-variants.{Plain}
+use Rattle.newmm_rules.specs.declared.Mode.the-variants.{Plain, Sheet}
 use Rattle.newmm_answers.specs.declared.CutAnswer.the-variants.{Ends}
 use Rattle.newmm_answers.specs.Answers.{scratchFor}
 use Rattle.newmm_answers.specs.Calls.{Call}
 use Rattle.theorems_demands.specs.Demand3.{Reached}
 use Rattle.theorems_demands.specs.FewestWords.{WroteStretches}
 use Rattle.theorems_demands.specs.Ends.{Wrote}
+use Rattle.theorems_demands.specs.Sheet.{WroteParts}
 
 -- A run of `newmm::cut`: its arguments, what it answered, the lent rows when it returned, and what
 -- the check has proved of it. The check makes `cut-kinds` from the function's signature and
@@ -87,3 +88,11 @@ FewestOfRuns =
     → callOf r .mode ≡ Plain
     → r .answer ≡ Ends n edges
     → WroteStretches (callOf r) n edges (outLeft r)
+
+-- A run in the profile "sheet" that answered: the ends that it wrote part by part.
+abbrev pub SheetOfRuns : Type 0
+SheetOfRuns =
+    (r : Run) (n edges : ℕ)
+    → callOf r .mode ≡ Sheet
+    → r .answer ≡ Ends n edges
+    → WroteParts (callOf r) n (outLeft r)

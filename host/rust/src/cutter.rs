@@ -7,6 +7,9 @@ pub enum Mode {
     Plain,
     /// In parts, where it has 140 characters or more.
     Safe,
+    /// In parts as [`Mode::Safe`], but where a space ends a part it is cut right behind that space: no part but the last has
+    /// under 100 characters.
+    Sheet,
 }
 
 /// A token: a part of the caller's text, and where it ends there.
@@ -53,7 +56,7 @@ impl Cutter {
         let cells = scalars(text)?;
         self.ends.resize(self.ends.len().max(cells.len()), 0);
         let scratch = scratch_for(&mut self.scratch, cells.len());
-        let (count, edges) = ffi::cut(mode == Mode::Safe, &cells, dictionary.pool(), &mut self.ends, scratch)?;
+        let (count, edges) = ffi::cut(mode, &cells, dictionary.pool(), &mut self.ends, scratch)?;
         Ok(Cut { tokens: tokens(text, &self.ends[..count]), edges })
     }
 

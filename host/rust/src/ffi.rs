@@ -1,6 +1,7 @@
 //! The functions of ../include/fetlockice.h, and safe calls of them: a slice is a row of the length that it has, and Rust's
 //! borrowing keeps the caller's duties.
 use crate::error::{accepted, Error};
+use crate::Mode;
 
 extern "C" {
     fn fetlockice_decode(
@@ -69,6 +70,19 @@ extern "C" {
         detail: &mut usize,
     ) -> u32;
     fn fetlockice_cut_safe(
+        text: *const u32,
+        text_len: usize,
+        pool: *const u32,
+        pool_len: usize,
+        out: *mut u32,
+        out_len: usize,
+        scratch: *mut u32,
+        scratch_len: usize,
+        count: &mut usize,
+        edges: &mut usize,
+        detail: &mut usize,
+    ) -> u32;
+    fn fetlockice_cut_sheet(
         text: *const u32,
         text_len: usize,
         pool: *const u32,
@@ -162,14 +176,18 @@ pub fn word_count(pool: &[u32]) -> Result<usize, Error> {
 
 /// The number of ends, and of edges.
 pub fn cut(
-    safe: bool,
+    mode: Mode,
     text: &[u32],
     pool: &[u32],
     out: &mut [u32],
     scratch: &mut [u32],
 ) -> Result<(usize, usize), Error> {
     let (mut count, mut edges, mut detail) = (0, 0, 0);
-    let call = if safe { fetlockice_cut_safe } else { fetlockice_cut_plain };
+    let call = match mode {
+        Mode::Plain => fetlockice_cut_plain,
+        Mode::Safe => fetlockice_cut_safe,
+        Mode::Sheet => fetlockice_cut_sheet,
+    };
     let number = unsafe {
         call(
             text.as_ptr(),

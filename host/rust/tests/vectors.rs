@@ -163,10 +163,15 @@ fn dictionaries() {
 #[test]
 fn cuts() {
     let mut cutter = Cutter::new();
-    hold(lines("test_cut", "cut"), 2000, |line| {
+    hold(lines("test_cut", "cut"), 3000, |line| {
         roomy(&line[4]).and(roomy(&line[5]))?;
         let (words, text) = (words(&line[2])?, text(&line[3])?);
-        let mode = if line[1] == "safe" { Mode::Safe } else { Mode::Plain };
+        let mode = match line[1].as_str() {
+            "plain" => Mode::Plain,
+            "safe" => Mode::Safe,
+            "sheet" => Mode::Sheet,
+            other => panic!("no mode {other}"),
+        };
         Some(told(cutter.cut(&words, &text, mode), |cut| {
             assert_eq!(cut.tokens.iter().map(|token| token.text).collect::<String>(), text);
             for token in &cut.tokens {

@@ -36,7 +36,7 @@ shiftedCut by c = record { ends = shifted by (c .ends); edges = c .edges }
 
 -- where the remaining text is cut, and the edges recorded in its sample
 pub record Sampled (spaceCut : ℕ → ℕ) (plain : Cutter) (rest : List ℕ) (r : PartEnd) : Type 0 where
-  pub at : r .at ≡ cutAt spaceCut plain rest
+  pub at : r .at + r .from ≡ cutAt spaceCut plain rest
   pub edges : r .edges ≡ edgesOf plain (sampled (sampleOf rest) (lastSpace (sampleOf rest)))
 
 -- the first part of the remaining text
