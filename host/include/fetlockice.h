@@ -51,8 +51,8 @@ extern "C" {
 #define FETLOCKICE_MAX_NODES 1048576
 
 /* The bytes of stack that a call takes at most. Measured on x86-64, over hostile and deepest inputs: fetlockice_remove
- * 20,560, as it goes down a word of 255 scalars by recursion; fetlockice_decode 4,616, the others under 1,000. */
-#define FETLOCKICE_MAX_STACK 65536
+ * 32,840, as it goes down a word of 255 scalars by recursion; fetlockice_decode 1,448, the others under 1,000. */
+#define FETLOCKICE_MAX_STACK 98304
 
 /* The scratch cells that a call on a text of n scalars asks for. */
 #define FETLOCKICE_SCRATCH_CELLS(n) (9 * (size_t)(n) + 128)
