@@ -2,7 +2,8 @@
 
 Takes the lines of clusters, prefix, dict and cut. The Rust refuses nothing, so a refused call is left out, and a
 refused step of a dictionary script, which changes nothing, is taken out of it. It trims more characters, so a script
-that adds or removes a word with one of those at its edge is left out.
+that adds or removes a word with one of those at its edge is left out. It has no classes: a script that gives another
+than 0 is left out, and a cut or lookup by words with classes is compared.
 """
 import collections
 import os
@@ -26,6 +27,8 @@ def compared(fields, expected):
         return None, "refused"
     if any(step[0] in "+-" and not lines.comparable(lines.text(step[1:].split(":")[0])) for step, _ in kept):
         return None, "trimmed otherwise"
+    if any(step[0] == "+" and step.partition(":")[2] not in ("", "0") for step, _ in kept):
+        return None, "classes"
     return [fields[0], fields[1], ";".join(step for step, _ in kept)], "ok " + ";".join(answer for _, answer in kept)
 
 

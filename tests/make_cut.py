@@ -3,26 +3,22 @@
     python3 tests/make_cut.py
 
 The independent model's lines for cut are taken, and from them lines with too little scratch, too little output, a bad
-text or a bad pool. tests/fewest.py has more texts, each told stretch by stretch. What those refuse with, document 01 says: the conditions in their order, each with its detail. The
+text or a bad pool, and lines with other classes, whose answers are the same. tests/fewest.py has more texts, each told
+stretch by stretch. What those refuse with, document 01 says: the conditions in their order, each with its detail. The
 Rust's lines stand behind them.
 """
+import itertools
+
+import classes
 import fewest
 import vectors
-from make_trie_char import cells_of, pools
+from pools import pools
+from trie_model import cells_of
 
 LONGEST = 65535
 
 # Lines with fewer bytes of words and text are lent other rows too.
 SHORT = 150
-
-
-def scalars(field):
-    """The cells of a field."""
-    row = []
-    for part in field.split(".") if field != "-" else []:
-        cell, _, times = part.partition("*")
-        row += [int(cell, 16)] * int(times or 1)
-    return row
 
 
 def refusal(text, passes, scratch, out, ends):
@@ -44,7 +40,7 @@ def refusal(text, passes, scratch, out, ends):
 def lent_rows(fields, expected):
     """An accepted line with scratch and output one cell short, just right and one cell longer."""
     _, mode, words, text, _, _ = fields
-    row, ends = scalars(text), [] if expected.split()[1] == "-" else expected.split()[1].split(",")
+    row, ends = vectors.parsed_cells(text), [] if expected.split()[1] == "-" else expected.split()[1].split(",")
     need = 9 * len(row) + 128
     for scratch in need - 1, need, need + 1:
         for out in len(ends) - 1, len(ends), len(ends) + 1:
@@ -55,7 +51,7 @@ def lent_rows(fields, expected):
 
 def bad_calls():
     """Texts that are too long or hold a cell that is no scalar, with pools that pass and that don't, and rows of no cells."""
-    a, good, empty = 0x61, cells_of({(0x61,)}, 16), []
+    a, good, empty = 0x61, cells_of({(0x61,): 0}, 16), []
     texts = [[a] * (LONGEST + 1), [a] * LONGEST + [0xD800], [0xD800], [a, 0xDFFF, 0x110000], [a, a, 0x110000], [0xFFFFFFFF], [a, 0xD7FF, 0xE000, 0x10FFFF]]
     for mode in "plain", "safe":
         for text in texts:
@@ -66,11 +62,9 @@ def bad_calls():
 
 def pool_calls():
     """Each rule of docs/POOL.md broken: refused before scratch and output are looked at. Pools that pass are left to other lines."""
-    for line, answer in pools():
-        cells = line.split("\t")[1]
-        if answer.startswith("!"):
-            for mode, scratch, out in ("plain", "*", "*"), ("safe", "0", "0"):
-                yield ["cut_pool", mode, cells, "E01.E02", scratch, out], "! 4 0"
+    refused = [(line, answer) for line, answer in pools() if answer.startswith("!")]
+    for (line, answer), (mode, *rows) in zip(refused, itertools.cycle([("plain", "*", "*"), ("safe", "0", "0")])):
+        yield ["cut_pool", mode, line.split("\t")[1], "E01.E02"] + rows, answer
 
 
 def main():
@@ -79,6 +73,8 @@ def main():
     accepted = [line for line in found if line[1].startswith("ok") and len(line[0][2] + line[0][3]) < SHORT]
     for fields, expected in accepted[::6]:
         lines += lent_rows(fields, expected)
+    lines += vectors.classes("cut")
+    lines += classes.cuts(accepted[3::6])
     vectors.write("test_cut", lines + fewest.lines() + list(bad_calls()) + list(pool_calls()) + vectors.rust("cut"))
 
 

@@ -10,8 +10,9 @@
 /* One check of the pool, and the search for words at every place of the text; answers their number: crates/bench_prefix_search. */
 size_t search_places(const uint32_t *pool, size_t pool_len, const uint32_t *text, size_t text_len, uint32_t *out, size_t out_len);
 
-enum op { DECODE, CLUSTERS, PREFIX, PLACES, PLAIN, SAFE, CHECK, READ, READ_WIDE };
-static const char *const names[] = {"decode", "clusters", "prefix", "places", "plain", "safe", "check", "read", "read-wide"};
+enum op { DECODE, CLUSTERS, PREFIX, PLACES, PLAIN, SAFE, CHECK, EDIT, READ, READ_WIDE };
+static const char *const names[] = {"decode", "clusters", "prefix", "places", "plain",
+                                    "safe", "check", "edit", "read", "read-wide"};
 
 static enum op op;
 static uint32_t *pool, *out, *scratch, *cells, **scalars;
@@ -47,6 +48,15 @@ static size_t check(void) {
     return count;
 }
 
+/* Takes a word of the pool out and puts it in again: the pool is as it was. */
+static size_t edit(size_t i) {
+    size_t count, detail;
+    accepted(fetlockice_remove(pool, pool_len, scalars[i], lengths[i], &count, &detail));
+    if (count != 1) die("a word was not held");
+    accepted(fetlockice_add(pool, pool_len, scalars[i], lengths[i], &count, &detail));
+    return count;
+}
+
 __attribute__((noinline, optimize("O2", "no-tree-vectorize"))) static uint32_t read_cells(void) {
     uint32_t sum = 0;
     for (size_t i = 0; i < pool_len; i++) sum += pool[i];
@@ -71,6 +81,7 @@ static size_t answer(size_t i) {
     case PLAIN:
     case SAFE: return cut(i);
     case CHECK: return check();
+    case EDIT: return edit(i);
     case READ: return read_cells();
     case READ_WIDE: return read_wide();
     }

@@ -5,12 +5,27 @@
 #include <stddef.h>
 #include <stdint.h>
 
-enum op { DECODE, CLUSTERS, FRESH, ADD, REMOVE, CONTAINS, PREFIX_LENGTHS, WORD_COUNT, CUT_PLAIN, CUT_SAFE, OPS };
+enum op {
+    DECODE,
+    CLUSTERS,
+    FRESH,
+    ADD,
+    ADD_CLASS,
+    REMOVE,
+    CONTAINS,
+    CONTAINS_CLASS,
+    PREFIX_LENGTHS,
+    WORD_COUNT,
+    CUT_PLAIN,
+    CUT_SAFE,
+    OPS
+};
 
 struct call {
     enum op op;
     const void *text; /* bytes, text or word, and their number */
     size_t n;
+    uint16_t word_class; /* that add_class gives; 0 for others */
     const uint32_t *pool;
     size_t cells;
     size_t room;    /* output cells */
@@ -19,13 +34,14 @@ struct call {
 
 struct answer {
     uint32_t number;
-    size_t count, edges, detail;
-    const uint32_t *out; /* the output and the pool, for as long as three more pairs of calls */
+    size_t count, word_class, edges, detail;
+    const uint32_t *out; /* the output and the pool, for as long as four more pairs of calls */
     const uint32_t *pool;
 };
 
 int writes_output(enum op op);
 int writes_pool(enum op op);
+int adds(enum op op);
 int cuts(enum op op);
 
 /* Calls twice, with different leftovers in output, scratch and numbers and at different places. Everything that must be

@@ -26,6 +26,12 @@ size_t make_sheet(uint32_t *text, const uint32_t *pool, int is_dictionary);
 size_t make_bytes(uint8_t *bytes);
 size_t make_pool(uint32_t *pool);
 
+/* A class: the least and the largest ones more often than others. */
+uint16_t make_class(void);
+
+/* Gives each word of a dictionary any class. */
+void reclass(uint32_t *pool);
+
 /* A length of 0, 1, about the one needed, or any up to twice that. */
 size_t make_room(size_t needed);
 

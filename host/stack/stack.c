@@ -14,18 +14,20 @@ static const unsigned char PAINT = 0xA5;
 static unsigned char stack[STACK];
 static ucontext_t here, there;
 static void (*call)(void);
-static size_t most[10];
+static size_t most[12];
 
 static uint8_t bytes[4 * LONG];
 static uint32_t pool[CELLS], text[LONG + 1], word[1024], out[LONG + 1], scratch[FETLOCKICE_SCRATCH_CELLS(LONG)];
-static size_t bytes_len, pool_len, text_len, word_len, out_len, scratch_len, count, edges, detail;
+static size_t bytes_len, pool_len, text_len, word_len, out_len, scratch_len, count, word_class, edges, detail;
 
 static void decode(void) { fetlockice_decode(bytes, bytes_len, out, out_len, &count, &detail); }
 static void clusters(void) { fetlockice_clusters(text, text_len, out, out_len, &count, &detail); }
 static void fresh(void) { fetlockice_fresh(pool, pool_len, &count, &detail); }
 static void add(void) { fetlockice_add(pool, pool_len, word, word_len, &count, &detail); }
+static void add_class(void) { fetlockice_add_class(pool, pool_len, word, word_len, 65535, &count, &detail); }
 static void drop(void) { fetlockice_remove(pool, pool_len, word, word_len, &count, &detail); }
 static void contains(void) { fetlockice_contains(pool, pool_len, word, word_len, &count, &detail); }
+static void class_of(void) { fetlockice_contains_class(pool, pool_len, word, word_len, &count, &word_class, &detail); }
 static void lengths(void) { fetlockice_prefix_lengths(pool, pool_len, text, text_len, out, out_len, &count, &detail); }
 static void words(void) { fetlockice_word_count(pool, pool_len, &count, &detail); }
 static void plain(void) {
@@ -35,10 +37,26 @@ static void safe(void) {
     fetlockice_cut_safe(text, text_len, pool, pool_len, out, out_len, scratch, scratch_len, &count, &edges, &detail);
 }
 
-static void (*const calls[])(void) = {decode, clusters, fresh, add, drop, contains, lengths, words, plain, safe};
-static const char *const names[] = {"decode",         "clusters",   "fresh",     "add",      "remove", "contains",
+static void (*const calls[])(void) = {decode,   clusters, fresh,   add,   add_class, drop,
+                                      contains, class_of, lengths, words, plain,     safe};
+static const char *const names[] = {"decode",         "clusters",   "fresh",     "add",
+                                    "add_class",      "remove",     "contains",  "contains_class",
                                     "prefix_lengths", "word_count", "cut_plain", "cut_safe"};
-enum { DECODE, CLUSTERS, FRESH, ADD, REMOVE, CONTAINS, PREFIX_LENGTHS, WORD_COUNT, CUT_PLAIN, CUT_SAFE, ALL };
+enum {
+    DECODE,
+    CLUSTERS,
+    FRESH,
+    ADD,
+    ADD_CLASS,
+    REMOVE,
+    CONTAINS,
+    CONTAINS_CLASS,
+    PREFIX_LENGTHS,
+    WORD_COUNT,
+    CUT_PLAIN,
+    CUT_SAFE,
+    ALL
+};
 
 static void enter(void) { call(); }
 
@@ -86,9 +104,9 @@ static void dictionary(void) {
         make(ADD);
         word_len = 1 + draw(5);
         fill(word, word_len);
-        make(ADD);
+        make(ADD_CLASS);
     }
-    make(CONTAINS), make(WORD_COUNT);
+    make(CONTAINS), make(CONTAINS_CLASS), make(WORD_COUNT);
 }
 
 /* Every call on texts of some length, with rows that are long enough and with rows that are not. */
@@ -111,13 +129,13 @@ static void on_words(void) {
     for (size_t len = 0; len < 258; len += 1 + draw(3)) {
         word_len = len;
         for (size_t k = 0; k < len; k++) word[k] = 0xE01 + draw(3);
-        make(ADD), make(CONTAINS), make(REMOVE);
+        make(ADD), make(CONTAINS), make(ADD_CLASS), make(CONTAINS_CLASS), make(REMOVE);
     }
     word_len = 255;
     for (size_t k = 0; k < word_len; k++) word[k] = 0xE05;
-    make(ADD), make(REMOVE), make(ADD);
+    make(ADD), make(REMOVE), make(ADD_CLASS);
     word[254] = 0xE06;
-    make(ADD), make(REMOVE), make(REMOVE);
+    make(ADD_CLASS), make(CONTAINS_CLASS), make(REMOVE), make(REMOVE);
 }
 
 static void on_bytes(void) {
@@ -145,7 +163,8 @@ int main(int argc, char **argv) {
     }
     for (int which = 0; which < ALL; which++) {
         int over = most[which] > FETLOCKICE_MAX_STACK / 2;
-        printf("%6zu fetlockice_%s%s\n", most[which], names[which], over ? ": more than half of FETLOCKICE_MAX_STACK" : "");
+        printf("%6zu fetlockice_%s%s\n", most[which], names[which],
+               over ? ": more than half of FETLOCKICE_MAX_STACK" : "");
         failed += over;
     }
     printf("stack/run: %d of %d functions take at most %d bytes, half of FETLOCKICE_MAX_STACK\n", ALL - failed, ALL,
