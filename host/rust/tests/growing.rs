@@ -92,7 +92,7 @@ fn classes_change_no_cut() {
         assert_eq!(classed.add_class(word, class), Ok(true));
     }
     for text in ["กขคง", "กขคกขคง ง12,5", &"กขคงa".repeat(60)] {
-        for mode in [Mode::Plain, Mode::Safe] {
+        for mode in [Mode::Plain, Mode::Safe, Mode::Sheet] {
             assert_eq!(Cutter::new().cut(&plain, text, mode), Cutter::new().cut(&classed, text, mode));
         }
         assert_eq!(plain.prefix_lengths(text), classed.prefix_lengths(text));
