@@ -146,12 +146,34 @@ fn ask(
 ) {
     let n = read_cells(field(line, 3), texts);
     let k = read_cells(field(line, 4), text_ends);
+    lend_rows(
+        line,
+        first(texts, n),
+        first(text_ends, k),
+        pool,
+        answers,
+        out,
+        scratch,
+        mode,
+    );
+}
+
+fn lend_rows(
+    line: &[u8],
+    texts: &[u32],
+    text_ends: &[u32],
+    pool: &[u32],
+    answers: &mut [u32],
+    out: &mut [u32],
+    scratch: &mut [u32],
+    mode: Mode,
+) {
     let told = lent(field(line, 5), answers.len());
     let room = lent(field(line, 6), out.len());
     let cells = lent(field(line, 7), scratch.len());
     call(
-        first(texts, n),
-        first(text_ends, k),
+        texts,
+        text_ends,
         pool,
         &mut answers[0..told],
         &mut out[0..room],
