@@ -54,7 +54,7 @@ extern "C" {
 #define FETLOCKICE_MAX_NODES 1048576
 
 /* The bytes of stack that a call takes at most. Measured on x86-64, over hostile and deepest inputs: fetlockice_remove
- * 32,840, as it goes down a word of 255 scalars by recursion; fetlockice_decode 1,448, the others under 1,000. */
+ * 32,840, as it goes down a word of 255 scalars by recursion; fetlockice_decode 1,448, the others under 1,100. */
 #define FETLOCKICE_MAX_STACK 98304
 
 /* The scratch cells that a call on a text of n scalars asks for. */
