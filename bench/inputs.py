@@ -82,7 +82,9 @@ def write(out, name, text):
 def main(out, rust):
     texts = real.texts()
     write(out, "texts.lines", "".join(text + "\n" for text in texts))
-    write(out, "lines.lines", "".join(text + "\n" for text in texts[:: len(texts) // LINES][:LINES]))
+    lines = texts[:: len(texts) // LINES][:LINES]
+    write(out, "lines.lines", "".join(text + "\n" for text in lines))
+    write(out, "joined.txt", "".join(lines))
     long = "\n".join(texts)[:LONG]
     write(out, "long.txt", long)
     for n in SIZES:

@@ -26,6 +26,8 @@ LOOPS = {"GLIBC_TUNABLES": "glibc.cpu.x86_rep_stosb_threshold=1000000000:glibc.c
 RUST_BYTES = 6 << 30
 
 LINES, LONG = "lines.lines", "long.txt"
+# all lines, and the characters of LINES as one text
+ALL, JOINED = "texts.lines", "joined.txt"
 # texts and words of the lookups with other first characters
 FIRSTS = [(LONG, "many")] + [("spaced-%d.txt" % n, "spaced-%d" % n) for n in (200, 20000)]
 # operation, texts, words: what ours and the Rust are both measured on
@@ -36,7 +38,10 @@ ROWS = (
     + [("places", texts, words) for texts, words in FIRSTS]
     + [("prefix", LINES, words) for words in ("small", "all")]
     + [(op, texts, words) for op in ("plain", "safe") for words in ("small", "all") for texts in (LINES, LONG)]
+    + [("batch", texts, words) for words in ("small", "all") for texts in (LINES, ALL)]
 )
+# what the other sides do text by text
+ONE_BY_ONE = {"batch": "plain"}
 OTHERS = [("libthai", "plain"), ("icu", "plain"), ("icu", "decode")]
 # texts and words of the growth of plain cutting
 CASES = [("ordinary", "all"), ("ordinary", "small")] + [(case, case) for case in ("worst-1", "worst-2", "worst-3")]
@@ -56,6 +61,7 @@ def words_for(side, words):
 
 
 def command(side, how, op, texts, words):
+    op = op if side in ("ours", "before") else ONE_BY_ONE.get(op, op)
     return [DRIVERS[side], how, op, inputs(texts)] + words_for(side, words)
 
 
@@ -131,6 +137,8 @@ def rounds(wanted):
 def measure_rows():
     wanted = [(side, what) for what in ROWS for side in ("ours", "rust")]
     wanted += [(side, (op, texts, "")) for side, op in OTHERS for texts in (LINES, LONG)]
+    wanted += [(side, ("batch", ALL, "")) for side in ("libthai", "icu")]
+    wanted += [("ours", ("plain", JOINED, words)) for words in ("small", "all")]
     wanted += [("ours", (op, LONG, words)) for words in ("small", "all") for op in ("check", "read", "read-wide")]
     wanted += [("ours", ("check", texts, words)) for texts, words in FIRSTS]
     wanted += [("ours", ("sheet", texts, words)) for words in ("small", "all") for texts in (LINES, LONG)]
@@ -166,10 +174,10 @@ def growth():
 def sizes():
     """The characters and bytes of the texts."""
     found = {}
-    for name in [LINES, LONG] + [texts for texts, _ in FIRSTS[1:]]:
+    for name in [LINES, ALL, JOINED, LONG] + [texts for texts, _ in FIRSTS[1:]]:
         data = open(inputs(name), "rb").read()
         text = data.decode("utf-8")
-        feeds = text.count("\n") if name == LINES else 0
+        feeds = text.count("\n") if name in (LINES, ALL) else 0
         found[name] = {"characters": len(text) - feeds, "bytes": len(data) - feeds, "texts": feeds or 1}
     return found
 

@@ -8,6 +8,7 @@ import subprocess
 ROOT = os.path.dirname(os.path.dirname(os.path.abspath(__file__)))
 WORK = os.path.join(ROOT, "target", "bench")
 LINES, LONG = "lines.lines", "long.txt"
+ALL, JOINED = "texts.lines", "joined.txt"
 NAMES = {
     "decode": "decoding",
     "clusters": "clusters",
@@ -15,6 +16,7 @@ NAMES = {
     "prefix": "prefix lookup at each text's start, the public call",
     "plain": "plain, from bytes to ends",
     "safe": "safe, from bytes to ends",
+    "batch": "plain, all lines in one call, from bytes to ends",
 }
 WORST = {
     "worst-1": "n times ก, {กก, กกก}",
@@ -93,7 +95,9 @@ class Results:
 def where(r, texts):
     if texts.startswith("spaced"):
         return "a text of evenly spaced characters"
-    return "one long text" if texts == LONG else "%d lines" % r.sizes[texts]["texts"]
+    if texts == JOINED:
+        return "the lines joined to one text"
+    return "one long text" if texts == LONG else "%s lines" % "{:,}".format(r.sizes[texts]["texts"])
 
 
 def both(r):
@@ -122,7 +126,7 @@ def modes(r):
 
 
 def others(r):
-    sides, ops = {"libthai": "libthai", "icu": "ICU"}, {"plain": "word breaks", "decode": "decoding to UTF-16"}
+    sides, ops = {"libthai": "libthai", "icu": "ICU"}, {"plain": "word breaks", "batch": "word breaks", "decode": "decoding to UTF-16"}
 
     def times_ours(side, op, texts, words):
         if ("ours", op, texts, words) not in r.rows:
@@ -217,6 +221,10 @@ def targets(r):
         yield row("prefix lookup, %s words" % r.words(words), 2, ("places", LONG, words))
     yield row("single lines, 700 words, plain", 1, ("plain", LINES, "small"))
     yield row("single lines, 700 words, safe", 1, ("safe", LINES, "small"))
+    yield row("lines in one call, %s words" % r.words("all"), 2, ("batch", LINES, "all"))
+    yield row("lines in one call, all lines, %s words" % r.words("all"), 3.3, ("batch", ALL, "all"))
+    for texts, name in (LINES, "lines in one call"), (ALL, "lines in one call, all lines"):
+        yield row("%s, %s words" % (name, r.words("small")), 4.5, ("batch", texts, "small"))
     yield row("decoding, one long text", 1, ("decode", LONG, "small"))
     yield row("decoding, lines", 1, ("decode", LINES, "small"))
 
@@ -276,6 +284,12 @@ def limits(r):
     }
     for name, (more, fewer) in firsts.items():
         yield row(name, 2, [of("ours", "places", *more) / of("ours", "places", *fewer) for of in (r.time, r.count)])
+    for words in ("all", "small"):
+        ratios = [of("ours", "batch", LINES, words) / of("ours", "plain", JOINED, words) for of in (r.time, r.count)]
+        yield row("lines in one call against one text of the same characters, %s words" % r.words(words), 1.3, ratios)
+    for side, name in (("libthai", "libthai"), ("icu", "ICU")):
+        ratios = [of("ours", "batch", ALL, "all") / of(side, "batch", ALL, "") for of in (r.time, r.count)]
+        yield row("all lines in one call, %s words, against %s" % (r.words("all"), name), 1, ratios)
 
 
 def opening(r):

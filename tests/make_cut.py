@@ -87,4 +87,5 @@ def main():
     vectors.write("test_cut", lines + vectors.rust("cut") + vectors.read("sheet.txt", ["cut"]))
 
 
-main()
+if __name__ == "__main__":
+    main()

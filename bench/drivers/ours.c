@@ -13,14 +13,15 @@ size_t search_places(const uint32_t *pool, size_t pool_len, const uint32_t *text
 /* An earlier library, linked as the side "before", may lack these. */
 #pragma weak fetlockice_cut_sheet
 #pragma weak fetlockice_check_claim
+#pragma weak fetlockice_cut_many_plain
 
-enum op { DECODE, CLUSTERS, PREFIX, PLACES, PLAIN, SAFE, SHEET, CUT, CLAIM, CHECK, READ, READ_WIDE };
-static const char *const names[] = {"decode", "clusters", "prefix", "places", "plain", "safe",
-                                    "sheet",  "cut",      "claim",  "check",  "read",  "read-wide"};
+enum op { DECODE, CLUSTERS, PREFIX, PLACES, PLAIN, SAFE, SHEET, BATCH, CUT, CLAIM, CHECK, READ, READ_WIDE };
+static const char *const names[] = {"decode", "clusters", "prefix", "places", "plain", "safe", "sheet",
+                                    "batch",  "cut",      "claim",  "check",  "read",  "read-wide"};
 
 static enum op op;
-static uint32_t *pool, *out, *scratch, *cells, **scalars, **ends;
-static size_t pool_len, *lengths, *end_counts;
+static uint32_t *pool, *out, *scratch, *cells, *text_ends, *told, **scalars, **ends;
+static size_t pool_len, scratch_len, *lengths, *end_counts;
 static volatile uint32_t kept;
 
 static void accepted(uint32_t answer) {
@@ -45,6 +46,15 @@ static size_t cut(size_t i) {
     else
         accepted(fetlockice_cut_sheet(cells, n, pool, pool_len, out, n, scratch, FETLOCKICE_SCRATCH_CELLS(n), &count, &edges,
                                       &detail));
+    return count;
+}
+
+/* All texts from bytes to ends in one call; gives the number of texts. */
+static size_t batch(void) {
+    size_t n = 0, count, detail;
+    for (size_t i = 0; i < text_count; i++) text_ends[i] = (uint32_t)(n += decode(i, cells + n));
+    accepted(fetlockice_cut_many_plain(cells, n, text_ends, text_count, pool, pool_len, told,
+                                       FETLOCKICE_ANSWER_CELLS * text_count, out, n, scratch, scratch_len, &count, &detail));
     return count;
 }
 
@@ -96,6 +106,7 @@ static size_t answer(size_t i) {
     case PLAIN:
     case SAFE:
     case SHEET: return cut(i);
+    case BATCH: return batch();
     case CUT: return cut_scalars(i, out);
     case CLAIM: return claim(i);
     case CHECK: return check();
@@ -106,15 +117,28 @@ static size_t answer(size_t i) {
 }
 
 __attribute__((noinline)) void bench_pass(void) {
-    for (size_t i = 0; i < text_count; i++) kept += (uint32_t)answer(i);
+    for (size_t i = 0; i < (op == BATCH ? 1 : text_count); i++) kept += (uint32_t)answer(i);
 }
 
 static void show(size_t count) {
     for (size_t k = 0; k < count; k++) printf("%u ", out[k]);
 }
 
+static void batch_answers(void) {
+    batch();
+    for (size_t i = 0; i < text_count; i++) {
+        accepted(told[FETLOCKICE_ANSWER_CELLS * i]);
+        show(told[FETLOCKICE_ANSWER_CELLS * i + 1]), putchar('\n');
+        out += told[FETLOCKICE_ANSWER_CELLS * i + 1];
+    }
+}
+
 static void answers(void) {
     size_t words = 0;
+    if (op == BATCH) {
+        batch_answers();
+        return;
+    }
     for (size_t i = 0; i < text_count; i++) {
         if (op == PLACES) words += answer(i);
         else show(answer(i)), putchar('\n');
@@ -153,21 +177,24 @@ static void load(const char *words, size_t nodes, const char *to, const char *fr
     if (!f || fwrite(pool, 4, pool_len, f) != pool_len || fclose(f)) die(to);
 }
 
-/* Reads the texts, decodes them, and makes room for the longest. */
+/* Reads the texts, decodes them, and makes room for the longest and for all. */
 static void prepare(const char *path) {
-    size_t longest = 0;
+    size_t longest = 0, all = 0;
     texts = read_texts(path, &text_count);
-    for (size_t i = 0; i < text_count; i++)
-        if (longest < texts[i].len) longest = texts[i].len;
-    cells = room(4 * longest);
-    out = room(4 * (longest + 255));
-    scratch = room(4 * FETLOCKICE_SCRATCH_CELLS(longest));
     scalars = room(text_count * sizeof *scalars);
     lengths = room(text_count * sizeof *lengths);
     for (size_t i = 0; i < text_count; i++) {
         scalars[i] = room(4 * texts[i].len);
         lengths[i] = decode(i, scalars[i]);
+        all += texts[i].len;
+        if (longest < lengths[i]) longest = lengths[i];
     }
+    scratch_len = FETLOCKICE_SCRATCH_CELLS(longest);
+    cells = room(4 * all);
+    out = room(4 * (all + 255));
+    scratch = room(4 * scratch_len);
+    text_ends = room(4 * text_count);
+    told = room(4 * FETLOCKICE_ANSWER_CELLS * text_count);
 }
 
 /* The ends that are claimed. */

@@ -1,61 +1,105 @@
 /* cut_sheet WORDS SHEET: writes the lines of the file SHEET with | between tokens, cut in safe mode by the words of the
- * file WORDS, one to a line. */
-#define _POSIX_C_SOURCE 200809L
+ * file WORDS, one to a line. All lines are cut in one call. */
 #include "fetlockice.h"
 #include <stdio.h>
 #include <stdlib.h>
 #include <string.h>
 
-static uint32_t text[FETLOCKICE_MAX_SCALARS], ends[FETLOCKICE_MAX_SCALARS];
-static uint32_t scratch[FETLOCKICE_SCRATCH_CELLS(FETLOCKICE_MAX_SCALARS)];
-static size_t count, edges, detail;
+static size_t count, detail;
 
-static void accepted(uint32_t number) {
+static void accepted(uint32_t number, size_t detail) {
     if (number == FETLOCKICE_ACCEPTED) return;
     fprintf(stderr, "cut_sheet: refusal %u, detail %zu\n", (unsigned)number, detail);
     exit(1);
 }
 
-/* The next line's bytes without the line feed, its scalars in text and their number in count; or NULL. */
-static char *next_line(FILE *file) {
-    static char *line;
-    static size_t room;
-    ssize_t size = getline(&line, &room, file);
-    if (size < 0) return NULL;
-    if (line[size - 1] == '\n') line[--size] = 0;
-    accepted(fetlockice_decode((const uint8_t *)line, (size_t)size, text, FETLOCKICE_MAX_SCALARS, &count, &detail));
-    return line;
+static void *room(size_t cells) {
+    void *row = malloc((cells + 1) * sizeof(uint32_t));
+    if (row == NULL) exit(1);
+    return row;
+}
+
+/* The bytes of a file, and a line feed behind the last line. */
+static char *read_file(const char *path, size_t *size) {
+    FILE *file = fopen(path, "rb");
+    if (file == NULL || fseek(file, 0, SEEK_END) != 0) exit((perror(path), 2));
+    long length = ftell(file);
+    char *bytes = length < 0 ? NULL : malloc((size_t)length + 1);
+    rewind(file);
+    if (bytes == NULL || fread(bytes, 1, (size_t)length, file) != (size_t)length) exit((perror(path), 2));
+    fclose(file);
+    *size = (size_t)length;
+    if (*size > 0 && bytes[*size - 1] != '\n') bytes[(*size)++] = '\n';
+    return bytes;
+}
+
+/* Decodes the line at *at, steps behind its line feed, and gives the number of its scalars. */
+static size_t next_line(const char *bytes, size_t size, size_t *at, uint32_t *out, size_t out_len) {
+    const char *line = bytes + *at;
+    size_t length = (size_t)((const char *)memchr(line, '\n', size - *at) - line);
+    uint32_t number = fetlockice_decode((const uint8_t *)line, length, out, out_len, &count, &detail);
+    accepted(number, detail);
+    *at += length + 1;
+    return count;
+}
+
+/* Adds the words of a file to a fresh pool that grows with them. */
+static uint32_t *read_words(const char *path, size_t *cells) {
+    size_t size, most = (size_t)FETLOCKICE_MAX_NODES * FETLOCKICE_NODE_CELLS;
+    char *bytes = read_file(path, &size);
+    uint32_t *pool = room(most), *word = room(size), number;
+    *cells = 1024 * FETLOCKICE_NODE_CELLS;
+    accepted(fetlockice_fresh(pool, *cells, &count, &detail), detail);
+    for (size_t at = 0; at < size;) {
+        size_t n = next_line(bytes, size, &at, word, size);
+        while ((number = fetlockice_add(pool, *cells, word, n, &count, &detail)) == FETLOCKICE_TOO_FEW_NODES &&
+               *cells < most) {
+            memset(pool + *cells, 0, *cells * sizeof *pool); /* nodes that aren't in use are zero */
+            *cells *= 2;
+        }
+        accepted(number, detail);
+    }
+    free(bytes), free(word);
+    return pool;
+}
+
+/* Writes a line with | between its tokens, and steps behind its line feed. */
+static const char *show(const char *line, const uint32_t *ends, size_t tokens) {
+    for (size_t token = 0, at = 0; token < tokens; token++) {
+        while (at < ends[token]) {
+            putchar(*line++);
+            if ((*line & 0xC0) != 0x80) at++; /* the next byte starts a character */
+        }
+        if (token + 1 < tokens) putchar('|');
+    }
+    putchar('\n');
+    return line + 1;
 }
 
 int main(int argc, char **argv) {
-    FILE *words = argc == 3 ? fopen(argv[1], "r") : NULL, *sheet = argc == 3 ? fopen(argv[2], "r") : NULL;
-    if (words == NULL || sheet == NULL) return fputs("usage: cut_sheet WORDS SHEET\n", stderr), 2;
-    size_t cells = 1024 * FETLOCKICE_NODE_CELLS, most = (size_t)FETLOCKICE_MAX_NODES * FETLOCKICE_NODE_CELLS;
-    uint32_t *pool = malloc(most * sizeof *pool);
-    if (pool == NULL) return 1;
-    accepted(fetlockice_fresh(pool, cells, &count, &detail));
-    while (next_line(words) != NULL) {
-        size_t n = count;
-        uint32_t number;
-        while ((number = fetlockice_add(pool, cells, text, n, &count, &detail)) == FETLOCKICE_TOO_FEW_NODES &&
-               cells < most) {
-            memset(pool + cells, 0, cells * sizeof *pool); /* nodes that aren't in use are zero */
-            cells *= 2;
-        }
-        accepted(number);
+    if (argc != 3) return fputs("usage: cut_sheet WORDS SHEET\n", stderr), 2;
+    size_t cells, size, lines = 0, characters = 0, longest = 0;
+    uint32_t *pool = read_words(argv[1], &cells);
+    char *sheet = read_file(argv[2], &size);
+    uint32_t *texts = room(size), *text_ends = room(size), *out = room(size);
+    for (size_t at = 0; at < size; lines++) {
+        size_t n = next_line(sheet, size, &at, texts + characters, size - characters);
+        if (longest < n) longest = n;
+        text_ends[lines] = (uint32_t)(characters += n);
     }
-    for (char *line; (line = next_line(sheet)) != NULL;) {
-        size_t n = count;
-        accepted(fetlockice_cut_safe(text, n, pool, cells, ends, n, scratch, FETLOCKICE_SCRATCH_CELLS(n), &count,
-                                     &edges, &detail));
-        for (size_t token = 0, at = 0; token < count; token++) {
-            while (at < ends[token]) {
-                putchar(*line++);
-                if ((*line & 0xC0) != 0x80) at++; /* the next byte starts a character */
-            }
-            if (token + 1 < count) putchar('|');
-        }
-        putchar('\n');
+    size_t answer_cells = FETLOCKICE_ANSWER_CELLS * lines, scratch_cells = FETLOCKICE_SCRATCH_CELLS(longest);
+    uint32_t *answers = room(answer_cells), *scratch = room(scratch_cells);
+    accepted(fetlockice_cut_many_safe(texts, characters, text_ends, lines, pool, cells, answers, answer_cells, out,
+                                      size, scratch, scratch_cells, &count, &detail),
+             detail);
+    const char *line = sheet;
+    const uint32_t *ends = out;
+    for (size_t i = 0; i < lines; i++) {
+        const uint32_t *told = answers + FETLOCKICE_ANSWER_CELLS * i;
+        accepted(told[0], told[3]);
+        line = show(line, ends, told[1]);
+        ends += told[1];
     }
-    return free(pool), 0;
+    free(pool), free(sheet), free(texts), free(text_ends), free(out), free(answers), free(scratch);
+    return 0;
 }

@@ -13,10 +13,8 @@ fn main() -> Result<(), Box<dyn Error>> {
         fs::read_to_string(&paths[1])?,
     );
     let dictionary = Dictionary::from_words(words.split_terminator('\n'))?;
-    let mut cutter = Cutter::new();
-    for line in sheet.split_terminator('\n') {
-        let cut = cutter.cut(&dictionary, line, Mode::Safe)?;
-        let tokens: Vec<&str> = cut.tokens.iter().map(|token| token.text).collect();
+    for cut in Cutter::new().cut_lines(&dictionary, sheet.split_terminator('\n'), Mode::Safe) {
+        let tokens: Vec<&str> = cut?.tokens.iter().map(|token| token.text).collect();
         println!("{}", tokens.join("|"));
     }
     Ok(())

@@ -2,6 +2,7 @@
  * answer to the rules. The first thing that isn't as it must be ends the run. */
 #include "calls.h"
 #include "inputs.h"
+#include "many.h"
 #include "model.h"
 #include "parts.h"
 #include "rows.h"
@@ -222,10 +223,13 @@ int main(int argc, char **argv) {
     }
     while (calls < most) {
         alarm(300);
-        for (size_t k = 0; k < 100 && calls < most; k++) step();
+        for (size_t k = 0; k < 100 && calls < most; k++) below(OPS + 1) == 0 ? many_step() : step();
     }
     printf("hostile: calls of each function:");
     for (size_t i = 0; i < OPS; i++) printf(" %lu", calls_of[i]);
+    printf(", of many texts:");
+    for (size_t i = 0; i < MODES; i++) printf(" %lu", many_calls[i]);
+    printf(", %lu of them refused", many_refused);
     printf("\nhostile: answers 0 to 8:");
     for (size_t i = 0; i < 9; i++) printf(" %lu", answers[i]);
     printf("\nhostile: %lu calls, no error\n", calls);

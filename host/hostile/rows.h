@@ -14,8 +14,8 @@ size_t below(size_t n);
 extern unsigned long calls;
 void must(int holds, const char *what);
 
-/* The longest row. */
-#define ROW_BYTES ((size_t)1 << 22)
+/* The longest row: twice the scratch of the longest text, and the guards. */
+#define ROW_BYTES ((size_t)5 << 20)
 
 struct row {
     unsigned char *area;   /* ROW_BYTES between two pages that nobody may touch */

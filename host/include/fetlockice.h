@@ -11,7 +11,8 @@
  * Lent memory. A row that a call takes as const is only read. A refused call changes no output and no pool. An
  * accepted one writes the first *count cells of the output and keeps the rest. Scratch is untouched after refusals 2
  * to 5, and all zero after refusal 6 and after an accepted call, every lent cell of it; on entry it may hold anything.
- * Nothing is kept from one call to the next, nothing is allocated and nothing is freed.
+ * What a cut of many texts writes stands at its declaration. Nothing is kept from one call to the next, nothing is
+ * allocated and nothing is freed.
  *
  * THE CALLER'S DUTIES. Everything else about the contents is the library's to answer.
  *
@@ -57,7 +58,10 @@ extern "C" {
 /* The scratch cells that a call on a text of n scalars asks for. */
 #define FETLOCKICE_SCRATCH_CELLS(n) (9 * (size_t)(n) + 128)
 
-/* What a call answers. The lowest number that applies to the call is given. */
+/* The cells of a text's answer in a cut of many texts. */
+#define FETLOCKICE_ANSWER_CELLS 4
+
+/* What a call answers. The lowest number that applies to the call is given; a cut of many texts gives 10 before 6. */
 enum fetlockice_answer {
     FETLOCKICE_ACCEPTED = 0,
     FETLOCKICE_ILL_FORMED = 1,        /* the bytes aren't well-formed UTF-8; length of the longest well-formed prefix */
@@ -67,7 +71,8 @@ enum fetlockice_answer {
     FETLOCKICE_SCRATCH_TOO_SHORT = 5, /* scratch has fewer than 9n+128 cells; 9n+128 */
     FETLOCKICE_OUTPUT_TOO_SHORT = 6,  /* the output has fewer cells than the answer; the cells needed */
     FETLOCKICE_WORD_TOO_LONG = 7,     /* the word is over 255 scalars after trimming; its trimmed length */
-    FETLOCKICE_TOO_FEW_NODES = 8      /* the pool has too few free nodes; the nodes missing */
+    FETLOCKICE_TOO_FEW_NODES = 8,     /* the pool has too few free nodes; the nodes missing */
+    FETLOCKICE_WRONG_POSITION = 10    /* a position is wrong; its index where it is one of a list */
 };
 
 /* Writes the scalars of UTF-8 bytes. *count: how many. Refusals 1, 2, 6. */
@@ -133,6 +138,43 @@ uint32_t fetlockice_cut_sheet(const uint32_t *text, size_t text_len, const uint3
 uint32_t fetlockice_check_claim(const uint32_t *text, size_t text_len, const uint32_t *pool, size_t pool_len,
                                 const uint32_t *claim, size_t claim_len, uint32_t *scratch, size_t scratch_len,
                                 size_t *right, size_t *token, size_t *detail);
+
+/* Cuts many texts plainly, by the words of the pool, which is checked once for all of them. The texts stand joined in
+ * texts: text i goes from text_ends[i - 1], or from 0, to text_ends[i]. An end may equal the one before it, for an
+ * empty text. What stands behind the last one is not read. For each text
+ *
+ *   answers[4 * i]      0 if it was accepted, else the number of its refusal, 2 to 6
+ *   answers[4 * i + 1]  the number of its ends; 0 if it was refused
+ *   answers[4 * i + 2]  the edges recorded in it; 0 if it was refused
+ *   answers[4 * i + 3]  0 if it was accepted, else the refusal's detail
+ *
+ * are what fetlockice_cut_plain would tell of that text by itself, lent the output behind the ends that stand written
+ * and all of scratch. The ends of all texts stand in out one behind the other, each in its own text's characters. A
+ * refused text has no ends there and stops no other: 6 says that the texts before it left too few cells, and how many
+ * it needs.
+ * A pool that is no dictionary is told to each text. *count: text_count. An output as long as the texts is always
+ * enough, and so is the scratch of the longest text.
+ *
+ * Refusals of the whole call, which changes nothing then: 10, a text end is over texts_len or below the one before it;
+ * its index. 6, answers has fewer than 4 * text_count cells; the cells needed. An accepted call writes the first
+ * 4 * text_count cells of answers, the ends at the front of out, and keeps the rest of both. Scratch is all zero if a
+ * text was accepted or refused with 6, and else untouched. */
+uint32_t fetlockice_cut_many_plain(const uint32_t *texts, size_t texts_len, const uint32_t *text_ends,
+                                   size_t text_count, const uint32_t *pool, size_t pool_len, uint32_t *answers,
+                                   size_t answers_len, uint32_t *out, size_t out_len, uint32_t *scratch,
+                                   size_t scratch_len, size_t *count, size_t *detail);
+
+/* The same in safe mode. */
+uint32_t fetlockice_cut_many_safe(const uint32_t *texts, size_t texts_len, const uint32_t *text_ends,
+                                  size_t text_count, const uint32_t *pool, size_t pool_len, uint32_t *answers,
+                                  size_t answers_len, uint32_t *out, size_t out_len, uint32_t *scratch,
+                                  size_t scratch_len, size_t *count, size_t *detail);
+
+/* The same by the profile "sheet". */
+uint32_t fetlockice_cut_many_sheet(const uint32_t *texts, size_t texts_len, const uint32_t *text_ends,
+                                   size_t text_count, const uint32_t *pool, size_t pool_len, uint32_t *answers,
+                                   size_t answers_len, uint32_t *out, size_t out_len, uint32_t *scratch,
+                                   size_t scratch_len, size_t *count, size_t *detail);
 
 #ifdef __cplusplus
 }

@@ -8,18 +8,19 @@
 #include <string.h>
 #include <ucontext.h>
 
-enum { STACK = 1 << 20, CELLS = 8 * 4096, LONG = FETLOCKICE_MAX_SCALARS };
+enum { STACK = 1 << 20, CELLS = 8 * 4096, LONG = FETLOCKICE_MAX_SCALARS, TEXTS = 9 };
 static const unsigned char PAINT = 0xA5;
 
 static unsigned char stack[STACK];
 static ucontext_t here, there;
 static void (*call)(void);
-static size_t most[12];
 
 static uint8_t bytes[4 * LONG];
 static uint32_t pool[CELLS], text[LONG + 1], word[1024], out[LONG + 1], claim[LONG + 1];
 static uint32_t scratch[FETLOCKICE_SCRATCH_CELLS(LONG)];
-static size_t bytes_len, pool_len, text_len, word_len, out_len, claim_len, scratch_len, count, edges, detail;
+static uint32_t text_ends[TEXTS], answers[FETLOCKICE_ANSWER_CELLS * TEXTS];
+static size_t bytes_len, pool_len, text_len, word_len, out_len, claim_len, scratch_len, answers_len;
+static size_t count, edges, detail;
 
 static void decode(void) { fetlockice_decode(bytes, bytes_len, out, out_len, &count, &detail); }
 static void clusters(void) { fetlockice_clusters(text, text_len, out, out_len, &count, &detail); }
@@ -45,10 +46,25 @@ static void judge(void) {
                            &detail);
 }
 
-static void (*const calls[])(void) = {decode,  clusters, fresh, add,  drop,  contains,
-                                      lengths, words,    plain, safe, sheet, judge};
-static const char *const names[] = {"decode",         "clusters",   "fresh",     "add",      "remove",    "contains",
-                                    "prefix_lengths", "word_count", "cut_plain", "cut_safe", "cut_sheet", "check_claim"};
+static void many_plain(void) {
+    fetlockice_cut_many_plain(text, text_len, text_ends, TEXTS, pool, pool_len, answers, answers_len, out, out_len,
+                              scratch, scratch_len, &count, &detail);
+}
+static void many_safe(void) {
+    fetlockice_cut_many_safe(text, text_len, text_ends, TEXTS, pool, pool_len, answers, answers_len, out, out_len,
+                             scratch, scratch_len, &count, &detail);
+}
+static void many_sheet(void) {
+    fetlockice_cut_many_sheet(text, text_len, text_ends, TEXTS, pool, pool_len, answers, answers_len, out, out_len,
+                              scratch, scratch_len, &count, &detail);
+}
+
+static void (*const calls[])(void) = {decode, clusters, fresh, add,   drop,  contains,   lengths,   words,
+                                      plain,  safe,     sheet, judge, many_plain, many_safe, many_sheet};
+static const char *const names[] = {"decode",         "clusters",      "fresh",          "add",       "remove",
+                                    "contains",       "prefix_lengths", "word_count",    "cut_plain", "cut_safe",
+                                    "cut_sheet",      "check_claim",   "cut_many_plain", "cut_many_safe",
+                                    "cut_many_sheet"};
 enum {
     DECODE,
     CLUSTERS,
@@ -62,8 +78,13 @@ enum {
     CUT_SAFE,
     CUT_SHEET,
     CHECK_CLAIM,
+    CUT_MANY_PLAIN,
+    CUT_MANY_SAFE,
+    CUT_MANY_SHEET,
     ALL
 };
+
+static size_t most[ALL];
 
 static void enter(void) { call(); }
 
@@ -125,6 +146,14 @@ static void claims(void) {
     make(CHECK_CLAIM);
 }
 
+/* The text in parts, one of them nearly all of it, and now and then with ends that are wrong. */
+static void part(size_t len) {
+    for (size_t i = 0; i < TEXTS; i++)
+        text_ends[i] = (uint32_t)(i < 3 ? i * len / 4096 : len - (TEXTS - 1 - i) * len / 4096);
+    if (draw(8) == 0) text_ends[draw(TEXTS)] = draw(0xFFFFFFFF);
+    answers_len = FETLOCKICE_ANSWER_CELLS * TEXTS - (draw(8) == 0);
+}
+
 /* Every call on texts of some length, with rows that are long enough and with rows that are not. */
 static void on_texts(size_t len) {
     text_len = len;
@@ -138,6 +167,8 @@ static void on_texts(size_t len) {
         if (scratch_len > FETLOCKICE_SCRATCH_CELLS(LONG)) scratch_len = FETLOCKICE_SCRATCH_CELLS(LONG);
         make(CLUSTERS), make(PREFIX_LENGTHS), make(CUT_SAFE), make(CUT_SHEET), make(CUT_PLAIN);
         claims();
+        part(len);
+        make(CUT_MANY_PLAIN), make(CUT_MANY_SAFE), make(CUT_MANY_SHEET);
     }
 }
 

@@ -2,6 +2,7 @@
 // the same name in a host_ crate, and has that function's contract. No struct crosses.
 mod claims;
 mod cuts;
+mod many;
 mod texts;
 mod words;
 
@@ -9,6 +10,9 @@ pub use claims::fetlockice_check_claim;
 pub use cuts::fetlockice_cut_plain;
 pub use cuts::fetlockice_cut_safe;
 pub use cuts::fetlockice_cut_sheet;
+pub use many::fetlockice_cut_many_plain;
+pub use many::fetlockice_cut_many_safe;
+pub use many::fetlockice_cut_many_sheet;
 pub use texts::fetlockice_clusters;
 pub use texts::fetlockice_decode;
 pub use words::fetlockice_add;

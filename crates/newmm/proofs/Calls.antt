@@ -24,17 +24,15 @@ use Rattle.trie_check.proofs.Parts.{readable, held-part}
 use Rattle.newmm_rules.specs.Cutting.{Cut}
 use Rattle.newmm_one_cut.specs.declared.Ends.{Ends}
 use Rattle.newmm_rules.specs.declared.Mode.{Mode}
-use Rattle.newmm_rules.proofs.Climbing.{few}
-use Rattle.newmm_rules.proofs.Modes.{modes-climb}
 use Rattle.newmm_answers.proofs.Checks.{at-most, known, room}
-use Rattle.newmm_answers.proofs.Plain.{plain-right}
+use Rattle.newmm_answers.proofs.Cuts.{few-ends}
 use Rattle.newmm_answers.specs.declared.CutAnswer.{CutAnswer}
 use Rattle.newmm_answers.specs.declared.CutAnswer.the-variants as variants
-use Rattle.newmm_answers.specs.Answers.{plainCut, cutOf, scratchFor, outCauses, firstCauses, accepts, told, cleared}
+use Rattle.newmm_answers.specs.Answers.{cutOf, scratchFor, outCauses, firstCauses, accepts, told, cutAnswer, outAfter, cleared}
 use Rattle.newmm_answers.specs.Calls.{Call, call, answerOf, outOf, scratchOf, Cuts}
 use Rattle.newmm_segment.specs.inner.Written.{Ready, Written}
 use Rattle.newmm_segment.proofs.Samples.{front, behind, fits}
-use Rattle.newmm_answers.specs.inner.Passing.{Passes}
+use Rattle.newmm_answers.specs.inner.Passing.{Passes, Blank}
 
 -- ---- a call that passes
 
@@ -88,15 +86,11 @@ module _ {mode : Mode} {text pool row : List ℕ} {cells : ℕ} {r : Ends} (z : 
       subst (λ (c : Cut). Written c (replicate {A = ℕ} cells 0) row r) (ap (λ (f : Words). cutOf mode f text) (sym (words (z .lent))))
       (subst (λ (l : List ℕ). Written (cutOf mode (holds (take (8 * z .n) pool)) text) l row r) (z .lent .blank) (z .written))
 
-  few-ends : length (whole .ends) ≤ length text
-  unfolding cutOf
-  few-ends = omega (arith, few (modes-climb (plainCut (held (meaning pool))) (plain-right (held (meaning pool))) text mode))
-
   inside : r .ends ≤ cells
-  inside = omega (arith, v .ends, few-ends, room-is (z .lent))
+  inside = omega (arith, v .ends, few-ends mode (held (meaning pool)) text, room-is (z .lent))
 
   pub ends-fit : r .ends ≤ length row
-  ends-fit = fits v (omega (arith, few-ends, room-is (z .lent), length-replicate {A = ℕ} cells 0))
+  ends-fit = fits v (omega (arith, few-ends mode (held (meaning pool)) text, room-is (z .lent), length-replicate {A = ℕ} cells 0))
 
   pub ends-lent : length (take (r .ends) row) ≡ r .ends
   ends-lent = length-take-le (r .ends) row ends-fit
@@ -151,6 +145,29 @@ module _ {mode : Mode} {text pool row : List ℕ} (scratch out : List ℕ) {r : 
           ∙ ap (λ (k : ℕ). whole z .ends ++ drop k out) (v z .ends)
           ∙ sym (ap (λ (a : Answer). output a (whole z .ends) out) (accepts-yes z (length out) h)),
       zeroed e,
+    ),
+  )
+
+-- ---- scratch that was cleared for the call
+
+module _ (scratch : List ℕ) {text pool row : List ℕ} (p : Passes text pool (length scratch)) (e : row ≡ replicate {A = ℕ} (length scratch) 0) where
+  as-long : length row ≡ length scratch
+  as-long = ap length e ∙ length-replicate {A = ℕ} (length scratch) 0
+
+  pub still-passes : Passes text pool (length row)
+  still-passes = subst (λ (k : ℕ). Passes text pool k) (sym as-long) p
+
+  pub now-blank : Blank row
+  now-blank = e ∙ ap (λ (k : ℕ). replicate {A = ℕ} k 0) (sym as-long)
+
+  -- what scratch held before decides nothing
+  pub cleared-cuts : (out : List ℕ) (mode : Mode) {r : CutAnswer} {out′ row′ : List ℕ}
+      → Cuts (call text pool out row mode) r out′ row′ → Cuts (call text pool out scratch mode) r out′ row′
+  cleared-cuts out mode c = (
+    c .0 ∙ ap (λ (k : ℕ). cutAnswer mode text (meaning pool) k (length out)) as-long,
+    (
+      c .1 .0 ∙ ap (λ (k : ℕ). outAfter mode text (meaning pool) k out) as-long,
+      c .1 .1 ∙ ap (λ (x : Answer). cleared x row) (still-passes .accepted) ∙ ap (λ (k : ℕ). replicate {A = ℕ} k 0) as-long ∙ sym (ap (λ (x : Answer). cleared x scratch) (p .accepted)),
     ),
   )
 

@@ -4,6 +4,7 @@ use native.Mathlib.Omega.{arith}
 use mathlib.Core.Path.{_≡_, sym, _∙_, ap}
 use mathlib.Core.Bool.{true}
 use mathlib.Core.List.{List}
+use mathlib.Core.Option.{Option}
 use lib.ListN.{length}
 use borrow.Author.Tests.{ltb-false, lt-ltb, le-ltb}
 use Rattle.refusal.specs.declared.Refusal.{Refusal}
@@ -14,7 +15,7 @@ use Rattle.refusal.specs.Answers.{answer}
 use Rattle.refusal.proofs.Order.{refused-first}
 use Rattle.refusal.proofs.Causes.{None, none-of, again, cause-yes, cause-kept}
 use Rattle.trie_pool.specs.Rules.{isDictionary}
-use Rattle.trie_pool.specs.Meaning.{meaning}
+use Rattle.trie_pool.specs.Meaning.{Words, meaning}
 use Rattle.trie_check.specs.Refusals.{readCauses}
 use Rattle.trie_check.proofs.Refusals.{read-of}
 use Rattle.trie_check.proofs.Parts.{known-is}
@@ -23,28 +24,28 @@ use Rattle.newmm_answers.specs.inner.Passing.{Passes}
 
 -- ---- refusals 2 to 5
 
-module _ (text pool : List ℕ) (cells : ℕ) {a : Answer} (is : a ≡ answer (readCauses text (meaning pool)) (length text)) where
-  pub refused-early : {r : Refusal} → a ≡ Refused r → a ≡ answer (firstCauses text (meaning pool) cells) (length text)
-  refused-early e = e ∙ sym (refused-first (readCauses text (meaning pool)) (scratchCauses text cells) (length text) (length text) (sym is ∙ e))
+module _ (text : List ℕ) (m : Option Words) (cells : ℕ) {a : Answer} (is : a ≡ answer (readCauses text m) (length text)) where
+  pub refused-early : {r : Refusal} → a ≡ Refused r → a ≡ answer (firstCauses text m cells) (length text)
+  refused-early e = e ∙ sym (refused-first (readCauses text m) (scratchCauses text cells) (length text) (length text) (sym is ∙ e))
 
   module _ {n : ℕ} (yes′ : a ≡ Accepted n) where
-    first : answer (readCauses text (meaning pool)) (length text) ≡ Accepted n
+    first : answer (readCauses text m) (length text) ≡ Accepted n
     first = sym is ∙ yes′
 
     pub size-is : n ≡ length text
-    size-is = let q : Accepted (length text) ≡ Accepted n = again (readCauses text (meaning pool)) (length text) (length text) first ∙ first in cc
+    size-is = let q : Accepted (length text) ≡ Accepted n = again (readCauses text m) (length text) (length text) first ∙ first in cc
 
     pub short : n ≤ 65535
-    short = omega (arith, size-is, read-of text (meaning pool) (length text) n first .short)
+    short = omega (arith, size-is, read-of text m (length text) n first .short)
 
-    pub refused-scratch : {k : ℕ} → k ≡ scratchFor n → cells < k → Refused (ScratchTooShort k) ≡ answer (firstCauses text (meaning pool) cells) (length text)
+    pub refused-scratch : {k : ℕ} → k ≡ scratchFor n → cells < k → Refused (ScratchTooShort k) ≡ answer (firstCauses text m cells) (length text)
     refused-scratch {k} e l =
         let q : k ≡ scratchFor (length text) = omega (arith, size-is) in
         ap (λ (z : ℕ). Refused (ScratchTooShort z)) q
-        ∙ cause-yes (readCauses text (meaning pool)) (scratchCause (length text) cells) (length text) (length text) first (lt-ltb cells (scratchFor (length text)) (omega arith))
+        ∙ cause-yes (readCauses text m) (scratchCause (length text) cells) (length text) (length text) first (lt-ltb cells (scratchFor (length text)) (omega arith))
 
-    pub accepted-early : {k : ℕ} → k ≡ scratchFor n → k ≤ cells → Accepted n ≡ answer (firstCauses text (meaning pool) cells) (length text)
-    accepted-early e l = cause-kept (readCauses text (meaning pool)) (scratchCause (length text) cells) (length text) first (le-ltb cells (scratchFor (length text)) (omega (arith, size-is)))
+    pub accepted-early : {k : ℕ} → k ≡ scratchFor n → k ≤ cells → Accepted n ≡ answer (firstCauses text m cells) (length text)
+    accepted-early e l = cause-kept (readCauses text m) (scratchCause (length text) cells) (length text) first (le-ltb cells (scratchFor (length text)) (omega (arith, size-is)))
 
 -- ---- past them
 

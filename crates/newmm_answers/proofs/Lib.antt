@@ -1,2 +1,4 @@
 pub mod Checks
 pub mod Plain
+pub mod Cuts
+pub mod Told

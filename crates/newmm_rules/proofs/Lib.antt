@@ -15,6 +15,7 @@ pub mod Samples
 pub mod Spaces
 pub mod Parts
 pub mod Modes
+pub mod RunEdges
 pub mod Sheet
 pub mod Shortest
 pub mod Fewer

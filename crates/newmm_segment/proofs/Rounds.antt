@@ -23,20 +23,11 @@ use Rattle.newmm_rules.specs.Modes.{shifted, partEnds, edgesOf, joined, inParts
 use Rattle.newmm_rules.proofs.Climbing.{few, shift, no-ends}
 use Rattle.newmm_rules.proofs.Climbing as climbing
 use Rattle.newmm_rules.proofs.Samples.{Fits, Right, cut-inside}
+use Rattle.newmm_rules.proofs.RunEdges.{edges-two, edges-cons, sample-few}
 use Rattle.newmm_answers.specs.Answers.{plainCut}
 use Rattle.newmm_segment.specs.declared.Part.{Part}
 use Rattle.newmm_segment.specs.inner.Written.{Ready, Written, shiftedCut, firstOf, FirstPart}
-use Rattle.newmm_segment.proofs.Samples.{sample-few}
 use Rattle.newmm_segment.proofs.Behind.{behind}
-
-edges-two : (plain : Cutter) (a b : List (List ℕ)) → edgesOf plain (a ++ b) ≡ edgesOf plain a + edgesOf plain b
-unfolding edgesOf
-edges-two plain [] b = omega arith
-edges-two plain (t ∷ a) b = omega (arith, edges-two plain a b)
-
-edges-cons : (plain : Cutter) (t : List ℕ) (a : List (List ℕ)) → edgesOf plain (t ∷ a) ≡ plain t .edges + edgesOf plain a
-unfolding edgesOf
-edges-cons plain t a = refl
 
 -- ---- the rounds that are left
 

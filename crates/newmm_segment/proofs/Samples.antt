@@ -115,15 +115,6 @@ module _ {rest pool row : List ℕ} (ready : Ready rest pool row) (long : 140 �
         h ∙ ap (λ (x : List ℕ). replicate {A = ℕ} (r .ends) 0 ++ x) (behind w) ∙ ap (λ (k : ℕ). replicate {A = ℕ} k 0 ++ drop (length (plain (sampleOf rest) .ends)) row) (w .ends)
         ∙ blank-front (length (plain (sampleOf rest) .ends)) row (ready .blank) (omega (arith, few (right (sampleOf rest)), sample-long rest long, ready .room))
 
--- a sample has 40 characters at most, and so few edges are recorded in it
-few-for : (plain : Cutter) → ((t : List ℕ) → plain t .edges ≤ 51 * length t) → (sample : List ℕ) → length sample ≤ 40 → (w : Found) → edgesOf plain (sampled sample w) ≤ 2040
-unfolding edgesOf
-few-for plain small sample h (At i) = omega arith
-few-for plain small sample h Nothing = omega (arith, small sample)
-
-pub sample-few : (plain : Cutter) → ((t : List ℕ) → plain t .edges ≤ 51 * length t) → (rest : List ℕ) → edgesOf plain (sampled (sampleOf rest) (lastSpace (sampleOf rest))) ≤ 2040
-sample-few plain small rest = few-for plain small (sampleOf rest) (omega (arith, length-take 40 (drop 100 rest))) (lastSpace (sampleOf rest))
-
 -- ---- the first part
 
 pub by-fits : (by : ℕ) → 1 ≤ by → by ≤ 101 → Fits (λ (i : ℕ). i + by)

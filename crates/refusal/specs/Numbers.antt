@@ -3,6 +3,7 @@ use Prim.Native.Nat.{ℕ}
 use Rattle.refusal.specs.declared.Refusal.{Refusal}
 use Rattle.refusal.specs.declared.Refusal.the-variants.{IllFormed, TooManyScalars, NotAScalar, NotADictionary}
 use Rattle.refusal.specs.declared.Refusal.the-variants.{ScratchTooShort, OutputTooShort, WordTooLong, TooFewNodes}
+use Rattle.refusal.specs.declared.Refusal.the-variants.{WrongPosition}
 
 abbrev pub numberOf : Refusal → ℕ
 numberOf (IllFormed d) = 1
@@ -13,6 +14,7 @@ numberOf (ScratchTooShort d) = 5
 numberOf (OutputTooShort d) = 6
 numberOf (WordTooLong d) = 7
 numberOf (TooFewNodes d) = 8
+numberOf (WrongPosition d) = 10
 
 abbrev pub detailOf : Refusal → ℕ
 detailOf (IllFormed d) = d
@@ -23,3 +25,4 @@ detailOf (ScratchTooShort d) = d
 detailOf (OutputTooShort d) = d
 detailOf (WordTooLong d) = d
 detailOf (TooFewNodes d) = d
+detailOf (WrongPosition d) = d

@@ -23,6 +23,8 @@ pub enum Refusal {
     WordTooLong(usize),
     // 8: the pool has too few free nodes. The nodes missing.
     TooFewNodes(usize),
+    // 10: a position is wrong. The position, or its index where it is one of a list.
+    WrongPosition(usize),
 }
 
 // What an operation answers whose accepted answer is one number.
@@ -44,6 +46,7 @@ pub fn number(r: Refusal) -> u8
         Refusal::OutputTooShort(_) => 6,
         Refusal::WordTooLong(_) => 7,
         Refusal::TooFewNodes(_) => 8,
+        Refusal::WrongPosition(_) => 10,
     }
 }
 
@@ -60,5 +63,6 @@ pub fn detail(r: Refusal) -> usize
         Refusal::OutputTooShort(d) => d,
         Refusal::WordTooLong(d) => d,
         Refusal::TooFewNodes(d) => d,
+        Refusal::WrongPosition(d) => d,
     }
 }

@@ -17,8 +17,10 @@ use test_lines::print_number;
 use test_lines::print_numbers;
 use test_lines::print_refusal;
 use test_lines::read_cells;
+use test_rows::Named;
 use test_rows::expect_leftovers;
 use test_rows::expect_zero;
+use test_rows::mode_of;
 use test_rows::scratch_cells;
 use test_rows::smear;
 use test_words::hold;
@@ -138,25 +140,6 @@ fn lend(line: &[u8], pool: &[u32], text: &mut [u32], out: &mut [u32], scratch: &
         ),
         Named::Nothing => print(b"?"),
     }
-}
-
-// What a line calls its mode.
-enum Named {
-    In(Mode),
-    Nothing,
-}
-
-fn mode_of(name: &[u8]) -> Named {
-    if is(name, b"plain") {
-        return Named::In(Mode::Plain);
-    }
-    if is(name, b"safe") {
-        return Named::In(Mode::Safe);
-    }
-    if is(name, b"sheet") {
-        return Named::In(Mode::Sheet);
-    }
-    Named::Nothing
 }
 
 fn call(text: &[u32], pool: &[u32], out: &mut [u32], scratch: &mut [u32], mode: Mode) {

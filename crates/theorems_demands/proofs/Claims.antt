@@ -32,7 +32,8 @@ use Rattle.newmm_rules.proofs.Claims.{right-token, token-right, tokens-of, of-t
 use Rattle.newmm_answers.specs.Answers.{given, plainCut, cutOf, scratchFor, firstCauses, cutCauses, accepts}
 use Rattle.newmm_claim.specs.Answers.{verdictTold, claimTold, claimAnswer}
 use Rattle.theorems_demands.specs.Claims.{RightExactly, Breaks, short, here, behind, WrongExactly, OursPass, AnswersPass, NotOurs, SameWordsSameVerdict, ReachedSameVerdict}
-use Rattle.theorems_demands.proofs.Demand3.{all-pass, told-ends}
+use Rattle.newmm_answers.proofs.Told.{told-ends}
+use Rattle.theorems_demands.proofs.Demand3.{all-pass}
 use Rattle.theorems_demands.proofs.Ends.{plain-tokens, told}
 use Rattle.theorems_demands.proofs.Reaching.{means}
 

@@ -15,23 +15,15 @@ use Rattle.refusal.specs.declared.Answer.the-variants.{Accepted, Refused}
 use Rattle.refusal.specs.Answers.{Cause, answer, output}
 use Rattle.trie_pool.specs.Meaning.{Words, meaning}
 use Rattle.trie_check.specs.Refusals.{held}
-use Rattle.refusal.proofs.Causes.{None, none-of, again}
+use Rattle.refusal.proofs.Causes.{None, none-of}
 use Rattle.newmm_rules.specs.declared.Mode.{Mode}
 use Rattle.newmm_answers.specs.declared.CutAnswer.{CutAnswer}
 use Rattle.newmm_answers.specs.declared.CutAnswer.the-variants.{Ends}
 use Rattle.newmm_answers.specs.Answers.{cutOf, cutCauses, accepts, told, cutAnswer, outAfter}
 use Rattle.newmm_answers.specs.Calls.{Call, answerOf, outOf}
+use Rattle.newmm_answers.proofs.Told.{told-ends, accepted-is}
 use Rattle.theorems_demands.specs.Demand3.{Demand3Any, Demand3}
 use Rattle.theorems_demands.proofs.Reaching.{means}
-
--- an answer with ends is an accepted one
-pub told-ends : (x : Answer) (k n e : ℕ) → told x k ≡ Ends n e → (x ≡ Accepted n) × (k ≡ e)
-told-ends (Accepted m) k n e h = (let q : m ≡ n = cc in ap Accepted q, cc)
-told-ends (Refused r) k n e h = absurd (let z : _≡_ {A = ℕ} 0 1 = cc in omega arith)
-
--- the number that a call is accepted with is the one that it is asked for
-pub accepted-is : (rs : List Cause) (n k : ℕ) → answer rs n ≡ Accepted k → n ≡ k
-accepted-is rs n k h = let q : Accepted n ≡ Accepted k = again rs n n h ∙ h in cc
 
 pub all-pass : (rs : List Cause) (n : ℕ) → None rs → answer rs n ≡ Accepted n
 all-pass [] n t = refl

@@ -23,34 +23,31 @@ use Rattle.newmm_rules.specs.inner.Climbing.{Climbs}
 use Rattle.newmm_rules.specs.declared.Mode.{Mode}
 use Rattle.newmm_rules.specs.declared.Mode.the-variants.{Plain}
 use Rattle.newmm_rules.proofs.Positions.{in-those, in-up}
-use Rattle.newmm_rules.proofs.Climbing.{rises, last-is, no-ends, few}
-use Rattle.newmm_rules.proofs.Modes.{modes-climb}
+use Rattle.newmm_rules.proofs.Climbing.{rises, last-is, no-ends}
 use Rattle.newmm_answers.specs.declared.CutAnswer.the-variants.{Ends}
-use Rattle.newmm_answers.specs.Answers.{given, plainCut, cutOf, cutCauses, accepts, outAfter}
+use Rattle.newmm_answers.specs.Answers.{given, cutOf, cutCauses, accepts, outAfter}
 use Rattle.newmm_answers.specs.Calls.{Call, answerOf, outOf}
-use Rattle.newmm_answers.proofs.Plain.{plain-right}
+use Rattle.newmm_answers.proofs.Cuts.{cut-climbs}
+use Rattle.newmm_answers.proofs.Cuts as cuts
+use Rattle.newmm_answers.proofs.Told.{told-ends, accepted-is}
 use Rattle.newmm_answers.proofs.Plain as plain
 use Rattle.theorems_demands.specs.Ends.{EndsRise, LastEnd, NoneForEmpty, FewEnds, PlainTokens, EveryWord, Wrote, EndsWrote}
 use Rattle.theorems_demands.proofs.Reaching.{each-word}
-use Rattle.theorems_demands.proofs.Demand3.{told-ends, accepted-is, front-is}
+use Rattle.theorems_demands.proofs.Demand3.{front-is}
 
 -- ---- every mode
 
-climb : (mode : Mode) (words : Words) (text : List ℕ) → Climbs 0 (cutOf mode words text .ends) (length text)
-unfolding cutOf
-climb mode words text = modes-climb (plainCut words) (plain-right words) text mode
-
 pub ends-rise : EndsRise
-ends-rise mode words text = rises (climb mode words text)
+ends-rise mode words text = rises (cut-climbs mode words text)
 
 pub last-end : LastEnd
-last-end mode words text h = last-is (climb mode words text) h
+last-end mode words text h = last-is (cut-climbs mode words text) h
 
 pub none-for-empty : NoneForEmpty
-none-for-empty mode words text h = no-ends (climb mode words text) h
+none-for-empty mode words text h = no-ends (cut-climbs mode words text) h
 
 pub few-ends : FewEnds
-few-ends mode words text = omega (arith, few (climb mode words text))
+few-ends mode words text = cuts.few-ends mode words text
 
 -- ---- plain mode
 

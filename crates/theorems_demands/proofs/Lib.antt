@@ -12,3 +12,6 @@ pub mod FewestWords
 pub mod Fails
 pub mod Sheet
 pub mod Claims
+pub mod ManyTurns
+pub mod ManyTexts
+pub mod ManyAlone

@@ -18,6 +18,7 @@ use Rattle.trie_char.specs.Refusals.{prefixCauses, removeCauses, addCauses, fre
 use Rattle.newmm_rules.specs.declared.Mode.{Mode}
 use Rattle.newmm_answers.specs.Answers.{cutCauses}
 use Rattle.newmm_claim.specs.Answers.{claimCauses}
+use Rattle.newmm_many_answers.specs.Calls.{manyCauses}
 
 -- Decoding: 1, 2, 6.
 pub decode-order : (bytes : List ℕ) (room : ℕ) → numbers (decodeCauses bytes room) ≡ 1 ∷ 2 ∷ 6 ∷ []
@@ -40,6 +41,10 @@ cut-order mode text pool cells room = refl
 pub claim-order : (text pool : List ℕ) (cells : ℕ) → numbers (claimCauses text (meaning pool) cells) ≡ 2 ∷ 3 ∷ 4 ∷ 5 ∷ []
 claim-order text pool cells = refl
 
+-- Many texts, the whole call: 10, 6. Each text has the order of cutting.
+pub many-order : (size : ℕ) (ends : List ℕ) (room : ℕ) → numbers (manyCauses size ends room) ≡ 10 ∷ 6 ∷ []
+many-order size ends room = refl
+
 -- Add: 2, 3, 4, 7, 8.
 pub add-order : (word pool : List ℕ) → numbers (addCauses word pool) ≡ 2 ∷ 3 ∷ 4 ∷ 7 ∷ 8 ∷ []
 add-order word pool = refl
@@ -60,7 +65,7 @@ count-order pool = refl
 pub fresh-order : (pool : List ℕ) → numbers (freshCauses pool) ≡ 8 ∷ []
 fresh-order pool = refl
 
--- ---- Each of these lists rises, so the refusal that is given has the lowest number that applies
+-- ---- Each of these lists but that of many texts rises, so the refusal that is given has the lowest number that applies
 -- (crates/refusal/proofs/Firsts.antt: lowest).
 
 pub decode-rises : Rising (1 ∷ 2 ∷ 6 ∷ [])

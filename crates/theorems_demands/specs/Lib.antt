@@ -8,3 +8,4 @@ pub mod LongTexts
 pub mod FewestWords
 pub mod Sheet
 pub mod Claims
+pub mod ManyTexts

@@ -26,6 +26,12 @@ use Rattle.fetlockice.proofs.fetlockice_cut_sheet.Kinds as cut-sheet-kinds
 use Rattle.fetlockice.proofs.fetlockice_cut_sheet.Reads as cut-sheet-contract
 use Rattle.fetlockice.proofs.fetlockice_check_claim.Kinds as check-claim-kinds
 use Rattle.fetlockice.proofs.fetlockice_check_claim.Reads as check-claim-contract
+use Rattle.fetlockice.proofs.fetlockice_cut_many_plain.Kinds as many-plain-kinds
+use Rattle.fetlockice.proofs.fetlockice_cut_many_plain.Reads as many-plain-contract
+use Rattle.fetlockice.proofs.fetlockice_cut_many_safe.Kinds as many-safe-kinds
+use Rattle.fetlockice.proofs.fetlockice_cut_many_safe.Reads as many-safe-contract
+use Rattle.fetlockice.proofs.fetlockice_cut_many_sheet.Kinds as many-sheet-kinds
+use Rattle.fetlockice.proofs.fetlockice_cut_many_sheet.Reads as many-sheet-contract
 use Rattle.trie_pool.specs.Meaning.{noWord}
 use Rattle.trie_char.proofs.One.{one-after}
 use Rattle.trie_char.specs.Answers.{freshAnswer, addAnswer, removeAnswer, added, removed}
@@ -93,3 +99,21 @@ pub check-claim-one :
     OneAnswer {A = ToldClaim × List ℕ} 7 check-claim-kinds.ps check-claim-kinds.r check-claim-contract.Post
     (λ κs number s. let scratch = s .1 .1 .1 .0 .now in let right = s .1 .1 .1 .1 .0 .now in let token = s .1 .1 .1 .1 .1 .0 .now in let detail = s .1 .1 .1 .1 .1 .1 .0 .now in (toldClaim number right token detail, scratch))
 check-claim-one κs a x y s t p q = both (answer (p .0) (q .0)) (answer (p .1) (q .1))
+
+pub cut-many-plain-one :
+    OneAnswer {A = (Told × List ℕ × List ℕ) × List ℕ} 8 many-plain-kinds.ps many-plain-kinds.r many-plain-contract.Post
+    (λ κs number s. let answers = s .1 .1 .1 .0 .now in let out = s .1 .1 .1 .1 .0 .now in let scratch = s .1 .1 .1 .1 .1 .0 .now in let count = s .1 .1 .1 .1 .1 .1 .0 .now in let detail = s .1 .1 .1 .1 .1 .1 .1 .0 .now in ((told number count detail, answers, out), scratch))
+cut-many-plain-one κs a x y s t p q =
+    both (answer-and-two-rows (p .0) (p .1 .0) (p .1 .1 .0) (q .0) (q .1 .0) (q .1 .1 .0)) (answer (p .1 .1 .1) (q .1 .1 .1))
+
+pub cut-many-safe-one :
+    OneAnswer {A = (Told × List ℕ × List ℕ) × List ℕ} 8 many-safe-kinds.ps many-safe-kinds.r many-safe-contract.Post
+    (λ κs number s. let answers = s .1 .1 .1 .0 .now in let out = s .1 .1 .1 .1 .0 .now in let scratch = s .1 .1 .1 .1 .1 .0 .now in let count = s .1 .1 .1 .1 .1 .1 .0 .now in let detail = s .1 .1 .1 .1 .1 .1 .1 .0 .now in ((told number count detail, answers, out), scratch))
+cut-many-safe-one κs a x y s t p q =
+    both (answer-and-two-rows (p .0) (p .1 .0) (p .1 .1 .0) (q .0) (q .1 .0) (q .1 .1 .0)) (answer (p .1 .1 .1) (q .1 .1 .1))
+
+pub cut-many-sheet-one :
+    OneAnswer {A = (Told × List ℕ × List ℕ) × List ℕ} 8 many-sheet-kinds.ps many-sheet-kinds.r many-sheet-contract.Post
+    (λ κs number s. let answers = s .1 .1 .1 .0 .now in let out = s .1 .1 .1 .1 .0 .now in let scratch = s .1 .1 .1 .1 .1 .0 .now in let count = s .1 .1 .1 .1 .1 .1 .0 .now in let detail = s .1 .1 .1 .1 .1 .1 .1 .0 .now in ((told number count detail, answers, out), scratch))
+cut-many-sheet-one κs a x y s t p q =
+    both (answer-and-two-rows (p .0) (p .1 .0) (p .1 .1 .0) (q .0) (q .1 .0) (q .1 .1 .0)) (answer (p .1 .1 .1) (q .1 .1 .1))

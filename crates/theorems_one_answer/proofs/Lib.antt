@@ -9,3 +9,4 @@ pub mod Claims
 pub mod Hosts
 pub mod Views
 pub mod Sheets
+pub mod Many

@@ -1,3 +1,4 @@
 pub mod OneAnswer
 pub mod Runs
 pub mod ClaimRuns
+pub mod ManyRuns

@@ -1,4 +1,8 @@
-use crate::{error::Error, ffi, scalars, Dictionary};
+use crate::{
+    error::{accepted, Error},
+    ffi, scalars, Dictionary,
+};
+use std::mem;
 
 /// How a text is cut.
 #[derive(Clone, Copy, Debug, PartialEq, Eq, Hash)]
@@ -39,6 +43,30 @@ pub enum Verdict {
     Wrong(usize),
 }
 
+/// The characters of texts that are joined for one call, unless a single text has more.
+const JOINED: usize = 1 << 22;
+
+/// The cells of a text's answer: number, count, edges, detail.
+const ANSWER_CELLS: usize = 4;
+
+/// Texts that wait to be cut in one call.
+#[derive(Default)]
+struct Joined<'t> {
+    lines: Vec<&'t str>,
+    cells: Vec<u32>,
+    ends: Vec<u32>,
+    longest: usize,
+}
+
+impl<'t> Joined<'t> {
+    fn push(&mut self, line: &'t str, cells: &[u32]) {
+        self.lines.push(line);
+        self.cells.extend(cells);
+        self.ends.push(self.cells.len() as u32);
+        self.longest = self.longest.max(cells.len());
+    }
+}
+
 /// Cuts texts, with scratch of its own that serves again.
 #[derive(Clone, Debug, Default)]
 pub struct Cutter {
@@ -58,6 +86,63 @@ impl Cutter {
         let scratch = scratch_for(&mut self.scratch, cells.len());
         let (count, edges) = ffi::cut(mode, &cells, dictionary.pool(), &mut self.ends, scratch)?;
         Ok(Cut { tokens: tokens(text, &self.ends[..count]), edges })
+    }
+
+    /// Cuts many texts by the words of a dictionary: for each what [`Cutter::cut`] gives. The dictionary is checked once for
+    /// many texts together, and not for each, so this is the call for short texts.
+    pub fn cut_lines<'t>(
+        &mut self,
+        dictionary: &Dictionary,
+        lines: impl IntoIterator<Item = &'t str>,
+        mode: Mode,
+    ) -> Vec<Result<Cut<'t>, Error>> {
+        let (mut cuts, mut joined) = (Vec::new(), Joined::default());
+        for line in lines {
+            match scalars(line) {
+                Ok(cells) => {
+                    if joined.cells.len() + cells.len() > JOINED {
+                        self.cut_joined(dictionary, mem::take(&mut joined), mode, &mut cuts);
+                    }
+                    joined.push(line, &cells);
+                }
+                Err(refused) => {
+                    self.cut_joined(dictionary, mem::take(&mut joined), mode, &mut cuts);
+                    cuts.push(Err(refused));
+                }
+            }
+        }
+        self.cut_joined(dictionary, joined, mode, &mut cuts);
+        cuts
+    }
+
+    fn cut_joined<'t>(
+        &mut self,
+        dictionary: &Dictionary,
+        joined: Joined<'t>,
+        mode: Mode,
+        cuts: &mut Vec<Result<Cut<'t>, Error>>,
+    ) {
+        if joined.lines.is_empty() {
+            return;
+        }
+        self.ends.resize(self.ends.len().max(joined.cells.len()), 0);
+        let mut answers = vec![0; ANSWER_CELLS * joined.lines.len()];
+        let rows = ffi::Texts {
+            texts: &joined.cells,
+            text_ends: &joined.ends,
+            pool: dictionary.pool(),
+            answers: &mut answers,
+            out: &mut self.ends,
+            scratch: scratch_for(&mut self.scratch, joined.longest),
+        };
+        ffi::cut_many(mode, rows).expect("rows that suffice");
+        let mut used = 0;
+        for (line, told) in joined.lines.iter().zip(answers.chunks_exact(ANSWER_CELLS)) {
+            let (count, edges) = (told[1] as usize, told[2] as usize);
+            let ends = &self.ends[used..used + count];
+            cuts.push(accepted(told[0], told[3] as usize, ()).map(|()| Cut { tokens: tokens(line, ends), edges }));
+            used += count;
+        }
     }
 
     /// Checks ends, in characters, that another program gives for the plain cut of a text. Ours are right; others may

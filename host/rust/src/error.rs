@@ -20,6 +20,8 @@ pub enum Error {
     WordTooLong(usize),
     /// 8: the dictionary would pass 1,048,576 nodes. The nodes missing.
     TooFewNodes(usize),
+    /// 10: a position is wrong. Its index where it is one of a list. The positions of this crate never are.
+    WrongPosition(usize),
 }
 
 impl Error {
@@ -34,6 +36,7 @@ impl Error {
             Error::OutputTooShort(_) => 6,
             Error::WordTooLong(_) => 7,
             Error::TooFewNodes(_) => 8,
+            Error::WrongPosition(_) => 10,
         }
     }
 }
@@ -49,6 +52,7 @@ impl fmt::Display for Error {
             Error::OutputTooShort(n) => write!(f, "the output needs {n} cells"),
             Error::WordTooLong(n) => write!(f, "a word of {n} characters is longer than 255"),
             Error::TooFewNodes(n) => write!(f, "the dictionary has {n} nodes too few"),
+            Error::WrongPosition(n) => write!(f, "the position at {n} is wrong"),
         }
     }
 }
@@ -67,6 +71,7 @@ pub(crate) fn accepted<T>(number: u32, detail: usize, answer: T) -> Result<T, Er
         6 => Error::OutputTooShort(detail),
         7 => Error::WordTooLong(detail),
         8 => Error::TooFewNodes(detail),
+        10 => Error::WrongPosition(detail),
         other => unreachable!("the library has no refusal {other}"),
     })
 }

@@ -7,6 +7,11 @@
 //! let cut = Cutter::new().cut(&words, "กขคง", Mode::Safe)?;
 //! let tokens: Vec<&str> = cut.tokens.iter().map(|token| token.text).collect();
 //! assert_eq!(tokens, ["กข", "คง"]);
+//!
+//! // many short texts: the dictionary is checked once for all of them
+//! let cuts = Cutter::new().cut_lines(&words, ["กขคง", "", "งกข"], Mode::Safe);
+//! let counts: Vec<usize> = cuts.iter().map(|cut| cut.as_ref().map_or(0, |cut| cut.tokens.len())).collect();
+//! assert_eq!(counts, [2, 0, 2]);
 //! # Ok::<(), fetlockice::Error>(())
 //! ```
 mod cutter;

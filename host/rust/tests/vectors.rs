@@ -1,7 +1,7 @@
 //! The answers of this crate against those that the test programs of crates/ are held to: an independent model's and the
 //! Rust's. Lines that a `str`, a growing pool or rows of one's own can't bring about are left out.
-use fetlockice::{clusters, decode, Cutter, Dictionary, Error, Mode, Verdict};
-use std::fs;
+use fetlockice::{clusters, decode, Cut, Cutter, Dictionary, Error, Mode, Verdict};
+use std::{collections::BTreeMap, fs};
 
 /// The lines of a test program with that operation, in fields, each with its answer.
 fn lines(program: &str, operation: &str) -> Vec<(Vec<String>, String)> {
@@ -160,28 +160,61 @@ fn dictionaries() {
     });
 }
 
+fn mode(field: &str) -> Mode {
+    match field {
+        "plain" => Mode::Plain,
+        "safe" => Mode::Safe,
+        "sheet" => Mode::Sheet,
+        other => panic!("no mode {other}"),
+    }
+}
+
+/// The ends and the edges of a text's cut, whose tokens are the text.
+fn told_cut(text: &str, cut: Result<Cut, Error>) -> String {
+    told(cut, |cut| {
+        assert_eq!(cut.tokens.iter().map(|token| token.text).collect::<String>(), text);
+        for token in &cut.tokens {
+            let front = &text[..token.byte_end];
+            assert!(front.ends_with(token.text) && front.chars().count() == token.end);
+        }
+        let ends: Vec<usize> = cut.tokens.iter().map(|token| token.end).collect();
+        format!("{} {}", row(&ends, ","), cut.edges)
+    })
+}
+
 #[test]
 fn cuts() {
     let mut cutter = Cutter::new();
     hold(lines("test_cut", "cut"), 3000, |line| {
         roomy(&line[4]).and(roomy(&line[5]))?;
         let (words, text) = (words(&line[2])?, text(&line[3])?);
-        let mode = match line[1].as_str() {
-            "plain" => Mode::Plain,
-            "safe" => Mode::Safe,
-            "sheet" => Mode::Sheet,
-            other => panic!("no mode {other}"),
-        };
-        Some(told(cutter.cut(&words, &text, mode), |cut| {
-            assert_eq!(cut.tokens.iter().map(|token| token.text).collect::<String>(), text);
-            for token in &cut.tokens {
-                let front = &text[..token.byte_end];
-                assert!(front.ends_with(token.text) && front.chars().count() == token.end);
-            }
-            let ends: Vec<usize> = cut.tokens.iter().map(|token| token.end).collect();
-            format!("{} {}", row(&ends, ","), cut.edges)
-        }))
+        Some(told_cut(&text, cutter.cut(&words, &text, mode(&line[1]))))
     });
+}
+
+/// The texts of all lines with the same words in one call, a text that is too long and an empty one among them.
+#[test]
+fn cuts_of_many_lines() {
+    let mut groups: BTreeMap<(String, String), Vec<(String, String)>> = BTreeMap::new();
+    for (line, expected) in lines("test_cut", "cut") {
+        if let (Some(()), Some(()), Some(text)) = (roomy(&line[4]), roomy(&line[5]), text(&line[3])) {
+            groups.entry((line[1].clone(), line[2].clone())).or_default().push((text, expected));
+        }
+    }
+    let (mut cutter, long, mut held) = (Cutter::new(), "ก".repeat(65_536), 0);
+    for ((how, field), mut texts) in groups {
+        let Some(words) = words(&field) else { continue };
+        texts.insert(texts.len() / 2, (long.clone(), "! 2 65536".into()));
+        texts.push((String::new(), "ok - 0".into()));
+        let cuts = cutter.cut_lines(&words, texts.iter().map(|(text, _)| text.as_str()), mode(&how));
+        assert_eq!(cuts.len(), texts.len());
+        for ((text, expected), cut) in texts.iter().zip(cuts) {
+            assert_eq!(&told_cut(text, cut), expected, "{how} {field}");
+            held += 1;
+        }
+    }
+    assert!(held >= 3000, "{held} texts");
+    assert!(cutter.cut_lines(&Dictionary::new(), [], Mode::Plain).is_empty());
 }
 
 fn verdict(found: Verdict) -> String {

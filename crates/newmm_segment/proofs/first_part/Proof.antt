@@ -8,7 +8,8 @@ use Rattle.trie_pool.specs.Words.{holds}
 use Rattle.newmm_answers.specs.Answers.{plainCut}
 use Rattle.newmm_answers.proofs.Plain.{plain-right, plain-edges}
 use Rattle.newmm_segment.specs.inner.Written.{Ready}
-use Rattle.newmm_segment.proofs.Samples.{sample-few, part-inside, part-ready, part-size, first-is}
+use Rattle.newmm_rules.proofs.RunEdges.{sample-few}
+use Rattle.newmm_segment.proofs.Samples.{part-inside, part-ready, part-size, first-is}
 use borrow.Author.Needs.{needs}
 use Rattle.newmm_segment.proofs.first_part.Statement.{statement}
 use Rattle.newmm_segment.proofs.first_part.Tie as tie

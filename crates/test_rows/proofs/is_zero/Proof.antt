@@ -3,14 +3,16 @@ use Prim.Native.Nat.{_-_}
 use mathlib.Core.Path.{_≡_, refl}
 use lib.ListN.{length}
 use borrow.Author.Needs.{needs}
-use Rattle.test_rows.proofs.expect_zero.Statement.{statement}
-use Rattle.test_rows.proofs.expect_zero.Tie as tie
+use Rattle.test_rows.proofs.is_zero.Statement.{statement}
+use Rattle.test_rows.proofs.is_zero.Tie as tie
+use Rattle.test_rows.proofs.is_zero.Reads as reads
+use Rattle.test_rows.proofs.is_zero.Lts as lts
 
 abbrev Inv-loop : tie.InvT-loop
-Inv-loop row k₀ t3 k = k ≡ k
+Inv-loop row k₀ k = k ≡ k
 
 abbrev μ-loop : tie.MeasureT-loop
-μ-loop row k₀ t3 k = length row - k
+μ-loop row k₀ k = length row - k
 
 loop-holds : tie.Need-loop-holds Inv-loop μ-loop
 loop-holds c = refl
@@ -20,12 +22,6 @@ mul-if1 c = search needs
 
 shared-slice-read-if1 : tie.Need-shared-slice-read-if1 Inv-loop μ-loop
 shared-slice-read-if1 c = search needs
-
-slice-aggregate-print : tie.Need-slice-aggregate-print Inv-loop μ-loop
-slice-aggregate-print c = search needs
-
-print-requires : tie.Need-print-requires Inv-loop μ-loop
-print-requires c κs = search needs
 
 returns : tie.Need-returns Inv-loop μ-loop
 returns c = search needs
@@ -42,8 +38,8 @@ loop-again c = refl
 returns-2 : tie.Need-returns-2 Inv-loop μ-loop
 returns-2 c = search needs
 
-pub expect-zero-spec : {M : Type 1} → statement M
-expect-zero-spec =
+pub is-zero-spec : {M : Type 1} → statement M
+is-zero-spec =
     tie.close
     (tie.spec
     Inv-loop
@@ -51,8 +47,6 @@ expect-zero-spec =
     loop-holds
     mul-if1
     shared-slice-read-if1
-    slice-aggregate-print
-    print-requires
     returns
     add-k
     loop-less

@@ -3,14 +3,17 @@ use Prim.Native.Nat.{_-_}
 use mathlib.Core.Path.{_≡_, refl}
 use lib.ListN.{length}
 use borrow.Author.Needs.{needs}
-use Rattle.test_rows.proofs.expect_leftovers.Statement.{statement}
-use Rattle.test_rows.proofs.expect_leftovers.Tie as tie
+use Rattle.test_rows.proofs.is_left.Statement.{statement}
+use Rattle.test_rows.proofs.is_left.Tie as tie
+use Rattle.test_rows.proofs.is_left.Reads as reads
+use Rattle.test_rows.proofs.is_left.Lts as lts
+use Rattle.test_rows.proofs.leftover.Reads as leftover-reads
 
 abbrev Inv-loop : tie.InvT-loop
-Inv-loop row start k₀ t4 k = k ≡ k
+Inv-loop row start k₀ k = k ≡ k
 
 abbrev μ-loop : tie.MeasureT-loop
-μ-loop row start k₀ t4 k = length row - k
+μ-loop row start k₀ k = length row - k
 
 loop-holds : tie.Need-loop-holds Inv-loop μ-loop
 loop-holds c = refl
@@ -23,12 +26,6 @@ shared-slice-read-if1 c = search needs
 
 leftover-requires : tie.Need-leftover-requires Inv-loop μ-loop
 leftover-requires c κs = search needs
-
-slice-aggregate-print : tie.Need-slice-aggregate-print Inv-loop μ-loop
-slice-aggregate-print c = search needs
-
-print-requires : tie.Need-print-requires Inv-loop μ-loop
-print-requires c κs = search needs
 
 returns : tie.Need-returns Inv-loop μ-loop
 returns c = search needs
@@ -45,8 +42,8 @@ loop-again c = refl
 returns-2 : tie.Need-returns-2 Inv-loop μ-loop
 returns-2 c = search needs
 
-pub expect-leftovers-spec : {M : Type 1} → statement M
-expect-leftovers-spec =
+pub is-left-spec : {M : Type 1} → statement M
+is-left-spec =
     tie.close
     (tie.spec
     Inv-loop
@@ -55,8 +52,6 @@ expect-leftovers-spec =
     mul-if1
     shared-slice-read-if1
     leftover-requires
-    slice-aggregate-print
-    print-requires
     returns
     add-k
     loop-less

@@ -1,0 +1,5 @@
+pub mod TextEnds
+pub mod Answered
+pub mod Small
+pub mod Putting
+pub mod Turns

@@ -1,0 +1,4 @@
+pub mod Texts
+pub mod Turns
+pub mod Calls
+pub mod inner
