@@ -14,7 +14,8 @@ import re
 import fewest
 import vectors
 from make_tcc import clusters, parsed, read, tables
-from make_trie_char import cells_of, pools
+from pools import pools
+from trie_model import cells_of
 
 LONGEST, ANY = 65535, 0xFFFFFFFF
 
@@ -189,16 +190,16 @@ def long_claims(rules):
 
 def bad_calls():
     """Texts that are too long or hold a cell that is no scalar, pools that pass and that don't, and too little scratch."""
-    a, good, empty = 0x61, cells_of({(0x61,)}, 16), []
+    a, good, empty = 0x61, cells_of({(0x61,): 0}, 16), []
     texts = [[a] * (LONGEST + 1), [a] * LONGEST + [0xD800], [0xD800], [a, 0xDFFF, 0x110000], [a, a, 0x110000], [ANY], [a, 0xD7FF, 0xE000, 0x10FFFF]]
     for text in texts:
         for pool in good, empty:
             for claim in [], [1], [len(text)], [0] * 5:
                 told = refusal(text, pool == good, "0")
                 yield ["claim_pool", vectors.cells(pool), vectors.cells(text), vectors.cells(claim), "0"], told
-    for text, _ in pools():
+    for text, told in pools():
         cells = text.split("\t")[1]
-        if _.startswith("!"):
+        if told.startswith("!"):
             for claim, scratch in ("-", "*"), ("1.2", "0"):
                 yield ["claim_pool", cells, "E01.E02", claim, scratch], "! 4 0"
 

@@ -3,27 +3,20 @@
     python3 tests/make_cut.py
 
 The independent model's lines for cut are taken, those in the three modes too, and from them lines with too little scratch,
-too little output, a bad text or a bad pool. What those refuse with, document 01 says: the conditions in their order, each
-with its detail. tests/fewest.py has more texts, each told stretch by stretch. The Rust's lines stand behind them, and those
-in the profile "sheet", whose parts the Rust has cut.
+too little output, a bad text or a bad pool, and lines with other classes, whose answers are the same. What those refuse
+with, document 01 says: the conditions in their order, each with its detail. tests/fewest.py has more texts, each told
+stretch by stretch. The Rust's lines stand behind them, and those in the profile "sheet", whose parts the Rust has cut.
 """
+import classes
 import fewest
 import vectors
-from make_trie_char import cells_of, pools
+from pools import pools
+from trie_model import cells_of
 
 LONGEST = 65535
 
 # Lines with fewer bytes of words and text are lent other rows too.
 SHORT = 150
-
-
-def scalars(field):
-    """The cells of a field."""
-    row = []
-    for part in field.split(".") if field != "-" else []:
-        cell, _, times = part.partition("*")
-        row += [int(cell, 16)] * int(times or 1)
-    return row
 
 
 def refusal(text, passes, scratch, out, ends):
@@ -45,7 +38,7 @@ def refusal(text, passes, scratch, out, ends):
 def lent_rows(fields, expected):
     """An accepted line with scratch and output one cell short, just right and one cell longer."""
     _, mode, words, text, _, _ = fields
-    row, ends = scalars(text), [] if expected.split()[1] == "-" else expected.split()[1].split(",")
+    row, ends = vectors.parsed_cells(text), [] if expected.split()[1] == "-" else expected.split()[1].split(",")
     need = 9 * len(row) + 128
     for scratch in need - 1, need, need + 1:
         for out in len(ends) - 1, len(ends), len(ends) + 1:
@@ -56,7 +49,7 @@ def lent_rows(fields, expected):
 
 def bad_calls():
     """Texts that are too long or hold a cell that is no scalar, with pools that pass and that don't, and rows of no cells."""
-    a, good, empty = 0x61, cells_of({(0x61,)}, 16), []
+    a, good, empty = 0x61, cells_of({(0x61,): 0}, 16), []
     texts = [[a] * (LONGEST + 1), [a] * LONGEST + [0xD800], [0xD800], [a, 0xDFFF, 0x110000], [a, a, 0x110000], [0xFFFFFFFF], [a, 0xD7FF, 0xE000, 0x10FFFF]]
     for mode in "plain", "safe", "sheet":
         for text in texts:
@@ -74,15 +67,21 @@ def pool_calls():
                 yield ["cut_pool", mode, cells, "E01.E02", scratch, out], "! 4 0"
 
 
+def short(found):
+    """The short lines that are accepted."""
+    return [line for line in found if line[1].startswith("ok") and len(line[0][2] + line[0][3]) < SHORT]
+
+
 def other_rows(found, every):
-    """Other rows lent to the short lines that are accepted, to one in so many of them."""
-    accepted = [line for line in found if line[1].startswith("ok") and len(line[0][2] + line[0][3]) < SHORT]
-    return [line for fields, expected in accepted[::every] for line in lent_rows(fields, expected)]
+    """Other rows lent to one in so many of the short lines."""
+    return [line for fields, expected in short(found)[::every] for line in lent_rows(fields, expected)]
 
 
 def main():
     model, modes = vectors.model("cut"), vectors.read("cuts.txt", ["cut"])
-    lines = model + other_rows(model, 6) + modes + other_rows([line for line in modes if line[0][1] == "sheet"], 3)
+    sheet = [line for line in modes if line[0][1] == "sheet"]
+    lines = model + other_rows(model, 6) + modes + other_rows(sheet, 3)
+    lines += list(classes.cuts(short(model)[3::6] + short(sheet)[1::3]))
     lines += fewest.lines() + list(bad_calls()) + list(pool_calls())
     vectors.write("test_cut", lines + vectors.rust("cut") + vectors.read("sheet.txt", ["cut"]))
 

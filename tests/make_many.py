@@ -10,8 +10,8 @@ import random
 from collections import defaultdict
 
 import vectors
-from make_cut import LONGEST, refusal, scalars
-from make_trie_char import cells_of
+from make_cut import LONGEST, refusal
+from trie_model import cells_of
 
 # Texts that no line has: none for an empty text, and refusals 2 and 3. A refused text has no ends.
 STRANGERS = [((), ([], 0)), ((0x61, 0xD800, 0x110000), ([], 0)), ((0xFFFFFFFF,), ([], 0))]
@@ -27,7 +27,7 @@ def known():
         told = expected.split()
         if told[0] == "ok":
             ends = [] if told[1] == "-" else [int(end) for end in told[1].split(",")]
-            groups[fields[1], fields[2]][tuple(scalars(fields[3]))] = ends, int(told[2])
+            groups[fields[1], fields[2]][tuple(vectors.parsed_cells(fields[3]))] = ends, int(told[2])
     return {key: sorted(texts.items()) for key, texts in sorted(groups.items())}
 
 
@@ -126,7 +126,7 @@ def wrong_ends(rng):
 
 def bad_pools():
     """A pool that is no dictionary is told to each text that is one, and scratch and output are not looked at."""
-    good = cells_of(set(), 16)
+    good = cells_of({}, 16)
     for mode in "plain", "safe", "sheet":
         one, two = [text for text in known()[mode, "-"] if text[1][0]][:2]
         many = (0x61,) * (LONGEST + 1), ([], 0)

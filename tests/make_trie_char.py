@@ -4,120 +4,18 @@
 
 The independent model's lines for dict and prefix are taken, and the Rust's stand behind all others.
 
-The other lines are made here, from a model of document 01 and docs/POOL.md: a pool is a set of words, and its cells
-are written down level by level. A step of a script that only these lines have: c, all cells of the pool. A line `pool`
-gives the cells themselves: ok with the number of words, or refusal 4.
+The other lines are made here, with trie_model's answers: a pool is its words with their classes, and its cells are
+written down level by level. classes.py has more scripts, and pools.py cells that break a rule. A step of a script that
+only these lines have: c, all cells of the pool. A line `pool` gives the cells themselves: ok with the number of words,
+or refusal 4.
 """
 import itertools
 import random
 
+import classes
 import vectors
-
-TRIMMED = set(map(ord, vectors.WHITE_SPACE))
-NEVER = list(map(ord, vectors.NEVER_TRIMMED))
-MAX_NODES = 1048576
-JUNK = 0xFFFFFFFF
-A, B, C = 0xE01, 0xE02, 0xE04
-
-
-def trim(word):
-    word = list(word)
-    while word and word[0] in TRIMMED:
-        word.pop(0)
-    while word and word[-1] in TRIMMED:
-        word.pop()
-    return tuple(word)
-
-
-def is_scalar(x):
-    return x < 0xD800 or 0xE000 <= x <= 0x10FFFF
-
-
-def prefixes(words):
-    return {w[:k] for w in words for k in range(1, len(w) + 1)}
-
-
-def cells_of(words, length):
-    children = {}
-    for p in prefixes(words):
-        children.setdefault(p[:-1], []).append(p)
-    order = [()]
-    for node in order:
-        order += sorted(children.get(node, []))
-    cells, first = [], 1
-    for i, node in enumerate(order):
-        count = len(children.get(node, []))
-        if i == 0:
-            cells += [0, 1, count, 0, len(order), 0, 0, 0]
-        else:
-            cells += [node[-1], first, count, int(node in words), 0, 0, 0, 0]
-        first += count
-    return cells + [0] * (8 * min(length // 8, MAX_NODES) - len(cells))
-
-
-def text(cells):
-    out = []
-    for cell, run in itertools.groupby(cells):
-        n = len(list(run))
-        out += ["%X*%d" % (cell, n)] if n >= 4 else ["%X" % cell] * n
-    return ".".join(out) or "-"
-
-
-class Pool:
-    def __init__(self, length):
-        self.length, self.capacity, self.words = length, min(length // 8, MAX_NODES), None
-
-    def refused(self, word):
-        if len(word) > 65535:
-            return "!2.%d" % len(word)
-        for i, x in enumerate(word):
-            if not is_scalar(x):
-                return "!3.%d" % i
-        return "!4.0" if self.words is None else None
-
-    def step(self, op, word=()):
-        if op == "f":
-            if self.length < 8:
-                return "!8.1"
-            self.words = set()
-            return "0"
-        if op == "c":
-            cells = [JUNK] * self.length
-            if self.words is not None:
-                cells[: 8 * self.capacity] = cells_of(self.words, self.length)
-            return text(cells)
-        if op in "#n":
-            if self.words is None:
-                return "!4.0"
-            return str(len(self.words) if op == "#" else 1 + len(prefixes(self.words)))
-        return self.refused(word) or self.word_step(op, tuple(word))
-
-    def word_step(self, op, word):
-        if op == "?":
-            return "%d.0" % (word in self.words)
-        if op == "p":
-            return ".".join(str(k) for k in range(1, len(word) + 1) if word[:k] in self.words) or "-"
-        word = trim(word)
-        if len(word) > 255:
-            return "!7.%d" % len(word)
-        if op == "-":
-            changed = word in self.words
-            self.words.discard(word)
-            return str(int(changed))
-        if not word:
-            return "0"
-        missing = 1 + len(prefixes(self.words | {word})) - self.capacity
-        if missing > 0:
-            return "!8.%d" % missing
-        changed = word not in self.words
-        self.words.add(word)
-        return str(int(changed))
-
-
-def script(length, steps):
-    pool = Pool(length)
-    answers = [pool.step(*s) for s in steps]
-    return "dict\t%d\t%s" % (length, ";".join(s[0] + "".join(text(w) for w in s[1:]) for s in steps)), "ok " + ";".join(answers)
+from pools import pools
+from trie_model import A, B, C, NEVER, TRIMMED, script, text
 
 
 def scripts():
@@ -228,72 +126,12 @@ def crowded():
             yield "prefix\t%s\t%s\t*" % (named, text((x, children[-1], A))), "ok " + (",".join(map(str, found)) or "-")
 
 
-def pools():
-    """Each rule of docs/POOL.md broken in an otherwise good pool. Its nodes: root, A, B, AB, AC, B blank, B blank A."""
-    good = cells_of({(A,), (A, B), (A, C), (B, 32, A)}, 72)
-
-    def passes(cells, words):
-        return "pool\t" + text(cells), "ok %d" % words
-
-    def broken(*changes):
-        cells = list(good)
-        for node, cell, value in changes:
-            assert cells[8 * node + cell] != value
-            cells[8 * node + cell] = value
-        return fails(cells)
-
-    def fails(cells):
-        return "pool\t" + text(cells), "! 4 0"
-
-    yield passes(good, 4)
-    yield passes(good + [5, 6, 7], 4)
-    # what is never trimmed may stand at an edge, and what is trimmed inside
-    for x in NEVER:
-        yield passes(cells_of({(x,), (x, x)}, 24), 2)
-    for x in sorted(TRIMMED):
-        yield passes(cells_of({(A, x, B)}, 32), 1)
-        yield fails(cells_of({(x,)}, 16))
-        yield fails(cells_of({(A, x)}, 24))
-        yield fails(cells_of({(x, A)}, 24))
-    yield passes(good + [0] * 8, 4)
-    yield passes(good[:56], 4)
-    yield passes([0, 1, 0, 0, 1, 0, 0, 0], 0)
-    rules = [
-        [[(0, 4, 0)], [(0, 4, 6)], [(0, 4, 8)], [(0, 4, 10)]],
-        [[(0, 0, A)], [(0, 3, 1)]],
-        [[(0, 1, 0)], [(0, 1, 2)], [(1, 1, 4)], [(2, 1, 6)], [(6, 2, 1)], [(5, 2, 0)], [(4, 1, 5)]],
-        [],
-        [[(1, 0, C)], [(2, 0, A)], [(4, 0, B)], [(3, 0, C)]],
-        [[(3, 0, 0xD800)], [(4, 0, 0x110000)], [(4, 0, JUNK)], [(3, 0, 0xDFFF), (4, 0, 0xE000)]],
-        [[(3, 3, 2)], [(1, 3, JUNK)]],
-        [[(3, 3, 0)], [(6, 3, 0)]],
-        [[(1, 0, 9)], [(1, 0, 32)], [(1, 0, 13)], [(1, 0, 0xA0)]],
-        [[(3, 0, 32)], [(5, 3, 1)], [(6, 0, 9)], [(6, 0, 0x3000)]],
-        [],
-        [[(i, 4, 1)] for i in (1, 3, 6)] + [[(i, k, 1)] for i in (0, 2, 6) for k in (5, 6, 7)] + [[(7, k, 1)] for k in range(8)] + [[(8, 7, 1)]],
-    ]
-    for changes in itertools.chain(*rules):
-        yield broken(*changes)
-    yield fails(good[:55])
-    yield fails([0] * 64)
-    yield fails([])
-    yield fails([0, 1, 0, 0, 1, 0, 0])
-    # rule 4: a node that is its own child; rule 11: 256 levels
-    yield fails([0, 1, 1, 0, 3, 0, 0, 0, A, 2, 0, 1, 0, 0, 0, 0, B, 2, 1, 1, 0, 0, 0, 0])
-    deep = cells_of({(A,) * 255}, 2056)
-    yield passes(deep, 1)
-    deep[4] = 257
-    deep[8 * 255 + 1 : 8 * 255 + 4] = [256, 1, 1]
-    deep[8 * 256 : 8 * 256 + 4] = [A, 257, 0, 1]
-    yield fails(deep)
-
-
 def main():
     lines = [("prefix\tE01.E02:0,E01.E02.E04:0\tE01.E02.E04.E07.E08\t%s" % out, answer)
              for out, answer in (("*", "ok 2,3"), ("0", "! 6 2"), ("1", "! 6 2"), ("2", "ok 2,3"), ("3", "ok 2,3"))]
-    lines += itertools.chain(scripts(), spaced(), crowded(), pools())
+    lines += itertools.chain(scripts(), spaced(), crowded(), classes.scripts(), pools())
     made = [(line.split("\t"), answer) for line, answer in lines]
-    vectors.write("test_trie_char", made + vectors.model("dict", "prefix") + vectors.rust("dict", "prefix"))
+    vectors.write("test_trie_char", made + vectors.model("dict", "prefix") + vectors.classes("dict", "prefix") + vectors.rust("dict", "prefix"))
 
 
 if __name__ == "__main__":

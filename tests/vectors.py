@@ -25,6 +25,11 @@ def model(*ops):
     return read("model.txt", ops)
 
 
+def classes(*ops):
+    """The independent model's lines over words with classes."""
+    return read("classes.txt", ops)
+
+
 def rust(*ops):
     """The Rust's lines for these operations: what differential/sample.py has kept."""
     return read("rust.txt", ops)
@@ -56,6 +61,12 @@ def cells(row):
             parts.append("%X" % row[i])
             i += 1
     return ".".join(parts) or "-"
+
+
+def parsed_cells(field):
+    """The cells of a field."""
+    parts = [part.partition("*") for part in field.split(".")] if field != "-" else []
+    return [int(cell, 16) for cell, _, times in parts for _ in range(int(times or 1))]
 
 
 def parsed_bytes(field):

@@ -15,9 +15,9 @@ size_t search_places(const uint32_t *pool, size_t pool_len, const uint32_t *text
 #pragma weak fetlockice_check_claim
 #pragma weak fetlockice_cut_many_plain
 
-enum op { DECODE, CLUSTERS, PREFIX, PLACES, PLAIN, SAFE, SHEET, BATCH, CUT, CLAIM, CHECK, READ, READ_WIDE };
+enum op { DECODE, CLUSTERS, PREFIX, PLACES, PLAIN, SAFE, SHEET, BATCH, CUT, CLAIM, CHECK, EDIT, READ, READ_WIDE };
 static const char *const names[] = {"decode", "clusters", "prefix", "places", "plain", "safe", "sheet",
-                                    "batch",  "cut",      "claim",  "check",  "read",  "read-wide"};
+                                    "batch",  "cut",      "claim",  "check",  "edit",  "read", "read-wide"};
 
 static enum op op;
 static uint32_t *pool, *out, *scratch, *cells, *text_ends, *told, **scalars, **ends;
@@ -82,6 +82,15 @@ static size_t check(void) {
     return count;
 }
 
+/* Takes a word of the pool out and puts it in again: the pool is as it was. */
+static size_t edit(size_t i) {
+    size_t count, detail;
+    accepted(fetlockice_remove(pool, pool_len, scalars[i], lengths[i], &count, &detail));
+    if (count != 1) die("a word was not held");
+    accepted(fetlockice_add(pool, pool_len, scalars[i], lengths[i], &count, &detail));
+    return count;
+}
+
 __attribute__((noinline, optimize("O2", "no-tree-vectorize"))) static uint32_t read_cells(void) {
     uint32_t sum = 0;
     for (size_t i = 0; i < pool_len; i++) sum += pool[i];
@@ -110,6 +119,7 @@ static size_t answer(size_t i) {
     case CUT: return cut_scalars(i, out);
     case CLAIM: return claim(i);
     case CHECK: return check();
+    case EDIT: return edit(i);
     case READ: return read_cells();
     case READ_WIDE: return read_wide();
     }

@@ -12,8 +12,10 @@ static const unsigned refusals[OPS] = {
     [CLUSTERS] = 1 << 2 | 1 << 3 | 1 << 6,
     [FRESH] = 1 << 8,
     [ADD] = 1 << 2 | 1 << 3 | 1 << 4 | 1 << 7 | 1 << 8,
+    [ADD_CLASS] = 1 << 2 | 1 << 3 | 1 << 4 | 1 << 7 | 1 << 8,
     [REMOVE] = 1 << 2 | 1 << 3 | 1 << 4 | 1 << 7,
     [CONTAINS] = 1 << 2 | 1 << 3 | 1 << 4,
+    [CONTAINS_CLASS] = 1 << 2 | 1 << 3 | 1 << 4,
     [PREFIX_LENGTHS] = 1 << 2 | 1 << 3 | 1 << 4 | 1 << 6,
     [WORD_COUNT] = 1 << 4,
     [CUT_PLAIN] = 1 << 2 | 1 << 3 | 1 << 4 | 1 << 5 | 1 << 6,
@@ -23,7 +25,8 @@ static const unsigned refusals[OPS] = {
 };
 
 int writes_output(enum op op) { return op == DECODE || op == CLUSTERS || op == PREFIX_LENGTHS || cuts(op); }
-int writes_pool(enum op op) { return op == FRESH || op == ADD || op == REMOVE; }
+int writes_pool(enum op op) { return op == FRESH || adds(op) || op == REMOVE; }
+int adds(enum op op) { return op == ADD || op == ADD_CLASS; }
 int cuts(enum op op) { return op == CUT_PLAIN || op == CUT_SAFE || op == CUT_SHEET; }
 int uses_scratch(enum op op) { return cuts(op) || op == CHECK_CLAIM; }
 
@@ -34,8 +37,17 @@ struct rows {
 
 /* The numbers that a call sets, with guards between them. */
 struct numbers {
-    size_t guard0, count, guard1, edges, guard2, detail, guard3;
+    size_t guard0, count, guard1, word_class, guard2, edges, guard3, detail, guard4;
 };
+
+/* add_class as a caller sees it that leaves anything in the register above the class's sixteen bits. */
+typedef uint32_t wide_add_class(uint32_t *, size_t, const uint32_t *, size_t, uint64_t, size_t *, size_t *);
+
+static uint32_t add_class(const struct call *c, uint32_t *pool, const void *word, struct numbers *to) {
+    wide_add_class *wide = (wide_add_class *)(void (*)(void))fetlockice_add_class;
+    if (below(2) == 0) return wide(pool, c->cells, word, c->n, draw() << 16 | c->word_class, &to->count, &to->detail);
+    return fetlockice_add_class(pool, c->cells, word, c->n, c->word_class, &to->count, &to->detail);
+}
 
 static uint32_t exported(const struct call *c, const void *text, uint32_t *pool, const uint32_t *claim, uint32_t *out,
                          uint32_t *scratch, struct numbers *to) {
@@ -44,8 +56,11 @@ static uint32_t exported(const struct call *c, const void *text, uint32_t *pool,
     case CLUSTERS: return fetlockice_clusters(text, c->n, out, c->room, &to->count, &to->detail);
     case FRESH: return fetlockice_fresh(pool, c->cells, &to->count, &to->detail);
     case ADD: return fetlockice_add(pool, c->cells, text, c->n, &to->count, &to->detail);
+    case ADD_CLASS: return add_class(c, pool, text, to);
     case REMOVE: return fetlockice_remove(pool, c->cells, text, c->n, &to->count, &to->detail);
     case CONTAINS: return fetlockice_contains(pool, c->cells, text, c->n, &to->count, &to->detail);
+    case CONTAINS_CLASS:
+        return fetlockice_contains_class(pool, c->cells, text, c->n, &to->count, &to->word_class, &to->detail);
     case PREFIX_LENGTHS:
         return fetlockice_prefix_lengths(pool, c->cells, text, c->n, out, c->room, &to->count, &to->detail);
     case WORD_COUNT: return fetlockice_word_count(pool, c->cells, &to->count, &to->detail);
@@ -86,12 +101,13 @@ static void check_rows(const struct call *c, const struct rows *rows, const stru
 static void check_numbers(const struct call *c, const struct answer *a, const struct numbers *before,
                           const struct numbers *after) {
     must(before->guard0 == after->guard0 && before->guard1 == after->guard1 && before->guard2 == after->guard2 &&
-             before->guard3 == after->guard3,
+             before->guard3 == after->guard3 && before->guard4 == after->guard4,
          "a guard between two numbers was written");
+    must(c->op == CONTAINS_CLASS || before->word_class == after->word_class, "a class was told of where none is");
     must(uses_scratch(c->op) || before->edges == after->edges, "edges were told of where none are");
     must(a->number == 0 || (a->number < 32 && (refusals[c->op] >> a->number & 1) != 0),
          "a refusal that the function doesn't have");
-    must(a->number == 0 ? a->detail == 0 : a->count == 0 && (!uses_scratch(c->op) || a->edges == 0),
+    must(a->number == 0 ? a->detail == 0 : a->count == 0 && a->word_class == 0 && a->edges == 0,
          "a number isn't 0 that must be");
 }
 
@@ -102,11 +118,12 @@ static struct answer call_once(const struct call *c, struct rows *rows) {
     uint32_t *claim = lend(&rows->claim, c->claim, 4 * c->ends);
     uint32_t *out = lend(&rows->out, NULL, 4 * c->room);
     uint32_t *scratch = lend(&rows->scratch, NULL, 4 * c->scratch);
-    struct numbers before = {draw(), draw(), draw(), draw(), draw(), draw(), draw()}, after = before;
+    struct numbers before = {draw(), draw(), draw(), draw(), draw(), draw(), draw(), draw(), draw()}, after = before;
     calls++;
     calls_of[c->op]++;
     struct answer a = {.number = exported(c, text, pool, claim, out, scratch, &after), .out = out, .pool = pool};
     a.count = after.count;
+    a.word_class = c->op == CONTAINS_CLASS ? after.word_class : 0;
     a.edges = uses_scratch(c->op) ? after.edges : 0;
     a.detail = after.detail;
     check_numbers(c, &a, &before, &after);
@@ -115,11 +132,12 @@ static struct answer call_once(const struct call *c, struct rows *rows) {
 }
 
 struct answer call_twice(const struct call *c) {
-    static struct rows rows[4][2];
+    static struct rows rows[5][2];
     static size_t turn;
-    struct rows *own = rows[turn++ % 4];
+    struct rows *own = rows[turn++ % 5];
     struct answer a = call_once(c, &own[0]), b = call_once(c, &own[1]);
-    must(a.number == b.number && a.count == b.count && a.edges == b.edges && a.detail == b.detail,
+    must(a.number == b.number && a.count == b.count && a.word_class == b.word_class && a.edges == b.edges &&
+             a.detail == b.detail,
          "two calls told different numbers");
     must(!writes_output(c->op) || memcmp(a.out, b.out, 4 * a.count) == 0, "two calls wrote different outputs");
     size_t same = c->op == FRESH ? (a.number == 0 ? 32 * nodes_of(c->cells) : 0) : 4 * c->cells;

@@ -10,8 +10,10 @@ enum op {
     CLUSTERS,
     FRESH,
     ADD,
+    ADD_CLASS,
     REMOVE,
     CONTAINS,
+    CONTAINS_CLASS,
     PREFIX_LENGTHS,
     WORD_COUNT,
     CUT_PLAIN,
@@ -25,6 +27,7 @@ struct call {
     enum op op;
     const void *text; /* bytes, text or word, and their number */
     size_t n;
+    uint16_t word_class; /* that add_class gives; 0 for others */
     const uint32_t *pool;
     size_t cells;
     size_t room;    /* output cells */
@@ -35,13 +38,14 @@ struct call {
 
 struct answer {
     uint32_t number;
-    size_t count, edges, detail; /* of a claim: right, token, detail */
-    const uint32_t *out;         /* the output and the pool, for as long as three more pairs of calls */
+    size_t count, word_class, edges, detail; /* of a claim: right, 0, token, detail */
+    const uint32_t *out;                     /* the output and the pool, for as long as four more pairs of calls */
     const uint32_t *pool;
 };
 
 int writes_output(enum op op);
 int writes_pool(enum op op);
+int adds(enum op op);
 int cuts(enum op op);
 int uses_scratch(enum op op);
 

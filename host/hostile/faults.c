@@ -19,8 +19,11 @@ uint32_t __real_fetlockice_decode(const uint8_t *, size_t, uint32_t *, size_t, s
 uint32_t __real_fetlockice_clusters(const uint32_t *, size_t, uint32_t *, size_t, size_t *, size_t *);
 uint32_t __real_fetlockice_fresh(uint32_t *, size_t, size_t *, size_t *);
 uint32_t __real_fetlockice_add(uint32_t *, size_t, const uint32_t *, size_t, size_t *, size_t *);
+uint32_t __real_fetlockice_add_class(uint32_t *, size_t, const uint32_t *, size_t, uint16_t, size_t *, size_t *);
 uint32_t __real_fetlockice_remove(uint32_t *, size_t, const uint32_t *, size_t, size_t *, size_t *);
 uint32_t __real_fetlockice_contains(const uint32_t *, size_t, const uint32_t *, size_t, size_t *, size_t *);
+uint32_t __real_fetlockice_contains_class(const uint32_t *, size_t, const uint32_t *, size_t, size_t *, size_t *,
+                                          size_t *);
 uint32_t __real_fetlockice_prefix_lengths(const uint32_t *, size_t, const uint32_t *, size_t, uint32_t *, size_t,
                                           size_t *, size_t *);
 uint32_t __real_fetlockice_word_count(const uint32_t *, size_t, size_t *, size_t *);
@@ -55,19 +58,39 @@ uint32_t __wrap_fetlockice_fresh(uint32_t *pool, size_t cells, size_t *count, si
     return number;
 }
 
-/* 4: a refused call writes to the pool */
+/* Whether a call of contains says that the word is held, as it is. */
+static int is_held(const uint32_t *pool, size_t cells, const uint32_t *word, size_t n) {
+    size_t count, detail;
+    return __real_fetlockice_contains(pool, cells, word, n, &count, &detail) == 0 && count == 1;
+}
+
+/* 4: a refused call writes to the pool; 22: a held word keeps its class, and nothing is reported */
 uint32_t __wrap_fetlockice_add(uint32_t *pool, size_t cells, const uint32_t *word, size_t n, size_t *count,
                                size_t *detail) {
+    if (FAULT == 22 && is_held(pool, cells, word, n)) return *count = *detail = 0;
     uint32_t number = __real_fetlockice_add(pool, cells, word, n, count, detail);
     if (FAULT == 4 && number == FETLOCKICE_TOO_FEW_NODES) pool[cells - 1] ^= 1;
     return number;
 }
 
-/* 5: a cell behind the last whole node is written */
+/* 23: a class has eight bits; 24: a held word's class is replaced and nothing is reported; 25: a held word is refused
+ * where no node is free */
+uint32_t __wrap_fetlockice_add_class(uint32_t *pool, size_t cells, const uint32_t *word, size_t n, uint16_t word_class,
+                                     size_t *count, size_t *detail) {
+    int held = is_held(pool, cells, word, n);
+    if (FAULT == 25 && held && pool[0] == cells / 8) return *count = 0, *detail = 1, FETLOCKICE_TOO_FEW_NODES;
+    uint16_t given = FAULT == 23 ? word_class & 0xFF : word_class;
+    uint32_t number = __real_fetlockice_add_class(pool, cells, word, n, given, count, detail);
+    if (FAULT == 24 && held) *count = 0;
+    return number;
+}
+
+/* 5: a cell behind the last whole node is written; 26: another word loses its class */
 uint32_t __wrap_fetlockice_remove(uint32_t *pool, size_t cells, const uint32_t *word, size_t n, size_t *count,
                                   size_t *detail) {
     uint32_t number = __real_fetlockice_remove(pool, cells, word, n, count, detail);
     if (FAULT == 5 && number == 0 && cells % 8 != 0) pool[cells - 1] ^= 1;
+    if (FAULT == 26 && number == 0 && *count == 1 && pool[0] > 1 && pool[11] > 1) pool[11] = 1;
     return number;
 }
 
@@ -76,6 +99,17 @@ uint32_t __wrap_fetlockice_contains(const uint32_t *pool, size_t cells, const ui
                                     size_t *detail) {
     if (FAULT == 6) (void)*(const volatile uint32_t *)(pool + cells);
     return __real_fetlockice_contains(pool, cells, word, n, count, detail);
+}
+
+/* 27: the mark is told for the class; 28: a word that isn't held has a class; 29: a refused call tells none */
+uint32_t __wrap_fetlockice_contains_class(const uint32_t *pool, size_t cells, const uint32_t *word, size_t n,
+                                          size_t *count, size_t *word_class, size_t *detail) {
+    size_t old = *word_class;
+    uint32_t number = __real_fetlockice_contains_class(pool, cells, word, n, count, word_class, detail);
+    if (FAULT == 27 && number == 0 && *count == 1) *word_class += 1;
+    if (FAULT == 28 && number == 0 && *count == 0) *word_class = 1;
+    if (FAULT == 29 && number != 0) *word_class = old;
+    return number;
 }
 
 /* 7: a refused call tells of a count */
@@ -94,10 +128,12 @@ uint32_t __wrap_fetlockice_word_count(const uint32_t *pool, size_t cells, size_t
     return number;
 }
 
-/* 9: a cell behind the output is written */
+/* 9: a cell behind the output is written; 30: a class counts as an edge */
 uint32_t __wrap_fetlockice_cut_plain(CUT) {
     if (FAULT == 9) out[room] = 0;
-    return __real_fetlockice_cut_plain(CUT_WITH);
+    uint32_t number = __real_fetlockice_cut_plain(CUT_WITH);
+    if (FAULT == 30 && number == 0 && n > 0 && pool[0] > 1 && pool[11] > 1) *edges += 1;
+    return number;
 }
 
 /* 10: a cell of scratch is left as it was; 11: an edge too many; 12: scratch is cleared before it is refused */

@@ -19,18 +19,18 @@ static unsigned long answers[9];
 /* The refusal that is due by the model, 6 left out. */
 static struct refusal due(const struct call *c, int is_dict) {
     size_t count, start, end;
-    int held;
+    uint32_t mark;
     if (c->op == DECODE) return utf8_refusal(c->text, c->n, scalars, TEXT_ROOM * 4, &count);
     if (c->op == FRESH) return (struct refusal){c->cells < 8 ? 8 : 0, c->cells < 8};
     struct refusal r = c->op == WORD_COUNT ? (struct refusal){0, 0} : text_refusal(c->text, c->n);
     if (r.number != 0 || c->op == CLUSTERS) return r;
     if (!is_dict) return (struct refusal){4, 0};
     if (uses_scratch(c->op) && c->scratch < 9 * c->n + 128) return (struct refusal){5, 9 * c->n + 128};
-    if (c->op != ADD && c->op != REMOVE) return r;
+    if (!adds(c->op) && c->op != REMOVE) return r;
     trimmed(c->text, c->n, &start, &end);
     if (end - start > 255) return (struct refusal){7, end - start};
-    size_t nodes = c->pool[4] + lacking(c->pool, (const uint32_t *)c->text + start, end - start, &held);
-    if (c->op == ADD && nodes > nodes_of(c->cells)) return (struct refusal){8, nodes - nodes_of(c->cells)};
+    size_t nodes = c->pool[0] + lacking(c->pool, (const uint32_t *)c->text + start, end - start, &mark);
+    if (adds(c->op) && nodes > nodes_of(c->cells)) return (struct refusal){8, nodes - nodes_of(c->cells)};
     return r;
 }
 
@@ -57,9 +57,22 @@ static void check_ends(const struct call *c, const struct answer *a) {
     must(a->edges <= 51 * c->n, "more edges than can be recorded");
 }
 
+/* Cutting doesn't read classes. */
+static void check_classes(const struct call *c, const struct answer *a) {
+    static uint32_t reclassed[POOL_ROOM];
+    struct call other = *c;
+    memcpy(reclassed, c->pool, 4 * c->cells);
+    reclass(reclassed);
+    other.pool = reclassed;
+    struct answer b = call_twice(&other);
+    must(b.number == 0 && b.count == a->count && b.edges == a->edges && memcmp(a->out, b.out, 4 * a->count) == 0,
+         "classes change a cut");
+}
+
 static void check_cut(const struct call *c, const struct answer *a) {
     struct call other = *c;
     check_ends(c, a);
+    check_classes(c, a);
     other.op = CUT_PLAIN + (c->op - CUT_PLAIN + 1 + below(2)) % 3;
     struct answer b = call_twice(&other);
     must(b.number == 0 || b.number == 6, "the other mode is refused");
@@ -97,33 +110,35 @@ static void check_verdict(const struct call *c, const struct answer *a) {
 
 static void check_prefixes(const struct call *c, const struct answer *a) {
     size_t k = 0;
-    int held;
+    uint32_t mark;
     for (size_t n = 1; n <= c->n && n <= 255; n++) {
-        if (lacking(c->pool, c->text, n, &held) == 0 && held)
+        if (lacking(c->pool, c->text, n, &mark) == 0 && mark != 0)
             must(k < a->count && a->out[k++] == n, "a prefix length is missing");
     }
     must(k == a->count, "a prefix length of no word");
 }
 
-/* An accepted add or remove changes its word alone, and undoing it leaves the pool as it was, bit by bit. */
+/* An accepted add or remove changes its word and class alone, and undoing it leaves the pool as it was, bit by bit. */
 static void check_change(const struct call *c, const struct answer *a) {
     static uint32_t changed[POOL_ROOM];
     size_t start, end;
-    int before, after;
+    uint32_t before, after, wanted = adds(c->op) ? 1 + (uint32_t)c->word_class : 0;
     trimmed(c->text, c->n, &start, &end);
     const uint32_t *word = (const uint32_t *)c->text + start;
-    size_t n = end - start, more = c->op == ADD;
+    size_t n = end - start;
     lacking(c->pool, word, n, &before);
-    must(a->count == (n > 0 && before != (int)more), "the report is wrong");
+    must(a->count == (n > 0 && before != wanted), "the report is wrong");
     must(is_dictionary(a->pool, c->cells), "the new pool is no dictionary");
     lacking(a->pool, word, n, &after);
-    must(n == 0 || after == (int)more, "the word was not changed");
-    must(words_of(a->pool) + (more ? 0 : a->count) == words_of(c->pool) + (more ? a->count : 0),
-         "another word was changed");
+    must(n == 0 || after == wanted, "the word or its class was not changed");
+    must(words_of(a->pool) + (before != 0) == words_of(c->pool) + (after != 0) &&
+             marks_of(a->pool) + before == marks_of(c->pool) + after,
+         "another word or class was changed");
     memcpy(changed, a->pool, 4 * c->cells);
     if (a->count == 1) {
         struct call back = *c;
-        back.op = more ? REMOVE : ADD;
+        back.op = before == 0 ? REMOVE : before == 1 ? ADD : ADD_CLASS;
+        back.word_class = (uint16_t)(before == 0 ? 0 : before - 1);
         back.pool = changed;
         struct answer b = call_twice(&back);
         must(b.number == 0 && b.count == 1 && memcmp(b.pool, c->pool, 4 * c->cells) == 0,
@@ -133,7 +148,7 @@ static void check_change(const struct call *c, const struct answer *a) {
 }
 
 static void check_accepted(const struct call *c, const struct answer *a) {
-    int held;
+    uint32_t mark;
     size_t count;
     switch (c->op) {
     case DECODE:
@@ -142,11 +157,13 @@ static void check_accepted(const struct call *c, const struct answer *a) {
         break;
     case CLUSTERS: check_ends(c, a); break;
     case FRESH:
-        must(a->count == 0 && is_dictionary(a->pool, c->cells) && a->pool[4] == 1, "a fresh pool isn't the root alone");
+        must(a->count == 0 && is_dictionary(a->pool, c->cells) && a->pool[0] == 1, "a fresh pool isn't the root alone");
         break;
     case CONTAINS:
-        lacking(c->pool, c->text, c->n, &held);
-        must(a->count == (size_t)held, "contains is wrong");
+    case CONTAINS_CLASS:
+        lacking(c->pool, c->text, c->n, &mark);
+        must(a->count == (mark != 0), "contains is wrong");
+        must(a->word_class == (c->op == CONTAINS_CLASS && mark != 0 ? mark - 1 : 0), "the class is wrong");
         break;
     case PREFIX_LENGTHS: check_prefixes(c, a); break;
     case WORD_COUNT: must(a->count == words_of(c->pool), "the word count is wrong"); break;
@@ -175,10 +192,11 @@ static struct call make_call(enum op op, int *is_dict) {
     *is_dict = is_dictionary(pool, c.cells);
     if (op == DECODE)
         c.text = bytes, c.n = make_bytes(bytes);
-    else if (op == ADD || op == REMOVE || op == CONTAINS)
+    else if (adds(op) || op == REMOVE || op == CONTAINS || op == CONTAINS_CLASS)
         c.n = make_word(text);
     else if (op != FRESH && op != WORD_COUNT)
         c.n = make_sheet(text, pool, *is_dict);
+    if (op == ADD_CLASS) c.word_class = make_class();
     if (writes_output(op)) c.room = make_room(op == PREFIX_LENGTHS ? below(4) : c.n);
     if (uses_scratch(op)) c.scratch = below(4) == 0 ? make_room(9 * c.n + 128) : 9 * c.n + 128 + below(4);
     if (op == CHECK_CLAIM) claim_for(&c);

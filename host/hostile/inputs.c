@@ -98,6 +98,16 @@ size_t make_bytes(uint8_t *bytes) {
     return n;
 }
 
+uint16_t make_class(void) {
+    size_t kind = below(4);
+    return (uint16_t)(kind == 0 ? below(3) : kind == 1 ? 65535 - below(3) : draw());
+}
+
+void reclass(uint32_t *pool) {
+    for (size_t i = 1; i < pool[0]; i++)
+        if (pool[8 * i + 3] != 0) pool[8 * i + 3] = 1 + (uint32_t)make_class();
+}
+
 size_t make_room(size_t needed) {
     size_t kind = below(8);
     if (kind == 0) return 0;
@@ -108,7 +118,7 @@ size_t make_room(size_t needed) {
 
 /* Changes some cells of the nodes in use and of the one behind them, or the length. */
 static size_t damage(uint32_t *pool, size_t n) {
-    size_t used = n >= 8 && pool[4] < n / 8 ? pool[4] + 1 : n / 8;
+    size_t used = n >= 8 && pool[0] < n / 8 ? pool[0] + 1 : n / 8;
     for (size_t k = 1 + below(2); k > 0 && used > 0; k--) {
         uint32_t *cell = pool + 8 * below(used) + below(8);
         size_t kind = below(6);

@@ -29,6 +29,12 @@ size_t make_pool(uint32_t *pool);
 /* A claim for a text of n characters: some ends as they are, or a little damaged, or anything. */
 size_t make_claim(uint32_t *claim, const uint32_t *ends, size_t count, size_t n);
 
+/* A class: the least and the largest ones more often than others. */
+uint16_t make_class(void);
+
+/* Gives each word of a dictionary any class. */
+void reclass(uint32_t *pool);
+
 /* A length of 0, 1, about the one needed, or any up to twice that. */
 size_t make_room(size_t needed);
 

@@ -37,21 +37,29 @@ struct refusal text_refusal(const uint32_t *text, size_t n) {
 
 size_t nodes_of(size_t cells) { return cells / 8 < 1048576 ? cells / 8 : 1048576; }
 
-/* Rules 5 to 10 and 12 of a node in use. */
+/* Rules 4 to 9 of a node in use. */
 static int node_ok(const uint32_t *pool, size_t i) {
     const uint32_t *node = pool + 8 * i;
     for (size_t k = node[1]; k < (size_t)node[1] + node[2]; k++) {
         if (k > node[1] && pool[8 * k] <= pool[8 * k - 8]) return 0;
         if (i == 0 && is_blank(pool[8 * k])) return 0;
     }
-    if (node[5] != 0 || node[6] != 0 || node[7] != 0) return 0;
-    if (i == 0) return node[0] == 0 && node[3] == 0;
-    if (!is_scalar(node[0]) || node[3] > 1 || node[4] != 0) return 0;
+    if (i == 0) return 1;
+    if (!is_scalar(node[0]) || node[3] > 65536) return 0;
     if (node[2] == 0 && node[3] == 0) return 0;
-    return !(node[3] == 1 && is_blank(node[0]));
+    return node[3] == 0 || !is_blank(node[0]);
 }
 
-/* Rule 11: the levels below the root. */
+/* Rules 11 and 13: which cells are 0. */
+static int zeros_ok(const uint32_t *pool, size_t used, size_t nodes) {
+    if (pool[3] != 0) return 0;
+    for (size_t i = 0; i < nodes; i++)
+        for (size_t k = i < used ? 4 : 0; k < 8; k++)
+            if (pool[8 * i + k] != 0) return 0;
+    return 1;
+}
+
+/* Rule 10: the levels below the root. */
 static size_t levels(const uint32_t *pool) {
     size_t depth = 0;
     for (size_t end = 1;; depth++) {
@@ -65,7 +73,7 @@ static size_t levels(const uint32_t *pool) {
 int is_dictionary(const uint32_t *pool, size_t cells) {
     size_t nodes = nodes_of(cells);
     if (nodes == 0) return 0;
-    size_t used = pool[4], next = 1;
+    size_t used = pool[0], next = 1;
     if (used < 1 || used > nodes) return 0;
     for (size_t i = 0; i < used; i++) {
         if (pool[8 * i + 1] != next || (pool[8 * i + 2] != 0 && next <= i)) return 0;
@@ -75,9 +83,7 @@ int is_dictionary(const uint32_t *pool, size_t cells) {
     if (next != used) return 0;
     for (size_t i = 0; i < used; i++)
         if (!node_ok(pool, i)) return 0;
-    for (size_t k = 8 * used; k < 8 * nodes; k++)
-        if (pool[k] != 0) return 0;
-    return levels(pool) <= 255;
+    return zeros_ok(pool, used, nodes) && levels(pool) <= 255;
 }
 
 void trimmed(const uint32_t *word, size_t n, size_t *start, size_t *end) {
@@ -85,16 +91,16 @@ void trimmed(const uint32_t *word, size_t n, size_t *start, size_t *end) {
     for (*start = 0; *start < *end && is_blank(word[*start]);) (*start)++;
 }
 
-size_t lacking(const uint32_t *pool, const uint32_t *word, size_t n, int *held) {
+size_t lacking(const uint32_t *pool, const uint32_t *word, size_t n, uint32_t *mark) {
     size_t node = 0;
-    *held = 0;
+    *mark = 0;
     for (size_t i = 0; i < n; i++) {
         size_t child = pool[8 * node + 1], end = child + pool[8 * node + 2];
         while (child < end && pool[8 * child] != word[i]) child++;
         if (child == end) return n - i;
         node = child;
     }
-    *held = pool[8 * node + 3] == 1;
+    *mark = pool[8 * node + 3];
     return 0;
 }
 
@@ -175,6 +181,12 @@ long wrong_token(const uint32_t *text, size_t n, const unsigned char *is_end, co
 
 size_t words_of(const uint32_t *pool) {
     size_t n = 0;
-    for (size_t i = 0; i < pool[4]; i++) n += pool[8 * i + 3];
+    for (size_t i = 1; i < pool[0]; i++) n += pool[8 * i + 3] != 0;
     return n;
+}
+
+uint64_t marks_of(const uint32_t *pool) {
+    uint64_t sum = 0;
+    for (size_t i = 1; i < pool[0]; i++) sum += pool[8 * i + 3];
+    return sum;
 }

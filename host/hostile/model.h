@@ -29,15 +29,16 @@ size_t nodes_of(size_t cells);
 /* Where a word starts and ends after trimming. */
 void trimmed(const uint32_t *word, size_t n, size_t *start, size_t *end);
 
-/* How many nodes of a dictionary a word lacks, and whether it is held. */
-size_t lacking(const uint32_t *pool, const uint32_t *word, size_t n, int *held);
+/* How many nodes of a dictionary a word lacks, and its mark: 0 where it isn't held, else its class and one. */
+size_t lacking(const uint32_t *pool, const uint32_t *word, size_t n, uint32_t *mark);
 
 /* The first token of a claim that is wrong, or -1: of ends for the plain cut of a text by the words of a dictionary.
  * `is_end` has a flag for each position of the text: whether a cluster ends there. */
 long wrong_token(const uint32_t *text, size_t n, const unsigned char *is_end, const uint32_t *pool,
                  const uint32_t *claim, size_t ends);
 
-/* How many words a dictionary has. */
+/* How many words a dictionary has, and the sum of their marks. */
 size_t words_of(const uint32_t *pool);
+uint64_t marks_of(const uint32_t *pool);
 
 #endif

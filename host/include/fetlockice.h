@@ -3,10 +3,11 @@
  * Every call answers for any bytes, scalars, pool and scratch: 0 if it was accepted, else the number of the refusal. It
  * also sets, in every case, each number that a pointer at the end of its parameters leads to:
  *
- *   *count   accepted: the count that the call tells of; refused: 0
- *   *edges   accepted: the edges recorded in the whole cut; refused: 0
+ *   *count       accepted: the count that the call tells of; refused: 0
+ *   *word_class  accepted: the class of a word that is held, 0 for another; refused: 0
+ *   *edges       accepted: the edges recorded in the whole cut; refused: 0
  *   *right, *token  of a claim: 1 and 0 if it is right; 0 and the first token that is wrong; refused: 0 and 0
- *   *detail  accepted: 0; refused: the refusal's detail, below
+ *   *detail      accepted: 0; refused: the refusal's detail, below
  *
  * Lent memory. A row that a call takes as const is only read. A refused call changes no output and no pool. An
  * accepted one writes the first *count cells of the output and keeps the rest. Scratch is untouched after refusals 2
@@ -43,16 +44,17 @@ extern "C" {
 #define FETLOCKICE_MAX_SCALARS 65535
 #define FETLOCKICE_MAX_WORD 255
 
-/* A pool has eight cells to a node. Nodes in use are the root and one for each distinct non-empty prefix of the words
- * held. Cells after the last whole node, and after this many nodes, are never read or written. A call on a dictionary
- * reads the rest of the pool, to see that it is a dictionary. To give a pool more nodes, lend it with cells of 0
- * behind its last whole node. No word of a dictionary starts or ends with a trimmed character. A pool with such a word,
- * say one kept from a release that trimmed fewer characters, is refused with 4. */
+/* A pool has eight cells to a node: a first half of four, in which the dictionary stands, and a second half of four
+ * zeros. Nodes in use are the root and one for each distinct non-empty prefix of the words held; a dictionary's first
+ * cell tells how many. Cells after the last whole node, and after this many nodes, are never read or written. A call on
+ * a dictionary reads the rest of the pool, to see that it is a dictionary. To give a pool more nodes, lend it with cells
+ * of 0 behind its last whole node. No word of a dictionary starts or ends with a trimmed character. A pool that was kept
+ * from an earlier release, with such a word or in another layout, is refused with 4. */
 #define FETLOCKICE_NODE_CELLS 8
 #define FETLOCKICE_MAX_NODES 1048576
 
 /* The bytes of stack that a call takes at most. Measured on x86-64, over hostile and deepest inputs: fetlockice_remove
- * 32,840, as it goes down a word of 255 scalars by recursion; fetlockice_decode 1,448, the others under 1,000. */
+ * 32,840, as it goes down a word of 255 scalars by recursion; fetlockice_decode 1,448, the others under 1,100. */
 #define FETLOCKICE_MAX_STACK 98304
 
 /* The scratch cells that a call on a text of n scalars asks for. */
@@ -88,10 +90,15 @@ uint32_t fetlockice_clusters(const uint32_t *text, size_t text_len, uint32_t *ou
  * eight cells. */
 uint32_t fetlockice_fresh(uint32_t *pool, size_t pool_len, size_t *count, size_t *detail);
 
-/* Adds the word, trimmed. *count: 1 if the set of words changed, else 0. A word that is held, or is empty after
- * trimming, changes nothing. Refusals 2, 3, 4, 7, 8. */
+/* Adds the word, trimmed, with class 0. *count: 1 if the words or their classes changed, else 0. A word that is held
+ * with class 0, or is empty after trimming, changes nothing. Refusals 2, 3, 4, 7, 8. */
 uint32_t fetlockice_add(uint32_t *pool, size_t pool_len, const uint32_t *word, size_t word_len, size_t *count,
                         size_t *detail);
+
+/* As fetlockice_add, with the word's class; a held word's class is replaced. *count: 1 if the words or their classes
+ * changed, else 0. fetlockice_add is this with class 0. Refusals 2, 3, 4, 7, 8. */
+uint32_t fetlockice_add_class(uint32_t *pool, size_t pool_len, const uint32_t *word, size_t word_len,
+                              uint16_t word_class, size_t *count, size_t *detail);
 
 /* Removes the word, trimmed. *count: 1 if the set of words changed, else 0. Nodes that are freed serve again.
  * Refusals 2, 3, 4, 7. */
@@ -101,6 +108,11 @@ uint32_t fetlockice_remove(uint32_t *pool, size_t pool_len, const uint32_t *word
 /* *count: 1 if the word is held, as it is and not trimmed, else 0. Refusals 2, 3, 4. */
 uint32_t fetlockice_contains(const uint32_t *pool, size_t pool_len, const uint32_t *word, size_t word_len,
                              size_t *count, size_t *detail);
+
+/* *count: 1 if the word is held as it is, else 0; *word_class: its class, 0 with a no and with a refusal. Refusals 2, 3
+ * and 4. */
+uint32_t fetlockice_contains_class(const uint32_t *pool, size_t pool_len, const uint32_t *word, size_t word_len,
+                                   size_t *count, size_t *word_class, size_t *detail);
 
 /* Writes the lengths of the words that the text starts with, rising. *count: how many, at most 255. Refusals 2, 3, 4
  * and 6. */

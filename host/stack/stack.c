@@ -20,14 +20,16 @@ static uint32_t pool[CELLS], text[LONG + 1], word[1024], out[LONG + 1], claim[LO
 static uint32_t scratch[FETLOCKICE_SCRATCH_CELLS(LONG)];
 static uint32_t text_ends[TEXTS], answers[FETLOCKICE_ANSWER_CELLS * TEXTS];
 static size_t bytes_len, pool_len, text_len, word_len, out_len, claim_len, scratch_len, answers_len;
-static size_t count, edges, detail;
+static size_t count, word_class, edges, detail;
 
 static void decode(void) { fetlockice_decode(bytes, bytes_len, out, out_len, &count, &detail); }
 static void clusters(void) { fetlockice_clusters(text, text_len, out, out_len, &count, &detail); }
 static void fresh(void) { fetlockice_fresh(pool, pool_len, &count, &detail); }
 static void add(void) { fetlockice_add(pool, pool_len, word, word_len, &count, &detail); }
+static void add_class(void) { fetlockice_add_class(pool, pool_len, word, word_len, 65535, &count, &detail); }
 static void drop(void) { fetlockice_remove(pool, pool_len, word, word_len, &count, &detail); }
 static void contains(void) { fetlockice_contains(pool, pool_len, word, word_len, &count, &detail); }
+static void class_of(void) { fetlockice_contains_class(pool, pool_len, word, word_len, &count, &word_class, &detail); }
 static void lengths(void) { fetlockice_prefix_lengths(pool, pool_len, text, text_len, out, out_len, &count, &detail); }
 static void words(void) { fetlockice_word_count(pool, pool_len, &count, &detail); }
 static void plain(void) {
@@ -59,19 +61,22 @@ static void many_sheet(void) {
                               scratch, scratch_len, &count, &detail);
 }
 
-static void (*const calls[])(void) = {decode, clusters, fresh, add,   drop,  contains,   lengths,   words,
-                                      plain,  safe,     sheet, judge, many_plain, many_safe, many_sheet};
-static const char *const names[] = {"decode",         "clusters",      "fresh",          "add",       "remove",
-                                    "contains",       "prefix_lengths", "word_count",    "cut_plain", "cut_safe",
-                                    "cut_sheet",      "check_claim",   "cut_many_plain", "cut_many_safe",
-                                    "cut_many_sheet"};
+static void (*const calls[])(void) = {decode,   clusters, fresh,      add,       add_class, drop,
+                                      contains, class_of, lengths,    words,     plain,     safe,
+                                      sheet,    judge,    many_plain, many_safe, many_sheet};
+static const char *const names[] = {
+    "decode",    "clusters",       "fresh",          "add",           "add_class",     "remove",
+    "contains",  "contains_class", "prefix_lengths", "word_count",    "cut_plain",     "cut_safe",
+    "cut_sheet", "check_claim",    "cut_many_plain", "cut_many_safe", "cut_many_sheet"};
 enum {
     DECODE,
     CLUSTERS,
     FRESH,
     ADD,
+    ADD_CLASS,
     REMOVE,
     CONTAINS,
+    CONTAINS_CLASS,
     PREFIX_LENGTHS,
     WORD_COUNT,
     CUT_PLAIN,
@@ -132,9 +137,9 @@ static void dictionary(void) {
         make(ADD);
         word_len = 1 + draw(5);
         fill(word, word_len);
-        make(ADD);
+        make(ADD_CLASS);
     }
-    make(CONTAINS), make(WORD_COUNT);
+    make(CONTAINS), make(CONTAINS_CLASS), make(WORD_COUNT);
 }
 
 /* The ends of the plain cut that was made last, as they are and with one of them changed. */
@@ -177,13 +182,13 @@ static void on_words(void) {
     for (size_t len = 0; len < 258; len += 1 + draw(3)) {
         word_len = len;
         for (size_t k = 0; k < len; k++) word[k] = 0xE01 + draw(3);
-        make(ADD), make(CONTAINS), make(REMOVE);
+        make(ADD), make(CONTAINS), make(ADD_CLASS), make(CONTAINS_CLASS), make(REMOVE);
     }
     word_len = 255;
     for (size_t k = 0; k < word_len; k++) word[k] = 0xE05;
-    make(ADD), make(REMOVE), make(ADD);
+    make(ADD), make(REMOVE), make(ADD_CLASS);
     word[254] = 0xE06;
-    make(ADD), make(REMOVE), make(REMOVE);
+    make(ADD_CLASS), make(CONTAINS_CLASS), make(REMOVE), make(REMOVE);
 }
 
 static void on_bytes(void) {

@@ -1,7 +1,7 @@
 // The dictionary.
 ghost use Rattle.host_telling.specs.Told.{told};
 ghost use Rattle.host_words.specs.Calls.{FreshTold, AddTold, RemoveTold};
-ghost use Rattle.host_words.specs.Calls.{ContainsTold, PrefixesTold, WordCountTold};
+ghost use Rattle.host_words.specs.Calls.{ContainsTold, ContainsClassTold, PrefixesTold, WordCountTold};
 
 // Makes a dictionary without words, whatever the cells held before. Refusal 8.
 #[no_mangle]
@@ -12,7 +12,23 @@ pub extern "C" fn fetlockice_fresh(pool: &mut [u32], count: &mut usize, detail: 
     host_words::fresh(pool, count, detail)
 }
 
-// Adds the trimmed word; accepted with 1 if the set changed, else 0. Refusals 2, 3, 4, 7, 8.
+// Adds the trimmed word with its class; accepted with 1 if the words or their classes changed, else
+// 0. Refusals 2, 3, 4, 7, 8.
+#[no_mangle]
+pub extern "C" fn fetlockice_add_class(
+    pool: &mut [u32],
+    word: &[u32],
+    class: u16,
+    count: &mut usize,
+    detail: &mut usize,
+) -> u32
+    ensures { λ r. ⌜ AddTold (now (word .entry)) class (now (pool .entry))
+        (told r (now (count .exit)) (now (detail .exit))) (now (pool .exit)) ⌝ }
+{
+    host_words::add_class(pool, word, class, count, detail)
+}
+
+// The same without a class, which means class 0.
 #[no_mangle]
 pub extern "C" fn fetlockice_add(
     pool: &mut [u32],
@@ -20,13 +36,13 @@ pub extern "C" fn fetlockice_add(
     count: &mut usize,
     detail: &mut usize,
 ) -> u32
-    ensures { λ r. ⌜ AddTold (now (word .entry)) (now (pool .entry))
+    ensures { λ r. ⌜ AddTold (now (word .entry)) 0 (now (pool .entry))
         (told r (now (count .exit)) (now (detail .exit))) (now (pool .exit)) ⌝ }
 {
     host_words::add(pool, word, count, detail)
 }
 
-// Removes the trimmed word; accepted with 1 if the set changed, else 0. Refusals 2, 3, 4, 7.
+// Removes the trimmed word; accepted with 1 if the words changed, else 0. Refusals 2, 3, 4, 7.
 #[no_mangle]
 pub extern "C" fn fetlockice_remove(
     pool: &mut [u32],
@@ -52,6 +68,21 @@ pub extern "C" fn fetlockice_contains(
         (told r (now (count .exit)) (now (detail .exit))) ⌝ }
 {
     host_words::contains(pool, word, count, detail)
+}
+
+// The same, and the word's class: 0 with a no and with a refusal.
+#[no_mangle]
+pub extern "C" fn fetlockice_contains_class(
+    pool: &[u32],
+    word: &[u32],
+    count: &mut usize,
+    class: &mut usize,
+    detail: &mut usize,
+) -> u32
+    ensures { λ r. ⌜ ContainsClassTold (now (word .entry)) (now (pool .entry))
+        (told r (now (count .exit)) (now (detail .exit))) (now (class .exit)) ⌝ }
+{
+    host_words::contains_class(pool, word, count, class, detail)
 }
 
 // The lengths of the words that a text starts with, rising, at the front of out; accepted with

@@ -1,1 +1,2 @@
 pub mod Pools
+pub mod Classes

@@ -3,10 +3,10 @@ use Prim.Native.Nat.{ℕ}
 use mathlib.Core.Path.{_≡_, subst}
 use mathlib.Core.List.{List}
 use Rattle.refusal.specs.declared.Answer.{Answer}
-use Rattle.trie_pool.specs.Meaning.{Words}
+use Rattle.trie_pool.specs.Meaning.{Terms}
 use Rattle.trie_char.specs.Changes.{After}
 use Rattle.host_telling.specs.Told.{Told, tells}
 use Rattle.host_telling.proofs.Answers.{telling}
 
-pub with-pool : {a b : Answer} {t : Told} → a ≡ b → t ≡ tells a → (old new : List ℕ) (words : Words) → After a old new words → (t ≡ tells b) × After b old new words
-with-pool is e old new words h = (telling is e, subst (λ (x : Answer). After x old new words) is h)
+pub with-pool : {a b : Answer} {t : Told} → a ≡ b → t ≡ tells a → (old new : List ℕ) (held : Terms) → After a old new held → (t ≡ tells b) × After b old new held
+with-pool is e old new held h = (telling is e, subst (λ (x : Answer). After x old new held) is h)

@@ -13,7 +13,8 @@ use Rattle.tcc.proofs.Marks.{ends-long, ends-at}
 use Rattle.trie_pool.specs.Cells.{markAt}
 use Rattle.trie_pool.specs.Words.{Place, none, at, on-place, child, walk, marked}
 use Rattle.trie_pool.specs.inner.Sound.{Readable}
-use Rattle.trie_pool.proofs.Shape.{within, child-found, walk-more, walk-append}
+use Rattle.trie_pool.proofs.Shape.{walk-more, walk-append}
+use Rattle.trie_pool.proofs.Walks.{child-past, readable-child}
 use Rattle.trie_search.specs.inner.Search.{toPlace}
 use Rattle.trie_search.specs.declared.search.Kid.{Kid}
 use Rattle.trie_search.specs.declared.search.Kid.the-variants.{Nothing, Is}
@@ -72,11 +73,12 @@ module _ {text pool flags : List ℕ} {e node : ℕ} (a : Asks text pool flags e
           ap (λ (p : Place). on-place false (λ r. marked (markAt pool r)) p && isEnd text (e + 1)) leads-to ∙ ap (λ (x : Bool). x && isEnd text (e + 1)) m ∙ ap (λ (x : Bool). t && x) n
 
   module _ {k : Kid} {r : ℕ} (c : toPlace k ≡ child pool node (getD text e 0)) (q : k ≡ Is r) where
-    pub found-node : Readable pool r
-    found-node =
-        let f = child-found pool node (getD text e 0) r (sym c ∙ ap toPlace q) in
-        let n = a .node-is in
-        record { nodes = n .nodes; inside = omega (arith, within pool (n .nodes) (n .shaped) node (n .inside), f .high); shaped = n .shaped; fits = n .fits; rising = n .rising }
+    found-node : Readable pool r
+    found-node = readable-child pool node (getD text e 0) r (sym c ∙ ap toPlace q) (a .node-is)
+
+    -- it is a child, so never the root
+    pub found-child : (0 < r) × Readable pool r
+    found-child = (child-past pool node (getD text e 0) r (sym c ∙ ap toPlace q) (a .node-is), found-node)
 
     pub flag-index : e + 1 < length flags
     flag-index = omega (arith, ap length (a .flags-are), ends-long text, a .inside)

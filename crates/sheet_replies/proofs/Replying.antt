@@ -10,7 +10,7 @@ use Rattle.refusal.specs.declared.Answer.{Answer}
 use Rattle.refusal.specs.declared.Answer.the-variants as answers
 use Rattle.refusal.specs.Answers.{output}
 use Rattle.utf8.specs.Decoding.{scalarsOf, decodeCauses, decoded}
-use Rattle.trie_pool.specs.Meaning.{Words, meaning}
+use Rattle.trie_pool.specs.Meaning.{Words, Terms, meaning}
 use Rattle.trie_check.specs.Refusals.{held}
 use Rattle.refusal.proofs.Causes.{again}
 use Rattle.trie_char.specs.Changes.{After}
@@ -38,8 +38,8 @@ module _ (text scalars : List ℕ) {scalars₁ : List ℕ} {d : Answer} (is : d 
     pub ended-stop : (a : Answer) → Refused r ≡ ended (next (decoded text (length scalars)) a)
     ended-stop a = ap ended (stops a)
 
-    pub pool-stop : (a : Answer) (pool : List ℕ) (words : Words) → After (next (decoded text (length scalars)) a) pool pool words
-    pool-stop a pool words = subst (λ (x : Answer). After x pool pool words) (stops a) refl
+    pub pool-stop : (a : Answer) (pool : List ℕ) (held′ : Terms) → After (next (decoded text (length scalars)) a) pool pool held′
+    pool-stop a pool held′ = subst (λ (x : Answer). After x pool pool held′) (stops a) refl
 
     pub out-stop : (a : Answer) (written row : List ℕ) → row ≡ output (next (decoded text (length scalars)) a) written row
     out-stop a written row = ap (λ (x : Answer). output x written row) (stops a)
@@ -76,10 +76,10 @@ module _ (text scalars : List ℕ) {scalars₁ : List ℕ} {d : Answer} (is : d 
     pub reported-text : (f : List ℕ → Answer) {a : Answer} {r : Reply} → a ≡ f (take n scalars₁) → r ≡ reported a → r ≡ reported (next (decoded text (length scalars)) (f (scalarsOf text)))
     reported-text f e h = h ∙ ap reported (e ∙ goes f)
 
-    pub pool-text : (f : List ℕ → Answer) (words : List ℕ → Words) (old new : List ℕ) {a : Answer} → a ≡ f (take n scalars₁) → After a old new (words (take n scalars₁))
-        → After (next (decoded text (length scalars)) (f (scalarsOf text))) old new (words (scalarsOf text))
-    pool-text f words old new {a} e h =
-        subst (λ (x : Answer). After x old new (words (scalarsOf text))) (e ∙ goes f) (subst (λ (w : Words). After a old new w) (ap words lent) h)
+    pub pool-text : (f : List ℕ → Answer) (held′ : List ℕ → Terms) (old new : List ℕ) {a : Answer} → a ≡ f (take n scalars₁) → After a old new (held′ (take n scalars₁))
+        → After (next (decoded text (length scalars)) (f (scalarsOf text))) old new (held′ (scalarsOf text))
+    pool-text f held′ old new {a} e h =
+        subst (λ (x : Answer). After x old new (held′ (scalarsOf text))) (e ∙ goes f) (subst (λ (w : Terms). After a old new w) (ap held′ lent) h)
 
     pub out-text : (f : List ℕ → Answer) (written : List ℕ → List ℕ) (row : List ℕ) {row₁ : List ℕ} → row₁ ≡ output (f (take n scalars₁)) (written (take n scalars₁)) row
         → row₁ ≡ output (next (decoded text (length scalars)) (f (scalarsOf text))) (written (scalarsOf text)) row

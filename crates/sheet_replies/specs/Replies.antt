@@ -38,9 +38,10 @@ abbrev pub next : Answer → Answer → Answer
 next (answers.Accepted n) a = a
 next (answers.Refused r) a = answers.Refused r
 
--- An addition and a removal: the answer of the dictionary's own call for the decoded text.
+-- An addition, without a class, and a removal: the answer of the dictionary's own call for the
+-- decoded text.
 abbrev pub addText : List ℕ → List ℕ → ℕ → Answer
-addText text pool room = next (decoded text room) (addAnswer (scalarsOf text) pool)
+addText text pool room = next (decoded text room) (addAnswer (scalarsOf text) 0 pool)
 
 abbrev pub removeText : List ℕ → List ℕ → ℕ → Answer
 removeText text pool room = next (decoded text room) (removeAnswer (scalarsOf text) pool)
@@ -81,7 +82,7 @@ replyOf line pool room cells places = replyTo (asked line) (textOf line) pool ro
 -- changes it.
 unfoldable pub PoolAfter : Asked → List ℕ → List ℕ → List ℕ → ℕ → Type 0
 PoolAfter Nothing text old new room = new ≡ old
-PoolAfter Add text old new room = After (addText text old room) old new (added (scalarsOf text) old)
+PoolAfter Add text old new room = After (addText text old room) old new (added (scalarsOf text) 0 old)
 PoolAfter Remove text old new room = After (removeText text old room) old new (removed (scalarsOf text) old)
 PoolAfter (Cut mode) text old new room = new ≡ old
 

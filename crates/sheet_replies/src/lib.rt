@@ -77,7 +77,7 @@ fn add(text: &[u8], pool: &mut [u32], scalars: &mut [u32]) -> Reply
         (addText (now (text .entry)) (now (pool .entry)) (length (now (scalars .entry)))) ⌝ }
     ensures { λ _. ⌜ After (addText (now (text .entry)) (now (pool .entry)) (length (now (scalars .entry))))
         (now (pool .entry)) (now (pool .exit))
-        (added (scalarsOf (now (text .entry))) (now (pool .entry))) ⌝ }
+        (added (scalarsOf (now (text .entry))) 0 (now (pool .entry))) ⌝ }
     ensures { λ _. ⌜ now (scalars .exit) ≡ output (decoded (now (text .entry)) (length (now (scalars .entry))))
         (scalarsOf (now (text .entry))) (now (scalars .entry)) ⌝ }
 {

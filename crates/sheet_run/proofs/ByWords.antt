@@ -23,12 +23,12 @@ use Rattle.char_string.specs.Blanks.{trimmedOf}
 use Rattle.theorems_unicode.proofs.Standard.{accepted, sequence-size}
 use Rattle.theorems_unicode.proofs.Encoding.{all-scalars}
 use Rattle.trie_pool.specs.Rules.{capacity}
-use Rattle.trie_pool.specs.Meaning.{Words, meaning, same, withWord, withoutWord, report}
+use Rattle.trie_pool.specs.Meaning.{Words, meaning, terms, same, withTerm, withoutTerm, reportTerm, withWord, withoutWord, report, classless}
 use Rattle.trie_pool.proofs.Rules.{clash}
 use Rattle.trie_pool.proofs.Sets.{same-true, same-self, same-false}
 use Rattle.trie_check.specs.Refusals.{isNone, held}
 use Rattle.trie_char.specs.Refusals.{nodesWith}
-use Rattle.trie_char.specs.Answers.{added, removed, addAnswer, removeAnswer, wordsOf}
+use Rattle.trie_char.specs.Answers.{added, removed, addAnswer, removeAnswer, wordsOf, termsOf}
 use Rattle.trie_char.specs.Changes.{Became, After}
 use Rattle.newmm_rules.specs.declared.Mode.{Mode}
 use Rattle.newmm_rules.specs.inner.Climbing.{Climbs}
@@ -46,6 +46,7 @@ use Rattle.sheet_texts.specs.Texts.{lineOf, textOfReply, spaced}
 use Rattle.sheet_input.specs.Feeding.{told}
 use Rattle.sheet_replies.proofs.Asking.{asked-long}
 use Rattle.sheet_run.specs.Program.{among, including, excluding, nodes, wordOf, addedIn, removedIn, endsIn, cutIn, replyIn, toldEnds, ifAccepted, wordsIn, wordsBehind, toldFor}
+use Rattle.sheet_run.proofs.Classless.{means-words, more-told, less-told}
 use Rattle.sheet_run.proofs.Counting.{among-more, nodes-are}
 
 -- ---- the words behind an addition or a removal
@@ -132,18 +133,21 @@ module _ (text : List ℕ) (short : length text ≤ 1023) where
       go true e = f e
       go false e = refl
 
-  module _ (pool : List ℕ) (words : List (List ℕ)) (m : meaning pool ≡ some (among words)) (size : length pool ≡ 16384) where
+  module _ (pool : List ℕ) (words : List (List ℕ)) (m : terms pool ≡ some (classless (among words))) (size : length pool ≡ 16384) where
+    means : meaning pool ≡ some (among words)
+    means = means-words pool (among words) m
+
     pub words-are : wordsOf pool ≡ among words
-    words-are = ap held m
+    words-are = ap held means
 
     no-four : isNone (meaning pool) ≡ false
-    no-four = ap isNone m
+    no-four = ap isNone means
 
     cap : capacity pool ≡ 2048
     cap = ap (λ (n : ℕ). min (n / 8) 1048576) size
 
     pub add-is : addText text pool 1023 ≡ addedIn text words
-    add-is = decodes (addAnswer (scalarsOf text) pool) ∙ goes-on _ _ here
+    add-is = decodes (addAnswer (scalarsOf text) 0 pool) ∙ goes-on _ _ here
       where
         w : List ℕ
         w = wordOf text
@@ -152,14 +156,14 @@ module _ (text : List ℕ) (short : length text ≤ 1023) where
         late k c n = cond (ltb 255 (length w)) (answers.Refused (WordTooLong (length w))) (cond (ltb c k) (answers.Refused (TooFewNodes (k - c))) (answers.Accepted n))
 
         old : ℕ
-        old = report w (wordsOf pool) (withWord w (wordsOf pool))
+        old = reportTerm w (termsOf pool) (withTerm w 0 (termsOf pool))
 
         told′ : old ≡ report w (among words) (among (including w words))
-        told′ = ap (λ (f : Words). report w f (withWord w f)) words-are ∙ ap (report w (among words)) (sym (among-with w words))
+        told′ = more-told pool (among words) m w ∙ ap (report w (among words)) (sym (among-with w words))
 
-        here : runAll text .whole ≡ true → addAnswer (scalarsOf text) pool ≡ late (nodes (including w words)) 2048 (report w (among words) (among (including w words)))
+        here : runAll text .whole ≡ true → addAnswer (scalarsOf text) 0 pool ≡ late (nodes (including w words)) 2048 (report w (among words) (among (including w words)))
         here e =
-            three-no _ _ _ _ (no-two e) (no-three e) no-four ∙ ap (λ (k : ℕ). late k (capacity pool) old) (nodes-are pool words m w) ∙ ap (λ (c : ℕ). late (nodes (including w words)) c old) cap
+            three-no _ _ _ _ (no-two e) (no-three e) no-four ∙ ap (λ (k : ℕ). late k (capacity pool) old) (nodes-are pool words means w) ∙ ap (λ (c : ℕ). late (nodes (including w words)) c old) cap
             ∙ ap (late (nodes (including w words)) 2048) told′
 
     pub remove-is : removeText text pool 1023 ≡ removedIn text words
@@ -171,8 +175,8 @@ module _ (text : List ℕ) (short : length text ≤ 1023) where
         late : ℕ → Answer
         late n = cond (ltb 255 (length w)) (answers.Refused (WordTooLong (length w))) (answers.Accepted n)
 
-        told′ : report w (wordsOf pool) (withoutWord w (wordsOf pool)) ≡ report w (among words) (among (excluding w words))
-        told′ = ap (λ (f : Words). report w f (withoutWord w f)) words-are ∙ ap (report w (among words)) (sym (among-without w words))
+        told′ : reportTerm w (termsOf pool) (withoutTerm w (termsOf pool)) ≡ report w (among words) (among (excluding w words))
+        told′ = less-told pool (among words) m w ∙ ap (report w (among words)) (sym (among-without w words))
 
         here : runAll text .whole ≡ true → removeAnswer (scalarsOf text) pool ≡ late (report w (among words) (among (excluding w words)))
         here e = three-no _ _ _ _ (no-two e) (no-three e) no-four ∙ ap late told′

@@ -1,3 +1,4 @@
+pub mod Classless
 pub mod Counting
 pub mod ByWords
 pub mod Telling

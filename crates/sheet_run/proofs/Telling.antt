@@ -19,7 +19,8 @@ use Rattle.refusal.specs.declared.Answer.the-variants as answers
 use Rattle.refusal.specs.Numbers.{numberOf, detailOf}
 use Rattle.refusal.specs.Answers.{output}
 use Rattle.utf8.specs.Decoding.{runAll, scalarsOf}
-use Rattle.trie_pool.specs.Meaning.{Words, meaning, withWord, withoutWord, report}
+use Rattle.trie_pool.specs.Meaning.{Words, Terms, meaning, terms, report, classless}
+use Rattle.sheet_run.proofs.Classless.{more-are, less-are}
 use Rattle.trie_check.specs.Refusals.{held}
 use Rattle.trie_char.specs.Answers.{added, removed, wordsOf}
 use Rattle.trie_char.specs.Changes.{Became, After}
@@ -45,12 +46,12 @@ report-told (answers.Accepted n) row = refl
 report-told (answers.Refused r) row = refl
 
 -- the pool behind an answer
-after-holds : (a : Answer) (old new : List ℕ) (f : Words) (more words : List (List ℕ)) → After a old new f → f ≡ among more → meaning old ≡ some (among words) → length old ≡ 16384
-    → (meaning new ≡ some (among (ifAccepted a more words))) × (length new ≡ 16384)
+after-holds : (a : Answer) (old new : List ℕ) (f : Terms) (more words : List (List ℕ)) → After a old new f → f ≡ classless (among more) → terms old ≡ some (classless (among words)) → length old ≡ 16384
+    → (terms new ≡ some (classless (among (ifAccepted a more words)))) × (length new ≡ 16384)
 after-holds (answers.Accepted n) old new f more words b e m s = (b .means ∙ ap some e, b .kept ∙ s)
-after-holds (answers.Refused r) old new f more words b e m s = (ap meaning b ∙ m, ap length b ∙ s)
+after-holds (answers.Refused r) old new f more words b e m s = (ap terms b ∙ m, ap length b ∙ s)
 
-module _ (text : List ℕ) (short : length text ≤ 1023) (pool : List ℕ) (words : List (List ℕ)) (m : meaning pool ≡ some (among words)) (size : length pool ≡ 16384) where
+module _ (text : List ℕ) (short : length text ≤ 1023) (pool : List ℕ) (words : List (List ℕ)) (m : terms pool ≡ some (classless (among words))) (size : length pool ≡ 16384) where
   cut-told : (mode : Mode) (row : List ℕ) → length row ≡ 1023
       → lineOf (ended (cutText mode text pool 1023 9335 (length row))) (output (cutText mode text pool 1023 9335 (length row)) (cutOf mode (held (meaning pool)) (scalarsOf text) .ends) row)
       ≡ lineOf (ended (cutIn mode text words)) (endsIn mode text words)
@@ -74,18 +75,18 @@ module _ (text : List ℕ) (short : length text ≤ 1023) (pool : List ℕ) (wor
   text-told Remove row r = report-told (removeText text pool 1023) row ∙ ap (λ (a : Answer). lineOf (reported a) []) (remove-is text short pool words m size)
   text-told (Cut mode) row r = cut-told mode row r
 
-  text-pool : (k : Asked) (new : List ℕ) → PoolAfter k text pool new 1023 → (meaning new ≡ some (among (wordsIn k text words))) × (length new ≡ 16384)
+  text-pool : (k : Asked) (new : List ℕ) → PoolAfter k text pool new 1023 → (terms new ≡ some (classless (among (wordsIn k text words)))) × (length new ≡ 16384)
   unfolding PoolAfter wordsIn
-  text-pool Nothing new e = (ap meaning e ∙ m, ap length e ∙ size)
-  text-pool (Cut mode) new e = (ap meaning e ∙ m, ap length e ∙ size)
+  text-pool Nothing new e = (ap terms e ∙ m, ap length e ∙ size)
+  text-pool (Cut mode) new e = (ap terms e ∙ m, ap length e ∙ size)
   text-pool Add new a =
-      after-holds (addedIn text words) pool new (added (scalarsOf text) pool) (including (wordOf text) words) words
-      (subst (λ (x : Answer). After x pool new (added (scalarsOf text) pool)) (add-is text short pool words m size) a)
-      (ap (withWord (wordOf text)) (words-are text short pool words m size) ∙ sym (among-with (wordOf text) words)) m size
+      after-holds (addedIn text words) pool new (added (scalarsOf text) 0 pool) (including (wordOf text) words) words
+      (subst (λ (x : Answer). After x pool new (added (scalarsOf text) 0 pool)) (add-is text short pool words m size) a)
+      (more-are pool (among words) m (wordOf text) ∙ ap classless (sym (among-with (wordOf text) words))) m size
   text-pool Remove new a =
       after-holds (removedIn text words) pool new (removed (scalarsOf text) pool) (excluding (wordOf text) words) words
       (subst (λ (x : Answer). After x pool new (removed (scalarsOf text) pool)) (remove-is text short pool words m size) a)
-      (ap (withoutWord (wordOf text)) (words-are text short pool words m size) ∙ sym (among-without (wordOf text) words)) m size
+      (less-are pool (among words) m (wordOf text) ∙ ap classless (sym (among-without (wordOf text) words))) m size
 
 -- a line that asks nothing is answered alike, whatever its text
 nothing-line : (text pool : List ℕ) (words : List (List ℕ)) (row : List ℕ)
@@ -93,10 +94,10 @@ nothing-line : (text pool : List ℕ) (words : List (List ℕ)) (row : List ℕ)
 unfolding replyTo endsAfter replyIn toldEnds
 nothing-line text pool words row = refl
 
-pub nothing-pool : (text pool : List ℕ) (words : List (List ℕ)) → meaning pool ≡ some (among words) → length pool ≡ 16384 → (new : List ℕ) → PoolAfter Nothing text pool new 1023
-    → (meaning new ≡ some (among (wordsIn Nothing text words))) × (length new ≡ 16384)
+pub nothing-pool : (text pool : List ℕ) (words : List (List ℕ)) → terms pool ≡ some (classless (among words)) → length pool ≡ 16384 → (new : List ℕ) → PoolAfter Nothing text pool new 1023
+    → (terms new ≡ some (classless (among (wordsIn Nothing text words)))) × (length new ≡ 16384)
 unfolding PoolAfter wordsIn
-nothing-pool text pool words m size new e = (ap meaning e ∙ m, ap length e ∙ size)
+nothing-pool text pool words m size new e = (ap terms e ∙ m, ap length e ∙ size)
 
 nothing-told : (text other : List ℕ) (words : List (List ℕ)) → lineOf (replyIn Nothing text words) (toldEnds Nothing text words) ≡ lineOf (replyIn Nothing other words) (toldEnds Nothing other words)
 unfolding replyIn toldEnds
@@ -195,7 +196,7 @@ long line h = sym (asked-long line (λ e. omega arith) h)
 
 -- With a pool of 2,048 nodes that holds the words, 1,023 cells for scalars and for ends, and 9,335
 -- cells of scratch, a line is answered by the words alone.
-module _ (line pool : List ℕ) (words : List (List ℕ)) (m : meaning pool ≡ some (among words)) (size : length pool ≡ 16384) where
+module _ (line pool : List ℕ) (words : List (List ℕ)) (m : terms pool ≡ some (classless (among words))) (size : length pool ≡ 16384) where
   pub line-told : (row : List ℕ) → length row ≡ 1023 → told line pool 1023 9335 row ≡ toldFor line words
   line-told row r =
       elim (decLt 1024 (length line)) [
@@ -212,10 +213,10 @@ module _ (line pool : List ℕ) (words : List (List ℕ)) (m : meaning pool ≡ 
           ap (λ (j : Asked). lineOf (replyTo j (textOf line) pool 1023 9335 (length row)) (endsAfter j (textOf line) pool 1023 9335 row)) e ∙ none′
           ∙ sym (ap (λ (j : Asked). lineOf (replyIn j (textOf line) words) (toldEnds j (textOf line) words)) e)
 
-  pub line-pool : (new : List ℕ) → PoolAfter (asked line) (textOf line) pool new 1023 → (meaning new ≡ some (among (wordsBehind line words))) × (length new ≡ 16384)
+  pub line-pool : (new : List ℕ) → PoolAfter (asked line) (textOf line) pool new 1023 → (terms new ≡ some (classless (among (wordsBehind line words)))) × (length new ≡ 16384)
   line-pool new a =
       elim (decLt 1024 (length line)) [
-        | yes l ↦ subst (λ (k : Asked). (meaning new ≡ some (among (wordsIn k (textOf line) words))) × (length new ≡ 16384)) (sym (long line l))
+        | yes l ↦ subst (λ (k : Asked). (terms new ≡ some (classless (among (wordsIn k (textOf line) words)))) × (length new ≡ 16384)) (sym (long line l))
             (nothing-pool (textOf line) pool words m size new (subst (λ (k : Asked). PoolAfter k (textOf line) pool new 1023) (long line l) a))
         | no n ↦ text-pool (textOf line) (line-fits line (omega arith)) pool words m size (asked line) new a
       ]

@@ -13,7 +13,7 @@ use lib.Seq.{take-append-seam, take-all, length-take-le}
 use borrow.Author.Tests.{ltb-true, ltb-false, eqb-true, eqb-false}
 use Rattle.lists.specs.Scans.{leading}
 use Rattle.lists.proofs.Scans.{leading-inside}
-use Rattle.trie_pool.specs.Meaning.{meaning, noWord}
+use Rattle.trie_pool.specs.Meaning.{terms, noTerm, classless}
 use Rattle.sheet_input.specs.declared.Fed.{Fed}
 use Rattle.sheet_replies.specs.declared.Asked.{Asked}
 use Rattle.sheet_replies.specs.declared.Asked.the-variants.{Nothing}
@@ -123,10 +123,10 @@ module _ (bytes row pool scalars ends scratch out : List ℕ) (used : ℕ)
       told-is : take (amount (texts (lineWith bytes row used)) out) (written (texts (lineWith bytes row used)) out) ≡ toldFor whole words
       told-is = told-whole (lineWith bytes row used) ∙ ap (λ (l : List ℕ). toldFor l words) with-is ∙ front-told whole words
 
-      pool-is : meaning pool₁ ≡ some (among (wordsBehind whole words))
+      pool-is : terms pool₁ ≡ some (classless (among (wordsBehind whole words)))
       pool-is =
           line-pool (lineWith bytes row used) pool words (h .means) pool-long pool₁ (subst (λ (n : ℕ). PoolAfter (asked (lineWith bytes row used)) (textOf (lineWith bytes row used)) pool pool₁ n) scalars-long after) .0
-          ∙ ap (λ (l : List ℕ). some (among (wordsBehind l words))) with-is ∙ ap (λ (l : List (List ℕ)). some (among l)) (front-words whole words)
+          ∙ ap (λ (l : List ℕ). some (classless (among (wordsBehind l words)))) with-is ∙ ap (λ (l : List (List ℕ)). some (classless (among l))) (front-words whole words)
 
       run-end : (more : List ℕ) → left words begun (bytes ++ more) ≡ toldFor whole words ++ left (wordsBehind whole words) [] (drop (suc (lineEnd bytes)) bytes ++ more)
       unfolding replies
@@ -157,7 +157,7 @@ module _ (bytes row pool scalars ends scratch out : List ℕ) (used : ℕ)
         holds = record {
           bytes = ap (take (length (lineWith bytes row used))) is ∙ take-append-seam (lineWith bytes row used) (drop (length (lineWith bytes row used)) row) ∙ kept-is;
           size = ap length kept-is;
-          means = ap meaning same ∙ h .means;
+          means = ap terms same ∙ h .means;
         };
         run-on = λ more. ap (replies words) (lines-on begun bytes more e) ∙ ap (λ (l : List ℕ). left words (begun ++ bytes) (l ++ more)) (sym (drop-of-length-le bytes e));
       }
@@ -214,10 +214,10 @@ any-parts (step part more row₁ pool₁ out r s c) begun words h =
     ap (λ (t : List ℕ). take (r .written) out ++ t) (any-parts c (l .begun₁) (l .words₁) (l .holds)) ∙ sym (l .run-on more)
 any-parts (last out n f) begun words h = sym (f begun words h)
 
-fresh-holds : (row pool : List ℕ) → meaning pool ≡ some noWord → Holds row 0 pool [] []
+fresh-holds : (row pool : List ℕ) → terms pool ≡ some noTerm → Holds row 0 pool [] []
 unfolding among
 fresh-holds row pool m = record { bytes = refl; size = refl; means = m }
 
 -- From a fresh pool they give the run.
-pub whole-run : {row pool input output : List ℕ} → meaning pool ≡ some noWord → Calls row 0 pool input output → output ≡ run input
+pub whole-run : {row pool input output : List ℕ} → terms pool ≡ some noTerm → Calls row 0 pool input output → output ≡ run input
 whole-run {row} {pool} m c = any-parts c [] [] (fresh-holds row pool m)

@@ -14,7 +14,7 @@ use Rattle.refusal.specs.declared.Answer.the-variants as answers
 use Rattle.refusal.specs.Answers.{Cause, answer}
 use Rattle.utf8.specs.Decoding.{runAll, scalarsOf}
 use Rattle.char_string.specs.Blanks.{trimmedOf}
-use Rattle.trie_pool.specs.Meaning.{Words, meaning, same, report}
+use Rattle.trie_pool.specs.Meaning.{Words, terms, same, report, classless}
 use Rattle.trie_char.specs.Refusals.{lengthCauses}
 use Rattle.newmm_rules.specs.declared.Mode.{Mode}
 use Rattle.newmm_answers.specs.Answers.{cutOf}
@@ -161,11 +161,11 @@ run bytes = left [] [] bytes
 -- ---- a run in parts
 
 -- What the rows hold between two calls: the first bytes of the line that has begun, and the pool
--- of the words. 1,025 bytes of a line are kept, one more than a line may have.
+-- of the words, all without a class. 1,025 bytes of a line are kept, one more than a line may have.
 pub record Holds (row : List ℕ) (kept : ℕ) (pool begun : List ℕ) (words : List (List ℕ)) : Type 0 where
   pub bytes : take kept row ≡ take 1025 begun
   pub size : kept ≡ length (take 1025 begun)
-  pub means : meaning pool ≡ some (among words)
+  pub means : terms pool ≡ some (classless (among words))
 
 -- What a call leaves: rows that hold a line that has begun and words, so that what was to be
 -- written is what the call wrote and then what is left.

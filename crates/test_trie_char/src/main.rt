@@ -17,8 +17,13 @@ use test_lines::print_refusal;
 use test_lines::read_cells;
 use test_lines::read_input;
 use test_lines::tail;
+use test_words::has_class;
+use test_words::hold;
+use test_words::read_class;
+use test_words::read_word;
+use trie_char::WordAnswer;
 
-const INPUT: usize = 294912;
+const INPUT: usize = 393216;
 
 const POOL: usize = 65536;
 
@@ -109,8 +114,23 @@ fn step(text: &[u8], pool: &mut [u32], cells: &mut [u32], out: &mut [u32]) {
         print_cells(pool);
         return;
     }
-    let n = read_cells(tail(text), cells);
+    let word = tail(text);
+    let n = read_word(word, cells);
+    if has_class(word) {
+        class_step(op, pool, first(cells, n), read_class(word));
+        return;
+    }
     word_step(op, pool, first(cells, n), out);
+}
+
+// Only an add gives a class.
+fn class_step(op: u8, pool: &mut [u32], word: &[u32], class: u16) {
+    if op == b'+' {
+        let answer = trie_char::add_class(pool, word, class);
+        told(answer);
+        return;
+    }
+    print(b"?");
 }
 
 fn word_step(op: u8, pool: &mut [u32], word: &[u32], out: &mut [u32]) {
@@ -154,11 +174,12 @@ fn refused(r: Refusal) {
 fn held(pool: &[u32], word: &[u32]) {
     let answer = trie_char::contain(pool, word);
     match answer {
-        Answer::Accepted(n) => {
+        WordAnswer::Held(n, class) => {
             print_number(n);
-            print(b".0");
+            print(b".");
+            print_number(class);
         }
-        Answer::Refused(r) => refused(r),
+        WordAnswer::Refused(r) => refused(r),
     }
 }
 
@@ -175,8 +196,8 @@ fn in_use(pool: &[u32]) {
     let answer = trie_char::amount_of_words(pool);
     match answer {
         Answer::Accepted(_) => {
-            if 4 < pool.len() {
-                print_number(wide(pool[4]));
+            if 0 < pool.len() {
+                print_number(wide(pool[0]));
             }
         }
         Answer::Refused(r) => refused(r),
@@ -186,23 +207,10 @@ fn in_use(pool: &[u32]) {
 // prefix words, scalars, out cells => ok lengths
 fn prefix(line: &[u8], pool: &mut [u32], cells: &mut [u32], out: &mut [u32]) {
     smear(pool);
-    trie_char::fresh(pool);
-    words(field(line, 1), pool, cells);
+    let held = hold(field(line, 1), cells, pool);
     let n = read_cells(field(line, 2), cells);
     let room = lent(field(line, 3), out.len());
-    starts(pool, first(cells, n), &mut out[0..room]);
-}
-
-fn words(list: &[u8], pool: &mut [u32], cells: &mut [u32]) {
-    if is(list, b"-") {
-        return;
-    }
-    let mut at = 0;
-    while at < list.len() {
-        let n = read_cells(part_at(part_at(list, at, b','), 0, b':'), cells);
-        trie_char::add(pool, first(cells, n));
-        at = behind(list, at, b',');
-    }
+    starts(first(pool, held), first(cells, n), &mut out[0..room]);
 }
 
 fn starts(pool: &[u32], text: &[u32], out: &mut [u32]) {

@@ -2,6 +2,7 @@
 // in a pool.
 use refusal::Answer;
 use test_lines::behind;
+use test_lines::number;
 use test_lines::part_at;
 use test_lines::print;
 use test_lines::read_cells;
@@ -49,8 +50,9 @@ fn cells_for(words: &[u8], row: &mut [u32], most: usize) -> usize
 fn add_words(words: &[u8], row: &mut [u32], pool: &mut [u32]) {
     let mut at = 0;
     while at < words.len() {
-        let n = read_word(part_at(words, at, b','), row);
-        let added = trie_char::add(pool, &row[..n]);
+        let word = part_at(words, at, b',');
+        let n = read_word(word, row);
+        let added = trie_char::add_class(pool, &row[..n], read_class(word));
         expect_done(added);
         at = behind(words, at, b',');
     }
@@ -61,6 +63,24 @@ pub fn read_word(word: &[u8], row: &mut [u32]) -> usize
     ensures { λ r. ⌜ Counts r (now (row .exit)) ⌝ }
 {
     read_cells(part_at(word, 0, b':'), row)
+}
+
+// Whether a word has a class behind it.
+pub fn has_class(word: &[u8]) -> bool {
+    behind(word, 0, b':') < word.len()
+}
+
+// The class behind a word, 0 where it has none. Where it is no number up to 65,535 a `?` is written.
+pub fn read_class(word: &[u8]) -> u16 {
+    if !has_class(word) {
+        return 0;
+    }
+    let class = number(part_at(word, behind(word, 0, b':'), b':'));
+    if 65535 < class {
+        print(b"?");
+        return 0;
+    }
+    class as u16
 }
 
 fn expect_done(a: Answer) {

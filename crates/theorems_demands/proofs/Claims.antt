@@ -17,7 +17,8 @@ use Rattle.char_string.specs.Scalars.{firstNonScalar}
 use Rattle.tcc_rules.specs.Patterns.{holdsAt, match}
 use Rattle.tcc_rules.specs.Clusters.{clusterEnd, endsFrom, clusterEnds}
 use Rattle.tcc.specs.Flags.{isEnd}
-use Rattle.trie_pool.specs.Meaning.{Words, meaning}
+use Rattle.trie_pool.specs.Meaning.{Words, wordsIn, meaning}
+use Rattle.trie_pool.proofs.Terms.{means-of}
 use Rattle.trie_check.specs.Refusals.{held}
 use Rattle.newmm_rules.specs.Positions.{upFrom, those, firstOr, any, inserted}
 use Rattle.newmm_rules.specs.NonThai.{groups, number, firstMatch, nonThai}
@@ -127,7 +128,7 @@ same-words-same-verdict a b v w pa pb same text claimed u h room =
     ∙ same-told (b .text) (b .claimed) w (length (b .scratch)) room (length (a .scratch)) _ refl u ha
 
 pub reached-same-verdict : ReachedSameVerdict
-reached-same-verdict a b v w ra rb = same-words-same-verdict a b v w (means ra) (means rb)
+reached-same-verdict a b v w ra rb = same-words-same-verdict a b (wordsIn v) (wordsIn w) (means-of (a .pool) v (means ra)) (means-of (b .pool) w (means rb))
 
 some-one : {v w : Words} → _≡_ {A = Option Words} (some v) (some w) → v ≡ w
 some-one h = cc

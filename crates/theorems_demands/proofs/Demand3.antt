@@ -13,7 +13,8 @@ use Rattle.refusal.specs.declared.Refusal.{Refusal}
 use Rattle.refusal.specs.declared.Answer.{Answer}
 use Rattle.refusal.specs.declared.Answer.the-variants.{Accepted, Refused}
 use Rattle.refusal.specs.Answers.{Cause, answer, output}
-use Rattle.trie_pool.specs.Meaning.{Words, meaning}
+use Rattle.trie_pool.specs.Meaning.{Words, wordsIn, meaning}
+use Rattle.trie_pool.proofs.Terms.{means-of}
 use Rattle.trie_check.specs.Refusals.{held}
 use Rattle.refusal.proofs.Causes.{None, none-of}
 use Rattle.newmm_rules.specs.declared.Mode.{Mode}
@@ -64,6 +65,6 @@ demand-3-any a b v w pa pb same text mode n edges h s o =
           ∙ sym (λ i. take n (outAfter (mode i) (text i) (ma i) (length (a .scratch)) (a .out))),
     )
 
--- two pools that were reached from fresh ones
+-- two pools that were reached from fresh ones, with whatever classes
 pub demand-3 : Demand3
-demand-3 a b v w ra rb = demand-3-any a b v w (means ra) (means rb)
+demand-3 a b v w ra rb = demand-3-any a b (wordsIn v) (wordsIn w) (means-of (a .pool) v (means ra)) (means-of (b .pool) w (means rb))

@@ -5,7 +5,7 @@ use mathlib.Core.Path.{_≡_}
 use mathlib.Core.List.{List, [], _∷_}
 use mathlib.Core.Option.{some}
 use lib.ListN.{length, take}
-use Rattle.trie_pool.specs.Meaning.{Words, meaning}
+use Rattle.trie_pool.specs.Meaning.{Words, Terms, wordsIn, meaning}
 use Rattle.newmm_rules.specs.Words.{Given, size}
 use Rattle.newmm_rules.specs.Tokens.{Token, Tokens}
 use Rattle.newmm_rules.specs.Claims.{Verdict, right, wrong, verdict}
@@ -95,11 +95,11 @@ SameWordsSameVerdict =
     → ((x : List ℕ) → v x ≡ w x)
     → SameVerdict a b
 
--- The same for two pools that were reached from fresh ones.
+-- The same for two pools that were reached from fresh ones, with whatever classes.
 abbrev pub ReachedSameVerdict : Type 0
 ReachedSameVerdict =
-    (a b : Claim) (v w : Words)
+    (a b : Claim) (v w : Terms)
     → Reached (a .pool) v
     → Reached (b .pool) w
-    → ((x : List ℕ) → v x ≡ w x)
+    → ((x : List ℕ) → wordsIn v x ≡ wordsIn w x)
     → SameVerdict a b

@@ -9,7 +9,7 @@ use lib.ListN.{length, take}
 use Rattle.refusal.specs.declared.Answer.{Answer}
 use Rattle.refusal.specs.declared.Answer.the-variants.{Accepted}
 use Rattle.char_string.specs.Blanks.{trimmedOf}
-use Rattle.trie_pool.specs.Meaning.{Words, meaning, noWord, withWord, withoutWord}
+use Rattle.trie_pool.specs.Meaning.{Words, Terms, wordsIn, meaning, noTerm, withTerm, withoutTerm}
 use Rattle.trie_char.specs.Answers.{freshAnswer, addAnswer, added, removeAnswer, removed}
 use Rattle.trie_char.specs.Changes.{After}
 use Rattle.newmm_answers.specs.declared.CutAnswer.the-variants.{Ends}
@@ -19,26 +19,27 @@ use Rattle.newmm_answers.specs.Calls.{Call, answerOf, outOf}
 -- What the contracts of `fresh`, `add` and `remove` say of a call: its answer, and the pool before
 -- and after it.
 abbrev pub Freshened : Answer → List ℕ → List ℕ → Type 0
-Freshened r old new = (r ≡ freshAnswer old) × After r old new noWord
+Freshened r old new = (r ≡ freshAnswer old) × After r old new noTerm
 
-abbrev pub Added : Answer → List ℕ → List ℕ → List ℕ → Type 0
-Added r word old new = (r ≡ addAnswer word old) × After r old new (added word old)
+abbrev pub Added : Answer → List ℕ → ℕ → List ℕ → List ℕ → Type 0
+Added r word class old new = (r ≡ addAnswer word class old) × After r old new (added word class old)
 
 abbrev pub Taken : Answer → List ℕ → List ℕ → List ℕ → Type 0
 Taken r word old new = (r ≡ removeAnswer word old) × After r old new (removed word old)
 
 -- A pool of any size that is reached from a fresh one by accepted adds and removals, and the words
--- that they leave. A refused call leaves a reached pool reached (Pools, `StillReached`).
-pub data Reached : List ℕ → Words → Type 0 where
-  fresh : {old new : List ℕ} {n : ℕ} → Freshened (Accepted n) old new → Reached new noWord
-  add : {old new : List ℕ} {words : Words} {n : ℕ} (word : List ℕ)
-      → Reached old words
-      → Added (Accepted n) word old new
-      → Reached new (withWord (trimmedOf word) words)
-  remove : {old new : List ℕ} {words : Words} {n : ℕ} (word : List ℕ)
-      → Reached old words
+-- with their classes that they leave. An add without a class has class 0. A refused call leaves a
+-- reached pool reached (Pools, `StillReached`).
+pub data Reached : List ℕ → Terms → Type 0 where
+  fresh : {old new : List ℕ} {n : ℕ} → Freshened (Accepted n) old new → Reached new noTerm
+  add : {old new : List ℕ} {held : Terms} {n : ℕ} (word : List ℕ) (class : ℕ)
+      → Reached old held
+      → Added (Accepted n) word class old new
+      → Reached new (withTerm (trimmedOf word) class held)
+  remove : {old new : List ℕ} {held : Terms} {n : ℕ} (word : List ℕ)
+      → Reached old held
       → Taken (Accepted n) word old new
-      → Reached new (withoutWord (trimmedOf word) words)
+      → Reached new (withoutTerm (trimmedOf word) held)
 
 -- Two calls with the same text and mode. If one answers, and the other has 9n+128 cells of scratch
 -- and room for those ends, then the other answers too, with the same number of ends, the same edge
@@ -63,11 +64,11 @@ Demand3Any =
     → ((x : List ℕ) → v x ≡ w x)
     → SameAnswer a b
 
--- Two pools that were reached from fresh ones and hold the same words.
+-- Two pools that were reached from fresh ones and hold the same words, with whatever classes.
 abbrev pub Demand3 : Type 0
 Demand3 =
-    (a b : Call) (v w : Words)
+    (a b : Call) (v w : Terms)
     → Reached (a .pool) v
     → Reached (b .pool) w
-    → ((x : List ℕ) → v x ≡ w x)
+    → ((x : List ℕ) → wordsIn v x ≡ wordsIn w x)
     → SameAnswer a b

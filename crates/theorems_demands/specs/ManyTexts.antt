@@ -6,7 +6,7 @@ use mathlib.Core.List.{List, [], _∷_, _++_, map}
 use lib.ListN.{length, getD, take, drop, replicate}
 use Rattle.refusal.specs.declared.Answer.the-variants.{Accepted}
 use Rattle.refusal.specs.Answers.{answer}
-use Rattle.trie_pool.specs.Meaning.{Words, meaning}
+use Rattle.trie_pool.specs.Meaning.{Terms, wordsIn, meaning}
 use Rattle.newmm_rules.specs.declared.Mode.{Mode}
 use Rattle.newmm_answers.specs.declared.CutAnswer.{CutAnswer}
 use Rattle.newmm_answers.specs.Answers.{scratchFor, firstCauses}
@@ -57,9 +57,9 @@ ManyScratch =
     × (((i : ℕ) → i < n → Past5 c i → ⊥) → manyScratch c ≡ c .scratch)
 
 -- DEMAND 3 FOR EACH TEXT. Text i of one call and text j of another are the same, in the same mode
--- and by the same words. If the one is answered with k ends, and the other call has 9n+128 cells of
--- scratch for its text and room for those ends, then the other is told the same four cells and the
--- same ends.
+-- and by the same words, with whatever classes. If the one is answered with k ends, and the other
+-- call has 9n+128 cells of scratch for its text and room for those ends, then the other is told the
+-- same four cells and the same ends.
 abbrev pub SameTexts : (a b : ManyCall) → (i j : ℕ) → Type 0
 SameTexts a b i j =
     textAt a i ≡ textAt b j
@@ -73,10 +73,10 @@ SameTexts a b i j =
 
 abbrev pub Demand3Many : Type 0
 Demand3Many =
-    (a b : ManyCall) (v w : Words)
+    (a b : ManyCall) (v w : Terms)
     → Reached (a .pool) v
     → Reached (b .pool) w
-    → ((x : List ℕ) → v x ≡ w x)
+    → ((x : List ℕ) → wordsIn v x ≡ wordsIn w x)
     → (n m i j : ℕ)
     → manyAnswer a ≡ Accepted n
     → manyAnswer b ≡ Accepted m

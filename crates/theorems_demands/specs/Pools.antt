@@ -9,31 +9,32 @@ use Rattle.refusal.specs.declared.Refusal.{Refusal}
 use Rattle.refusal.specs.declared.Answer.the-variants.{Refused}
 use Rattle.trie_pool.specs.Words.{Word}
 use Rattle.trie_pool.specs.Rules.{isDictionary}
-use Rattle.trie_pool.specs.Meaning.{Words, meaning}
+use Rattle.trie_pool.specs.Meaning.{Words, Terms, meaning, terms}
 use Rattle.theorems_demands.specs.Demand3.{Freshened, Added, Taken, Reached}
 
--- Every pool reached from a fresh one passes, and means the words that the calls left.
+-- Every pool reached from a fresh one passes, and means the words with the classes that the calls
+-- left.
 abbrev pub Passes : Type 0
-Passes = (pool : List ℕ) (words : Words) → Reached pool words → (isDictionary pool ≡ true) × (meaning pool ≡ some words)
+Passes = (pool : List ℕ) (held : Terms) → Reached pool held → (isDictionary pool ≡ true) × (terms pool ≡ some held)
 
--- A refused call leaves a reached pool reached, with the same words.
+-- A refused call leaves a reached pool reached, with the same words and classes.
 abbrev pub StillReached : Type 0
 StillReached =
-    (old new word : List ℕ) (words : Words) (r : Refusal)
-    → Reached old words
-    → (Freshened (Refused r) old new → Reached new words)
-    × (Added (Refused r) word old new → Reached new words)
-    × (Taken (Refused r) word old new → Reached new words)
+    (old new word : List ℕ) (class : ℕ) (held : Terms) (r : Refusal)
+    → Reached old held
+    → (Freshened (Refused r) old new → Reached new held)
+    × (Added (Refused r) word class old new → Reached new held)
+    × (Taken (Refused r) word old new → Reached new held)
 
 -- A pool of whole nodes that passes, lent with j more nodes of zeros behind them, means the same
--- words: it passes too.
+-- words with the same classes: it passes too.
 abbrev pub Grown : Type 0
 Grown =
     (pool : List ℕ) (m j : ℕ)
     → length pool ≡ 8 * m
     → m + j ≤ 1048576
     → isDictionary pool ≡ true
-    → meaning (pool ++ replicate (8 * j) 0) ≡ meaning pool
+    → terms (pool ++ replicate (8 * j) 0) ≡ terms pool
 
 -- Each word of a pool that passes is trimmed and 1 to 255 scalar values long.
 abbrev pub EachWord : Type 0

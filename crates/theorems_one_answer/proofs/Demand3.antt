@@ -11,6 +11,8 @@ use Rattle.trie_char.proofs.fresh.Kinds as fresh-kinds
 use Rattle.trie_char.proofs.fresh.Reads as fresh-contract
 use Rattle.trie_char.proofs.add.Kinds as add-kinds
 use Rattle.trie_char.proofs.add.Reads as add-contract
+use Rattle.trie_char.proofs.add_class.Kinds as add-class-kinds
+use Rattle.trie_char.proofs.add_class.Reads as add-class-contract
 use Rattle.trie_char.proofs.remove.Kinds as remove-kinds
 use Rattle.trie_char.proofs.remove.Reads as remove-contract
 use Rattle.newmm_answers.specs.Calls as call
@@ -30,8 +32,12 @@ pub freshened : (κs : Lfts 1) (a : Dens κs fresh-kinds.ps) (x : resT fresh-kin
 freshened κs a x s p = p
 
 pub added : (κs : Lfts 2) (a : Dens κs add-kinds.ps) (x : resT add-kinds.r κs .Denot) (s : AtExit (endedOf 2 add-kinds.ps add-kinds.r) κs)
-    → add-contract.Post κs a x s → Added x (a .1 .0 .now) (a .0 .now) (s .0 .now)
+    → add-contract.Post κs a x s → Added x (a .1 .0 .now) 0 (a .0 .now) (s .0 .now)
 added κs a x s p = p
+
+pub added-class : (κs : Lfts 2) (a : Dens κs add-class-kinds.ps) (x : resT add-class-kinds.r κs .Denot) (s : AtExit (endedOf 2 add-class-kinds.ps add-class-kinds.r) κs)
+    → add-class-contract.Post κs a x s → Added x (a .1 .0 .now) (a .1 .1 .0) (a .0 .now) (s .0 .now)
+added-class κs a x s p = p
 
 pub taken : (κs : Lfts 2) (a : Dens κs remove-kinds.ps) (x : resT remove-kinds.r κs .Denot) (s : AtExit (endedOf 2 remove-kinds.ps remove-kinds.r) κs)
     → remove-contract.Post κs a x s → Taken x (a .1 .0 .now) (a .0 .now) (s .0 .now)

@@ -10,10 +10,14 @@ use Rattle.fetlockice.proofs.fetlockice_fresh.Kinds as fresh-kinds
 use Rattle.fetlockice.proofs.fetlockice_fresh.Reads as fresh-contract
 use Rattle.fetlockice.proofs.fetlockice_add.Kinds as add-kinds
 use Rattle.fetlockice.proofs.fetlockice_add.Reads as add-contract
+use Rattle.fetlockice.proofs.fetlockice_add_class.Kinds as add-class-kinds
+use Rattle.fetlockice.proofs.fetlockice_add_class.Reads as add-class-contract
 use Rattle.fetlockice.proofs.fetlockice_remove.Kinds as remove-kinds
 use Rattle.fetlockice.proofs.fetlockice_remove.Reads as remove-contract
 use Rattle.fetlockice.proofs.fetlockice_contains.Kinds as contains-kinds
 use Rattle.fetlockice.proofs.fetlockice_contains.Reads as contains-contract
+use Rattle.fetlockice.proofs.fetlockice_contains_class.Kinds as contains-class-kinds
+use Rattle.fetlockice.proofs.fetlockice_contains_class.Reads as contains-class-contract
 use Rattle.fetlockice.proofs.fetlockice_prefix_lengths.Kinds as prefix-lengths-kinds
 use Rattle.fetlockice.proofs.fetlockice_prefix_lengths.Reads as prefix-lengths-contract
 use Rattle.fetlockice.proofs.fetlockice_word_count.Kinds as word-count-kinds
@@ -32,7 +36,7 @@ use Rattle.fetlockice.proofs.fetlockice_cut_many_safe.Kinds as many-safe-kinds
 use Rattle.fetlockice.proofs.fetlockice_cut_many_safe.Reads as many-safe-contract
 use Rattle.fetlockice.proofs.fetlockice_cut_many_sheet.Kinds as many-sheet-kinds
 use Rattle.fetlockice.proofs.fetlockice_cut_many_sheet.Reads as many-sheet-contract
-use Rattle.trie_pool.specs.Meaning.{noWord}
+use Rattle.trie_pool.specs.Meaning.{noTerm}
 use Rattle.trie_char.proofs.One.{one-after}
 use Rattle.trie_char.specs.Answers.{freshAnswer, addAnswer, removeAnswer, added, removed}
 use Rattle.host_telling.specs.Told.{Told, told, toldCut}
@@ -53,12 +57,19 @@ clusters-one κs a x y s t p q = both (answer (p .0) (q .0)) (answer (p .1) (q .
 pub fresh-one :
     OneAnswer {A = Told × List ℕ} 3 fresh-kinds.ps fresh-kinds.r fresh-contract.Post
     (λ κs number s. let pool = s .0 .now in let count = s .1 .0 .now in let detail = s .1 .1 .0 .now in (told number count detail, pool))
-fresh-one κs a x y s t p q = both (answer (p .0) (q .0)) (one-after (freshAnswer (a .0 .now)) (a .0 .now) _ _ noWord (p .1) (q .1))
+fresh-one κs a x y s t p q = both (answer (p .0) (q .0)) (one-after (freshAnswer (a .0 .now)) (a .0 .now) _ _ noTerm (p .1) (q .1))
 
 pub add-one :
     OneAnswer {A = Told × List ℕ} 4 add-kinds.ps add-kinds.r add-contract.Post
     (λ κs number s. let pool = s .0 .now in let count = s .1 .1 .0 .now in let detail = s .1 .1 .1 .0 .now in (told number count detail, pool))
-add-one κs a x y s t p q = both (answer (p .0) (q .0)) (one-after (addAnswer (a .1 .0 .now) (a .0 .now)) (a .0 .now) _ _ (added (a .1 .0 .now) (a .0 .now)) (p .1) (q .1))
+add-one κs a x y s t p q = both (answer (p .0) (q .0)) (one-after (addAnswer (a .1 .0 .now) 0 (a .0 .now)) (a .0 .now) _ _ (added (a .1 .0 .now) 0 (a .0 .now)) (p .1) (q .1))
+
+pub add-class-one :
+    OneAnswer {A = Told × List ℕ} 4 add-class-kinds.ps add-class-kinds.r add-class-contract.Post
+    (λ κs number s. let pool = s .0 .now in let count = s .1 .1 .1 .0 .now in let detail = s .1 .1 .1 .1 .0 .now in (told number count detail, pool))
+add-class-one κs a x y s t p q =
+    both (answer (p .0) (q .0))
+    (one-after (addAnswer (a .1 .0 .now) (a .1 .1 .0) (a .0 .now)) (a .0 .now) _ _ (added (a .1 .0 .now) (a .1 .1 .0) (a .0 .now)) (p .1) (q .1))
 
 pub remove-one :
     OneAnswer {A = Told × List ℕ} 4 remove-kinds.ps remove-kinds.r remove-contract.Post
@@ -69,6 +80,11 @@ pub contains-one :
     OneAnswer {A = Told} 4 contains-kinds.ps contains-kinds.r contains-contract.Post
     (λ κs number s. let count = s .1 .1 .0 .now in let detail = s .1 .1 .1 .0 .now in told number count detail)
 contains-one κs a x y s t p q = answer p q
+
+pub contains-class-one :
+    OneAnswer {A = Told × ℕ} 5 contains-class-kinds.ps contains-class-kinds.r contains-class-contract.Post
+    (λ κs number s. let count = s .1 .1 .0 .now in let class = s .1 .1 .1 .0 .now in let detail = s .1 .1 .1 .1 .0 .now in (told number count detail, class))
+contains-class-one κs a x y s t p q = both (answer (p .0) (q .0)) (answer (p .1) (q .1))
 
 pub prefix-lengths-one :
     OneAnswer {A = Told × List ℕ} 5 prefix-lengths-kinds.ps prefix-lengths-kinds.r prefix-lengths-contract.Post

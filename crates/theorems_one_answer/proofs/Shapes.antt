@@ -5,7 +5,7 @@ use mathlib.Core.List.{List}
 use lib.ListN.{length}
 use Rattle.refusal.specs.declared.Answer.{Answer}
 use Rattle.refusal.specs.Answers.{output}
-use Rattle.trie_pool.specs.Meaning.{Words}
+use Rattle.trie_pool.specs.Meaning.{Terms}
 use Rattle.trie_char.specs.Changes.{After}
 use Rattle.trie_char.proofs.One.{one-after}
 
@@ -21,10 +21,10 @@ pub answer-and-output : {x y a : Answer} {u v : List ℕ} (new old : List ℕ) �
 answer-and-output new old p c q d = both (p ∙ sym q) (c ∙ ap (λ (r : Answer). output r new old) (p ∙ sym q) ∙ sym d)
 
 -- an answer by an equation, and what became of the pool by the answer; a lent row keeps its length
-pub answer-and-pool : {x y a : Answer} (u v old : List ℕ) (words : Words) → x ≡ a → After x old u words → y ≡ a → After y old v words
+pub answer-and-pool : {x y a : Answer} (u v old : List ℕ) (held : Terms) → x ≡ a → After x old u held → y ≡ a → After y old v held
     → _≡_ {A = Answer × List ℕ} (x, u) (y, v)
-answer-and-pool {x} {y} {a} u v old words p c q d =
-    both (p ∙ sym q) (one-after a old u v words (subst (λ (r : Answer). After r old u words) p c) (subst (λ (r : Answer). After r old v words) q d))
+answer-and-pool {x} {y} {a} u v old held p c q d =
+    both (p ∙ sym q) (one-after a old u v held (subst (λ (r : Answer). After r old u held) p c) (subst (λ (r : Answer). After r old v held) q d))
 
 -- an answer and two rows, each by an equation
 pub answer-and-two-rows : {A R S : Type 0} {x y a : A} {u v f : R} {k l g : S} → x ≡ a → u ≡ f → k ≡ g → y ≡ a → v ≡ f → l ≡ g → _≡_ {A = A × R × S} (x, u, k) (y, v, l)

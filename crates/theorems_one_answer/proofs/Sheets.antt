@@ -39,7 +39,7 @@ Rows = List ℕ × (List ℕ × (List ℕ × List ℕ))
 pool-one : (k : Asked) (text old p q : List ℕ) (room : ℕ) → PoolAfter k text old p room → PoolAfter k text old q room → p ≡ q
 unfolding PoolAfter
 pool-one Nothing text old p q room e f = e ∙ sym f
-pool-one Add text old p q room e f = one-after (addText text old room) old p q (added (scalarsOf text) old) e f
+pool-one Add text old p q room e f = one-after (addText text old room) old p q (added (scalarsOf text) 0 old) e f
 pool-one Remove text old p q room e f = one-after (removeText text old room) old p q (removed (scalarsOf text) old) e f
 pool-one (Cut mode) text old p q room e f = e ∙ sym f
 

@@ -10,7 +10,7 @@ use denote.Triple.Clauses.{AtExit}
 use Rattle.newmm_many.proofs.cut_many.Kinds as many-kinds
 use Rattle.newmm_many.proofs.cut_many.Reads as many-contract
 use Rattle.refusal.specs.declared.Answer.the-variants.{Accepted}
-use Rattle.trie_pool.specs.Meaning.{Words}
+use Rattle.trie_pool.specs.Meaning.{Terms, wordsIn}
 use Rattle.newmm_answers.specs.Answers.{scratchFor}
 use Rattle.newmm_many_answers.specs.Turns.{cellsOf, endsTold}
 use Rattle.newmm_many_answers.specs.Calls.{ManyCall}
@@ -70,10 +70,10 @@ ManyIsSingleOfRuns =
 -- DEMAND 3 FOR EACH TEXT, of any two runs: text i of the one and text j of the other.
 abbrev pub Demand3ManyOfRuns : Type 0
 Demand3ManyOfRuns =
-    (a b : ManyRun) (v w : Words)
+    (a b : ManyRun) (v w : Terms)
     → Reached (manyCallOf a .pool) v
     → Reached (manyCallOf b .pool) w
-    → ((x : List ℕ) → v x ≡ w x)
+    → ((x : List ℕ) → wordsIn v x ≡ wordsIn w x)
     → (n m i j : ℕ)
     → a .answer ≡ Accepted n
     → b .answer ≡ Accepted m

@@ -9,7 +9,7 @@ use borrow.Fn.Kinds.{Dens, resT, endedOf}
 use denote.Triple.Clauses.{AtExit}
 use Rattle.newmm.proofs.cut.Kinds as cut-kinds
 use Rattle.newmm.proofs.cut.Reads as cut-contract
-use Rattle.trie_pool.specs.Meaning.{Words, meaning}
+use Rattle.trie_pool.specs.Meaning.{Words, Terms, wordsIn, meaning}
 use Rattle.newmm_rules.specs.declared.Mode.the-variants.{Plain, Sheet}
 use Rattle.newmm_answers.specs.declared.CutAnswer.the-variants.{Ends}
 use Rattle.newmm_answers.specs.Answers.{scratchFor}
@@ -66,13 +66,13 @@ Demand3AnyOfRuns =
     → ((x : List ℕ) → v x ≡ w x)
     → SameAnswers a b
 
--- two pools that were reached from fresh ones and hold the same words
+-- two pools that were reached from fresh ones and hold the same words, with whatever classes
 abbrev pub Demand3OfRuns : Type 0
 Demand3OfRuns =
-    (a b : Run) (v w : Words)
+    (a b : Run) (v w : Terms)
     → Reached (callOf a .pool) v
     → Reached (callOf b .pool) w
-    → ((x : List ℕ) → v x ≡ w x)
+    → ((x : List ℕ) → wordsIn v x ≡ wordsIn w x)
     → SameAnswers a b
 
 -- What a run that answered with n ends wrote: they rise strictly to the text's length, and in plain

@@ -9,15 +9,17 @@ use Rattle.char_string.specs.Blanks.{isTrimmed}
 use Rattle.trie_pool.specs.Cells.{scalarAt, firstAt, countAt, markAt, used}
 use Rattle.trie_pool.specs.inner.Paths.{reach, rev}
 use Rattle.trie_pool.specs.inner.Sound.{Shaped, Sound}
-use Rattle.trie_pool.specs.Words.{lacking, none, at, on-place, scan, child, holds}
+use Rattle.trie_pool.specs.Words.{lacking, none, at, on-place, scan, child, term, termAt}
 use Rattle.trie_search.specs.inner.Search.{Sought}
-use Rattle.trie_change.specs.inner.Planting.{Room, Plants, Planted, Enters, Entered, stayed, grew, Puts, PutIn}
+use Rattle.trie_leaf.specs.inner.Planting.{Room, Plants, Planted, Beside}
+use Rattle.trie_change.specs.inner.Adding.{Enters, Entered, stayed, grew, Puts, PutIn}
 use Rattle.trie_pool.proofs.Lists.{drop-next}
 use Rattle.trie_pool.proofs.Shape.{within, reach-within, child-found, step, child-after, first-is, count-is, climb}
 use Rattle.trie_search.proofs.Finding.{past, other, found}
-use Rattle.trie_change.proofs.Leaf.{same-words, child-lack}
-use Rattle.trie_change.proofs.Keep.{reach-new, sound′}
-use Rattle.trie_change.proofs.Mark.{held, others, sound-marked}
+use Rattle.trie_leaf.proofs.Leaf.{same-terms, child-lack}
+use Rattle.trie_leaf.proofs.Keep.{reach-new, sound′}
+use Rattle.trie_change.proofs.Mark.{held, others, beside, sound-marked}
+use Rattle.trie_change.proofs.Sides.{no-change, both-change}
 use mathlib.Core.Bool.{false}
 
 -- ---- where a new child belongs
@@ -38,7 +40,7 @@ module _ (p : List ℕ) (b x r : ℕ) (g : Enters p b x) (h : Sought p b x r) wh
   pub plants : (n : ℕ) → n ≡ used p → Room p (used p) b r x → child p b x ≡ none → Plants p n b r x
   plants n e o q = subst (λ (z : ℕ). Plants p z b r x) (sym e) (record { shaped = g .sound .shaped; room = o; spare = g .sound .spare; fits = g .room q; small = g .small q })
 
-  pub block-end : (f c : ℕ) → f ≡ getD p (8 * b + 1) 0 → c ≡ getD p (8 * b + 2) 0 → (f + c ≡ firstAt p b + countAt p b) × (8 * (f + c) ≤ length p)
+  pub block-end : (f c : ℕ) → f ≡ getD p (8 * b + 1) 0 → c ≡ getD p (8 * b + 2) 0 → (f + c ≡ firstAt p b + countAt p b) × (8 * (f + c) ≤ length p + 4)
   block-end f c u v =
       let a = first-is p b in
       let d = count-is p b in
@@ -82,12 +84,13 @@ pub record Inv (p₀ w p : List ℕ) (i t : ℕ) : Type 0 where
   pub path : reach p u ≡ at i
   pub scalar : 0 < t → scalarAt p i ≡ getD w (t - 1) 0
   pub sound : Sound p n i
-  pub words : (v : List ℕ) → holds p v ≡ holds p₀ v
+  pub terms : (v : List ℕ) → termAt p v ≡ termAt p₀ v
+  pub beside′ : Beside p₀ p
   pub count : n + lacking p (drop t w) i ≡ used p₀ + lacking p₀ w 0
   pub long : length p ≡ length p₀
 
-pub begin : (p w : List ℕ) → Puts p w → Inv p w p 0 0
-begin p w h = record { u = []; n = used p; upto = omega arith; long-u = refl; split = refl; path = refl; scalar = λ l. absurd (omega arith); sound = h .sound; words = λ v. refl; count = refl; long = refl }
+pub begin : (p w : List ℕ) (mark : ℕ) → Puts p w mark → Inv p w p 0 0
+begin p w mark h = record { u = []; n = used p; upto = omega arith; long-u = refl; split = refl; path = refl; scalar = λ l. absurd (omega arith); sound = h .sound; terms = λ v. refl; beside′ = no-change p; count = refl; long = refl }
 
 lacking-leaf : (p w : List ℕ) (i : ℕ) → countAt p i ≡ 0 → lacking p w i ≡ length w
 unfolding child
@@ -102,8 +105,6 @@ sound-moved p n i r x e g =
       shaped = g .shaped;
       fits = g .fits;
       small = g .small;
-      root = g .root;
-      unmarked = g .unmarked;
       spare = g .spare;
       fit = g .fit;
       start = g .start;
@@ -117,7 +118,7 @@ sound-moved p n i r x e g =
     go k a l c (no q) (yes q′) = g .leaf k a l (omega arith)
     go k a l c (no q) (no q′) = let z : k ≡ i = omega arith in rw z (omega arith)
 
-module _ (p₀ w p : List ℕ) (i t : ℕ) (pre : Puts p₀ w) (v : Inv p₀ w p i t) (l : t < length w) where
+module _ (p₀ w p : List ℕ) (i t mark : ℕ) (pre : Puts p₀ w mark) (v : Inv p₀ w p i t) (l : t < length w) where
   x : ℕ
   x = getD w t 0
 
@@ -167,7 +168,8 @@ module _ (p₀ w p : List ℕ) (i t : ℕ) (pre : Puts p₀ w) (v : Inv p₀ w p
     path = ap (on-place none (λ k. child p k (getD w t 0))) (v .path) ∙ e;
     scalar = λ q. child-found p i (getD w t 0) r e .is ∙ here;
     sound = sound-moved p (v .n) i r (getD w t 0) e (v .sound);
-    words = v .words;
+    terms = v .terms;
+    beside′ = v .beside′;
     count = ap (λ (z : ℕ). v .n + z) (sym (lacking-is ∙ ap (on-place (suc (length rest)) (λ k. lacking p rest k)) e)) ∙ v .count;
     long = v .long;
   })
@@ -182,7 +184,8 @@ module _ (p₀ w p : List ℕ) (i t : ℕ) (pre : Puts p₀ w) (v : Inv p₀ w p
     sound = sound′ p p′ (v .n) i r (getD w t 0) (v .sound .shaped) o h (v .u) (v .path) (omega (arith, v .long-u, pre .short)) (v .sound)
         (omega (arith, enters .room lack, is, kept)) (omega (arith, enters .small lack, is)) (pre .legal t l)
         (λ z. ap (λ (k : ℕ). isTrimmed (getD w k 0)) (first z) ∙ pre .start);
-    words = λ z. same-words p p′ (v .n) i r (getD w t 0) (v .sound .shaped) o h z ∙ v .words z;
+    terms = λ z. same-terms p p′ (v .n) i r (getD w t 0) (v .sound .shaped) o h z ∙ v .terms z;
+    beside′ = both-change (v .beside′) (h .beside);
     count = omega (arith, lacking-leaf p′ rest r (h .count-new), lacks lack);
     long = kept ∙ v .long;
   }
@@ -204,8 +207,8 @@ module _ (p₀ w p : List ℕ) (i t : ℕ) (pre : Puts p₀ w) (v : Inv p₀ w p
 pub inside-end : (p₀ w p : List ℕ) (i t : ℕ) → Inv p₀ w p i t → 8 * i + 3 < length p
 inside-end p₀ w p i t v = omega (arith, reach-within p (v .n) (v .sound .shaped) (v .u) i (v .path), v .sound .fits)
 
-pub done : (p₀ w p : List ℕ) (i t : ℕ) → Puts p₀ w → Inv p₀ w p i t → length w ≤ t → PutIn p₀ (set p (8 * i + 3) 1) w
-done p₀ w p i t pre v l =
+pub done : (p₀ w p : List ℕ) (i t mark : ℕ) → Puts p₀ w mark → Inv p₀ w p i t → length w ≤ t → PutIn p₀ (set p (8 * i + 3) mark) w mark
+done p₀ w p i t mark pre v l =
     let left : drop t w ≡ [] = drop-of-length-le w l in
     let word : rev (v .u) [] ≡ w = ap (rev (v .u)) (sym left) ∙ v .split in
     let count : v .n ≡ used p₀ + lacking p₀ w 0 = omega (arith, v .count, ap (λ (z : List ℕ). lacking p z i) left) in
@@ -215,7 +218,8 @@ done p₀ w p i t pre v l =
     let whole : t ≡ length w = omega (arith, v .upto) in
     let stop : isTrimmed (scalarAt p i) ≡ false = ap isTrimmed (v .scalar (omega (arith, pre .some)) ∙ ap (λ (k : ℕ). getD w (k - 1) 0) whole) ∙ pre .stop in
     record {
-      sound = subst (λ (z : ℕ). Sound (set p (8 * i + 3) 1) z 0) count (sound-marked p i 1 in′ (v .n) refl some within′ stop (v .sound));
-      held = ap (holds (set p (8 * i + 3) 1)) (sym word) ∙ held p i 1 in′ (v .u) (v .path);
-      others = λ z ne. others p i 1 in′ (v .n) (v .sound .shaped) (v .u) z (v .path) (λ e. ne (e ∙ word)) ∙ v .words z;
+      sound = subst (λ (z : ℕ). Sound (set p (8 * i + 3) mark) z 0) count (sound-marked p i mark in′ some (v .n) (pre .marks) (pre .upto) within′ stop (v .sound));
+      held = ap (termAt (set p (8 * i + 3) mark)) (sym word) ∙ held p i mark in′ some (v .u) (v .path);
+      others = λ z ne. others p i mark in′ some (v .n) (v .sound .shaped) (v .u) z (v .path) (λ e. ne (e ∙ word)) ∙ v .terms z;
+      beside = both-change (v .beside′) (beside p i mark in′ some);
     }

@@ -21,11 +21,11 @@ cleared-more p₀ p k v l = record { long = length-set p k 0 ∙ v .long; front 
     go i h (yes q) = getD-set-other p k i 0 0 (omega arith) ∙ v .front i q
     go i h (no q) = let e : i ≡ k = omega arith in ap (λ (z : ℕ). getD (set p k 0) z 0) e ∙ getD-set-same p k 0 0 l
 
-pub cleared-all : (p₀ p : List ℕ) (k : ℕ) → Cleared p₀ p k → length p ≤ k → RootAlone (set (set p 1 1) 4 1)
+pub cleared-all : (p₀ p : List ℕ) (k : ℕ) → Cleared p₀ p k → length p ≤ k → RootAlone (set (set p 1 1) 0 1)
 cleared-all p₀ p k v l = record {
-  first = getD-set-other (set p 1 1) 4 1 1 0 (omega arith) ∙ getD-set-same p 1 1 0 (omega (arith, v .some));
-  used = getD-set-same (set p 1 1) 4 1 0 (omega (arith, v .some, length-set p 1 1));
-  others = λ i a b. getD-set-other (set p 1 1) 4 i 1 0 b ∙ getD-set-other p 1 i 1 0 a ∙ go i (decLt i k);
+  first = getD-set-other (set p 1 1) 0 1 1 0 (omega arith) ∙ getD-set-same p 1 1 0 (omega (arith, v .some));
+  used = getD-set-same (set p 1 1) 0 1 0 (omega (arith, v .some, length-set p 1 1));
+  others = λ i a b. getD-set-other (set p 1 1) 0 i 1 0 b ∙ getD-set-other p 1 i 1 0 a ∙ go i (decLt i k);
 }
   where
     go : (i : ℕ) → Dec (i < k) → getD p i 0 ≡ 0

@@ -1,9 +1,5 @@
-pub mod Leaf
-pub mod Planted
-pub mod Keep
+pub mod Sides
 pub mod Mark
 pub mod Adding
-pub mod Plucked
-pub mod Gone
 pub mod Taking
 pub mod Cleared

@@ -1,6 +1,7 @@
--- Another mark at one node changes whether its word is held, and nothing else. Assumes nothing.
+-- Another mark at one node changes its word, held or not and its class, and nothing else. Assumes
+-- nothing.
 use mathlib.Core.Path.{_≡_, refl, sym, ap, _∙_}
-use mathlib.Core.Bool.{Bool, false, cond}
+use mathlib.Core.Bool.{false, cond}
 use mathlib.Core.List.{List, [], _∷_}
 use Prim.Native.Nat.{ℕ, zero, suc, _+_, _-_, _*_, _≤_, _<_}
 use native.Mathlib.Omega.{arith}
@@ -12,11 +13,15 @@ use Rattle.trie_pool.specs.Cells.{scalarAt, firstAt, countAt, markAt}
 use Rattle.trie_pool.specs.inner.Paths.{reach, rev}
 use Rattle.trie_pool.specs.inner.Sound.{Fit, Shaped, Sound}
 use Rattle.trie_pool.specs.Levels.{hop, levelEnd}
-use Rattle.trie_pool.specs.Words.{Place, none, at, on-place, scan, child, marked, holds}
-use Rattle.trie_pool.proofs.Shape.{refit, walk-reach, one-path, walk-is, rev-rev, on-at}
+use Rattle.trie_pool.specs.Words.{Place, none, at, on-place, scan, child, term, termAt}
+use mathlib.Core.Option.{Option}
+use mathlib.Core.Option as option
+use Rattle.trie_pool.proofs.Shape.{refit, mark-is, walk-reach, one-path, walk-is, rev-rev, on-at}
+use Rattle.trie_pool.proofs.Held.{root-mark}
+use Rattle.trie_leaf.specs.inner.Planting.{Beside}
 use Rattle.char_string.specs.Blanks.{isTrimmed}
 
-module _ (p : List ℕ) (i m : ℕ) (l : 8 * i + 3 < length p) where
+module _ (p : List ℕ) (i m : ℕ) (l : 8 * i + 3 < length p) (past : 0 < i) where
   abbrev q : List ℕ
   q = set p (8 * i + 3) m
 
@@ -36,12 +41,17 @@ module _ (p : List ℕ) (i m : ℕ) (l : 8 * i + 3 < length p) where
   count-same k = cell (8 * k + 2) (omega arith)
 
   pub mark-other : (k : ℕ) → (k ≡ i → ⊥) → markAt q k ≡ markAt p k
-  unfolding markAt
-  mark-other k ne = cell (8 * k + 3) (λ e. ne (omega arith))
+  mark-other k ne = go (decLt 0 k)
+    where
+      go : Dec (0 < k) → markAt q k ≡ markAt p k
+      go (yes a) = mark-is q k a ∙ cell (8 * k + 3) (λ e. ne (omega arith)) ∙ sym (mark-is p k a)
+      go (no a) = let z : k ≡ 0 = omega arith in ap (markAt q) z ∙ root-mark q ∙ sym (ap (markAt p) z ∙ root-mark p)
 
   pub mark-here : markAt q i ≡ m
-  unfolding markAt
-  mark-here = getD-set-same p (8 * i + 3) m 0 l
+  mark-here = mark-is q i past ∙ getD-set-same p (8 * i + 3) m 0 l
+
+  pub beside : Beside p q
+  beside = record { root = cell 3 (omega arith); aside = λ k r a c. cell (8 * k + r) (omega arith) }
 
   scan-same : (x s n : ℕ) → scan q x s n ≡ scan p x s n
   scan-same x s zero = refl
@@ -61,21 +71,21 @@ module _ (p : List ℕ) (i m : ℕ) (l : 8 * i + 3 < length p) where
       go none = refl
       go (at k) = child-same k x
 
-  abbrev read : List ℕ → Place → Bool
-  read z r = on-place false (λ k. marked (markAt z k)) r
+  abbrev read : List ℕ → Place → Option ℕ
+  read z r = on-place option.none (λ k. term (markAt z k)) r
 
   -- the word of node i
-  pub held : (u : List ℕ) → reach p u ≡ at i → holds q (rev u []) ≡ marked m
-  held u e = ap (read q) (walk-reach q u [] ∙ on-at (reach q u) ∙ reach-same u ∙ e) ∙ ap marked mark-here
+  pub held : (u : List ℕ) → reach p u ≡ at i → termAt q (rev u []) ≡ term m
+  held u e = ap (read q) (walk-reach q u [] ∙ on-at (reach q u) ∙ reach-same u ∙ e) ∙ ap term mark-here
 
   -- every other word
-  pub others : (n : ℕ) → Shaped p n → (u v : List ℕ) → reach p u ≡ at i → (v ≡ rev u [] → ⊥) → holds q v ≡ holds p v
+  pub others : (n : ℕ) → Shaped p n → (u v : List ℕ) → reach p u ≡ at i → (v ≡ rev u [] → ⊥) → termAt q v ≡ termAt p v
   others n s u v e ne =
       ap (read q) (walk-is q v ∙ reach-same (rev v [])) ∙ go (reach p (rev v [])) refl ∙ sym (ap (read p) (walk-is p v))
     where
       go : (z : Place) → reach p (rev v []) ≡ z → read q z ≡ read p z
       go none f = refl
-      go (at r) f = ap marked (mark-other r (λ t.
+      go (at r) f = ap term (mark-other r (λ t.
           let f′ : reach p (rev v []) ≡ at i = f ∙ ap at t in
           let w : rev v [] ≡ u = one-path p n s (rev v []) u i f′ e in
           ne (sym (rev-rev v []) ∙ ap (λ (z : List ℕ). rev z []) w)))
@@ -95,19 +105,12 @@ module _ (p : List ℕ) (i m : ℕ) (l : 8 * i + 3 < length p) where
   }
 
   -- a node that ends a word needs no child
-  pub sound-marked : (n : ℕ) → m ≡ 1 → 0 < i → i < n → isTrimmed (scalarAt p i) ≡ false → Sound p n i → Sound q n 0
-  sound-marked n one some inside stop g = record {
+  pub sound-marked : (n : ℕ) → 1 ≤ m → m ≤ 65536 → i < n → isTrimmed (scalarAt p i) ≡ false → Sound p n i → Sound q n 0
+  sound-marked n one most inside stop g = record {
     shaped = shaped-same n (g .shaped);
     fits = omega (arith, g .fits, length-set p (8 * i + 3) m);
     small = g .small;
-    root = scalar-same 0 ∙ g .root;
-    unmarked = mark-other 0 (omega arith) ∙ g .unmarked;
-    spare = record {
-      used = cell 4 (omega arith) ∙ g .spare .used;
-      fifth = λ k a h. cell (8 * k + 4) (omega arith) ∙ g .spare .fifth k a h;
-      others = λ k r h a b. cell (8 * k + r) (omega arith) ∙ g .spare .others k r h a b;
-      blank = λ k h. cell k (omega arith) ∙ g .spare .blank k h;
-    };
+    spare = record { used = cell 0 (omega arith) ∙ g .spare .used; blank = λ k r h a. cell (8 * k + r) (omega arith) ∙ g .spare .blank k r h a };
     fit = λ k a h. fits k a h (decLt k i) (decLt i k);
     start = λ k a h. ap isTrimmed (scalar-same k) ∙ g .start k a (omega (arith, count-same 0));
     leaf = λ k a h ne. leaves k a h (decLt k i) (decLt i k);
@@ -115,8 +118,8 @@ module _ (p : List ℕ) (i m : ℕ) (l : 8 * i + 3 < length p) where
     shallow = ends-same n 255 ∙ g .shallow;
   }
     where
-      here : (k : ℕ) → k ≡ i → markAt q k ≡ 1
-      here k e = ap (markAt q) e ∙ mark-here ∙ one
+      here : (k : ℕ) → k ≡ i → markAt q k ≡ m
+      here k e = ap (markAt q) e ∙ mark-here
 
       fits : (k : ℕ) → 0 < k → k < n → Dec (k < i) → Dec (i < k) → Fit (scalarAt q k) (markAt q k)
       fits k a h (yes t) d = refit (scalar-same k) (mark-other k (omega arith)) (g .fit k a h)
@@ -131,19 +134,12 @@ module _ (p : List ℕ) (i m : ℕ) (l : 8 * i + 3 < length p) where
       leaves k a h (no t) (no t′) = omega (arith, here k (omega arith))
 
   -- a node whose mark goes may be left a leaf
-  pub sound-cleared : (n : ℕ) → m ≡ 0 → Sound p n 0 → Sound q n i
-  sound-cleared n none′ g = record {
+  pub sound-cleared : (n : ℕ) → m ≡ 0 → i < n → Sound p n 0 → Sound q n i
+  sound-cleared n none′ inside g = record {
     shaped = shaped-same n (g .shaped);
     fits = omega (arith, g .fits, length-set p (8 * i + 3) m);
     small = g .small;
-    root = scalar-same 0 ∙ g .root;
-    unmarked = mark0 (decLt 0 i);
-    spare = record {
-      used = cell 4 (omega arith) ∙ g .spare .used;
-      fifth = λ k a h. cell (8 * k + 4) (omega arith) ∙ g .spare .fifth k a h;
-      others = λ k r h a b. cell (8 * k + r) (omega arith) ∙ g .spare .others k r h a b;
-      blank = λ k h. blank k h (decLt k (8 * i + 3)) (decLt (8 * i + 3) k);
-    };
+    spare = record { used = cell 0 (omega arith) ∙ g .spare .used; blank = λ k r h a. cell (8 * k + r) (omega arith) ∙ g .spare .blank k r h a };
     fit = λ k a h. fits k a h (decLt k i) (decLt i k);
     start = λ k a h. ap isTrimmed (scalar-same k) ∙ g .start k a (omega (arith, count-same 0));
     leaf = λ k a h ne. omega (arith, mark-other k ne, count-same k, g .leaf k a h (omega arith));
@@ -154,16 +150,7 @@ module _ (p : List ℕ) (i m : ℕ) (l : 8 * i + 3 < length p) where
       here : (k : ℕ) → k ≡ i → markAt q k ≡ 0
       here k e = ap (markAt q) e ∙ mark-here ∙ none′
 
-      mark0 : Dec (0 < i) → markAt q 0 ≡ 0
-      mark0 (yes t) = mark-other 0 (omega arith) ∙ g .unmarked
-      mark0 (no t) = here 0 (omega arith)
-
       fits : (k : ℕ) → 0 < k → k < n → Dec (k < i) → Dec (i < k) → Fit (scalarAt q k) (markAt q k)
       fits k a h (yes t) d = refit (scalar-same k) (mark-other k (omega arith)) (g .fit k a h)
       fits k a h (no t) (yes t′) = refit (scalar-same k) (mark-other k (omega arith)) (g .fit k a h)
       fits k a h (no t) (no t′) = refit (scalar-same k) (here k (omega arith)) (record { legal = g .fit k a h .legal; mark = omega arith; stop = λ l. absurd (omega arith) })
-
-      blank : (k : ℕ) → 8 * n ≤ k → Dec (k < 8 * i + 3) → Dec (8 * i + 3 < k) → getD q k 0 ≡ 0
-      blank k h (yes t) d = cell k (omega arith) ∙ g .spare .blank k h
-      blank k h (no t) (yes t′) = cell k (omega arith) ∙ g .spare .blank k h
-      blank k h (no t) (no t′) = let e : k ≡ 8 * i + 3 = omega arith in ap (λ (z : ℕ). getD q z 0) e ∙ getD-set-same p (8 * i + 3) m 0 l ∙ none′

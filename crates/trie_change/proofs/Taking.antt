@@ -1,6 +1,5 @@
 -- The steps of removing a word. Assumes nothing.
 use mathlib.Core.Path.{_≡_, refl, sym, ap, subst, _∙_}
-use mathlib.Core.Bool.{false}
 use mathlib.Core.List.{List, [], _∷_}
 use Prim.Native.Nat.{ℕ, suc, _+_, _-_, _*_, _≤_, _<_}
 use native.Mathlib.Omega.{arith}
@@ -10,19 +9,23 @@ use lib.Seq.{take-all}
 use Rattle.trie_pool.specs.Cells.{firstAt, countAt, markAt, used}
 use Rattle.trie_pool.specs.inner.Paths.{reach, rev}
 use Rattle.trie_pool.specs.inner.Sound.{Shaped, Readable, Spare, Rising, Sound}
-use Rattle.trie_pool.specs.Words.{none, at, on-place, child, walk, marked, holds}
+use Rattle.trie_pool.specs.Words.{none, at, on-place, child, walk, term, termAt}
+use mathlib.Core.Option as option
 use Rattle.trie_search.specs.inner.Search.{toPlace}
-use Rattle.trie_change.specs.inner.Plucking.{Plucks, Plucked, Prunes, Pruned, Removes, Removed}
+use Rattle.trie_leaf.specs.inner.Planting.{Beside}
+use Rattle.trie_leaf.specs.inner.Plucking.{Plucks, Plucked}
+use Rattle.trie_change.specs.inner.Taking.{Prunes, Pruned, Removes, Removed}
 use Rattle.trie_search.specs.declared.search.Kid.{Kid}
 use Rattle.trie_search.specs.declared.search.Kid.the-variants.{Nothing, Is}
-use Rattle.trie_pool.proofs.Shape.{within, reach-within, child-found, child-after, walk-reach, count-is}
-use Rattle.trie_change.proofs.Leaf.{sh, sh-low, sh-high}
-use Rattle.trie_change.proofs.Mark.{cell, reach-same, held, others, sound-cleared}
-use Rattle.trie_change.proofs.Gone.{back, sound′, words′}
+use Rattle.trie_pool.proofs.Shape.{within, reach-within, child-found, child-after, walk-reach, count-is, mark-is}
+use Rattle.trie_leaf.proofs.Leaf.{sh, sh-low, sh-high}
+use Rattle.trie_leaf.proofs.Gone.{back, sound′, terms′}
+use Rattle.trie_change.proofs.Mark.{cell, reach-same, held, others, beside, sound-cleared}
+use Rattle.trie_change.proofs.Sides.{no-change, both-change}
 
 -- ---- pruning
 
-pub inside-prune : (p : List ℕ) (b j : ℕ) → Prunes p b j → (j < used p) × (8 * used p ≤ length p) × (b < used p)
+pub inside-prune : (p : List ℕ) (b j : ℕ) → Prunes p b j → (j < used p) × (8 * used p ≤ length p + 4) × (b < used p)
 inside-prune p b j h =
     let w = reach-within p (used p) (h .sound .shaped) (h .path) b (h .leads) in
     (omega (arith, within p (used p) (h .sound .shaped) b w, h .upto), h .sound .fits, w)
@@ -33,8 +36,6 @@ sound-any p n j b c g = record {
   shaped = g .shaped;
   fits = g .fits;
   small = g .small;
-  root = g .root;
-  unmarked = g .unmarked;
   spare = g .spare;
   fit = g .fit;
   start = g .start;
@@ -48,18 +49,21 @@ sound-any p n j b c g = record {
     go k a l (no q) (yes q′) = g .leaf k a l (omega arith)
     go k a l (no q) (no q′) = let z : k ≡ j = omega arith in rw z c
 
+-- a child is never the root
+past : (p : List ℕ) (b j : ℕ) → Prunes p b j → 0 < j
+past p b j h = omega (arith, h .sound .shaped .ahead b (inside-prune p b j h .2), h .from)
+
 pub stays-count : (p : List ℕ) (b j : ℕ) → Prunes p b j → (getD p (8 * j + 2) 0 ≡ 0 → ⊥) → Pruned p p b
-stays-count p b j h ne = record { sound = sound-any p (used p) j b (omega (arith, count-is p j)) (h .sound); keeps = λ v z e l. e; same = λ v. refl }
+stays-count p b j h ne = record { sound = sound-any p (used p) j b (omega (arith, count-is p j)) (h .sound); keeps = λ v z e l. e; same = λ v. refl; beside = no-change p }
 
 pub stays-mark : (p : List ℕ) (b j : ℕ) → Prunes p b j → (getD p (8 * j + 3) 0 ≡ 0 → ⊥) → Pruned p p b
-unfolding markAt
-stays-mark p b j h ne = record { sound = sound-any p (used p) j b (omega arith) (h .sound); keeps = λ v z e l. e; same = λ v. refl }
+stays-mark p b j h ne = record { sound = sound-any p (used p) j b (omega (arith, mark-is p j (past p b j h))) (h .sound); keeps = λ v z e l. e; same = λ v. refl; beside = no-change p }
 
 suc-of : (p : List ℕ) (b j n : ℕ) → Prunes p b j → n ≡ used p → used p ≡ suc (n - 1)
 suc-of p b j n h e = omega (arith, h .sound .shaped .some)
 
 pub plucks : (p : List ℕ) (b j n : ℕ) → Prunes p b j → n ≡ used p → getD p (8 * j + 2) 0 ≡ 0 → getD p (8 * j + 3) 0 ≡ 0 → Plucks p (n - 1) b j
-unfolding countAt markAt
+unfolding countAt
 plucks p b j n h e c d =
     let z = suc-of p b j n h e in
     let i = inside-prune p b j h in
@@ -70,7 +74,7 @@ plucks p b j n h e c d =
       from = h .from;
       upto = h .upto;
       leaf = c;
-      unmarked = d;
+      unmarked = mark-is p j (past p b j h) ∙ d;
       fits = omega (arith, i .1);
       small = omega (arith, h .sound .small);
     }
@@ -81,9 +85,13 @@ pruned p q b j n h e long k = record {
   keeps = λ v x t l.
       let f = back p q (n - 1) b j s par (h .from) (h .upto) (k .planted) r v x t (omega (arith, after)) in
       f .leads ∙ ap at (pick (decLt (f .old) j) (f .is) (omega (arith, after)));
-  same = words′ p q (n - 1) b j s par (h .from) (h .upto) (k .planted) r;
+  same = terms′ p q (n - 1) b j s par (h .from) (h .upto) (k .planted) r;
+  beside = turned (k .planted .beside);
 }
   where
+    turned : Beside q p → Beside p q
+    turned f = record { root = sym (f .root); aside = λ i r a c. sym (f .aside i r a c) }
+
     z : used p ≡ suc (n - 1)
     z = suc-of p b j n h e
 
@@ -108,20 +116,22 @@ pruned p q b j n h e long k = record {
 
 -- ---- the recursion
 
-pub readable : (p : List ℕ) (b : ℕ) → Removes p b → Readable p b
-readable p b h = record { nodes = used p; inside = reach-within p (used p) (h .sound .shaped) (h .path) b (h .leads); shaped = h .sound .shaped; fits = h .sound .fits; rising = h .sound .rising }
+pub readable : (p w : List ℕ) (b : ℕ) → Removes p b w → Readable p b
+readable p w b h = record { nodes = used p; inside = reach-within p (used p) (h .sound .shaped) (h .path) b (h .leads); shaped = h .sound .shaped; fits = h .sound .fits; rising = h .sound .rising }
 
 -- the word's end: the mark goes
-pub cleared : (p w : List ℕ) (b : ℕ) → Removes p b → length w ≡ 0 → (u : List ℕ) → reach p u ≡ at b → Removed p (set p (8 * b + 3) 0) u b w
+pub cleared : (p w : List ℕ) (b : ℕ) → Removes p b w → length w ≡ 0 → (u : List ℕ) → reach p u ≡ at b → Removed p (set p (8 * b + 3) 0) u b w
 cleared p [] b h z u e =
     let i : b < used p = reach-within p (used p) (h .sound .shaped) (h .path) b (h .leads) in
     let l : 8 * b + 3 < length p = omega (arith, h .sound .fits) in
-    let same : used (set p (8 * b + 3) 0) ≡ used p = cell p b 0 l 4 (omega arith) in
+    let some : 0 < b = omega (arith, h .past-root) in
+    let same : used (set p (8 * b + 3) 0) ≡ used p = cell p b 0 l some 0 (omega arith) in
     record {
-      sound = subst (λ (n : ℕ). Sound (set p (8 * b + 3) 0) n b) (sym same) (sound-cleared p b 0 l (used p) refl (h .sound));
-      keeps = λ v x t c. reach-same p b 0 l v ∙ t;
-      gone = held p b 0 l u e;
-      others = λ v ne. others p b 0 l (used p) (h .sound .shaped) u v e ne;
+      sound = subst (λ (n : ℕ). Sound (set p (8 * b + 3) 0) n b) (sym same) (sound-cleared p b 0 l some (used p) refl i (h .sound));
+      keeps = λ v x t c. reach-same p b 0 l some v ∙ t;
+      gone = held p b 0 l some u e;
+      others = λ v ne. others p b 0 l some (used p) (h .sound .shaped) u v e ne;
+      beside = beside p b 0 l some;
     }
 cleared p (x ∷ w) b h z u e = absurd (omega arith)
 
@@ -132,13 +142,14 @@ pub tail-drop : (s : List ℕ) (a : ℕ) → tail s a ≡ drop a s
 tail-drop s a = take-all (length s - a) (drop a s) (omega (arith, length-drop a s))
 
 -- nothing to take out
-pub lost : (p w : List ℕ) (b : ℕ) (k : Kid) → Removes p b → (length w ≡ 0 → ⊥) → toPlace k ≡ child p b (getD w 0 0) → k ≡ Nothing → (u : List ℕ) → reach p u ≡ at b → Removed p p u b w
+pub lost : (p w : List ℕ) (b : ℕ) (k : Kid) → Removes p b w → (length w ≡ 0 → ⊥) → toPlace k ≡ child p b (getD w 0 0) → k ≡ Nothing → (u : List ℕ) → reach p u ≡ at b → Removed p p u b w
 lost p [] b k h ne e q u t = absurd (ne refl)
 lost p (x ∷ w) b k h ne e q u t = record {
   sound = sound-from p (used p) b (h .sound);
   keeps = λ v z f l. f;
-  gone = ap (on-place false (λ r. marked (markAt p r))) (walk-reach p u (x ∷ w) ∙ ap (on-place none (λ i. walk p (x ∷ w) i)) t ∙ ap (on-place none (λ r. walk p w r)) (sym e ∙ ap toPlace q));
+  gone = ap (on-place option.none (λ r. term (markAt p r))) (walk-reach p u (x ∷ w) ∙ ap (on-place none (λ i. walk p (x ∷ w) i)) t ∙ ap (on-place none (λ r. walk p w r)) (sym e ∙ ap toPlace q));
   others = λ v n. refl;
+  beside = no-change p;
 }
   where
     sound-from : (p : List ℕ) (n b : ℕ) → Sound p n 0 → Sound p n b
@@ -146,8 +157,6 @@ lost p (x ∷ w) b k h ne e q u t = record {
       shaped = g .shaped;
       fits = g .fits;
       small = g .small;
-      root = g .root;
-      unmarked = g .unmarked;
       spare = g .spare;
       fit = g .fit;
       start = g .start;
@@ -156,10 +165,12 @@ lost p (x ∷ w) b k h ne e q u t = record {
       shallow = g .shallow;
     }
 
-pub deeper : (p w : List ℕ) (b r : ℕ) (k : Kid) → Removes p b → toPlace k ≡ child p b (getD w 0 0) → k ≡ Is r → Removes p r
-deeper p w b r k h e q = record { sound = h .sound; path = getD w 0 0 ∷ h .path; leads = ap (on-place none (λ i. child p i (getD w 0 0))) (h .leads) ∙ sym e ∙ ap toPlace q }
+pub deeper : (p w : List ℕ) (b r : ℕ) (k : Kid) → Removes p b w → toPlace k ≡ child p b (getD w 0 0) → k ≡ Is r → Removes p r (tail w 1)
+deeper p w b r k h e q =
+    let l : b < r = child-after p (used p) (h .sound .shaped) b (getD w 0 0) r (reach-within p (used p) (h .sound .shaped) (h .path) b (h .leads)) (sym e ∙ ap toPlace q) in
+    record { past-root = omega arith; sound = h .sound; path = getD w 0 0 ∷ h .path; leads = ap (on-place none (λ i. child p i (getD w 0 0))) (h .leads) ∙ sym e ∙ ap toPlace q }
 
-module _ (p w p₁ : List ℕ) (b r : ℕ) (k : Kid) (h : Removes p b) (ne : length w ≡ 0 → ⊥) (e : toPlace k ≡ child p b (getD w 0 0)) (q : k ≡ Is r)
+module _ (p w p₁ : List ℕ) (b r : ℕ) (k : Kid) (h : Removes p b w) (ne : length w ≡ 0 → ⊥) (e : toPlace k ≡ child p b (getD w 0 0)) (q : k ≡ Is r)
     (ih : (u : List ℕ) → reach p u ≡ at r → Removed p p₁ u r (tail w 1)) where
   down : (u : List ℕ) → reach p u ≡ at b → reach p (getD w 0 0 ∷ u) ≡ at r
   down u t = ap (on-place none (λ i. child p i (getD w 0 0))) t ∙ sym e ∙ ap toPlace q
@@ -192,12 +203,13 @@ module _ (p w p₁ : List ℕ) (b r : ℕ) (k : Kid) (h : Removes p b) (ne : len
       record {
         sound = t .sound;
         keeps = λ v z g l. t .keeps v z (d .keeps v z g (omega (arith, later))) l;
-        gone = t .same (rev u w) ∙ ap (holds p₁) (sym (word u)) ∙ d .gone;
+        gone = t .same (rev u w) ∙ ap (termAt p₁) (sym (word u)) ∙ d .gone;
         others = λ v n. t .same v ∙ d .others v (λ z. n (z ∙ word u));
+        beside = both-change (d .beside) (t .beside);
       }
 
 pub length-tail : (s : List ℕ) (a : ℕ) → length (tail s a) ≡ length s - a
 length-tail s a = ap length (tail-drop s a) ∙ length-drop a s
 
-pub inside-remove : (p : List ℕ) (b : ℕ) → Removes p b → (b < used p) × (8 * used p ≤ length p)
-inside-remove p b h = (reach-within p (used p) (h .sound .shaped) (h .path) b (h .leads), h .sound .fits)
+pub inside-remove : (p w : List ℕ) (b : ℕ) → Removes p b w → (b < used p) × (8 * used p ≤ length p + 4)
+inside-remove p w b h = (reach-within p (used p) (h .sound .shaped) (h .path) b (h .leads), h .sound .fits)

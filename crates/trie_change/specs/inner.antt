@@ -1,4 +1,4 @@
 -- Words of inner contracts. No public contract needs them.
-pub mod Planting
-pub mod Plucking
+pub mod Adding
+pub mod Taking
 pub mod Resetting

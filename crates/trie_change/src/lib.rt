@@ -1,4 +1,4 @@
-// Changing a dictionary's pool: one leaf more, one leaf less, whole words, and no words at all.
+// Changing the words of a dictionary's pool: one more, one less, and none at all.
 mod add;
 mod empty;
 mod remove;

@@ -1,7 +1,7 @@
 -- What the readers answer. Assumes nothing.
-use Prim.Native.Nat.{ℕ, _*_, _/_, _≤_, _<_, min}
+use Prim.Native.Nat.{ℕ, zero, suc, _-_, _*_, _/_, _≤_, _<_, min}
 use native.Mathlib.Omega.{arith}
-use mathlib.Core.Path.{_≡_, sym, ap, _∙_}
+use mathlib.Core.Path.{_≡_, refl, sym, ap, _∙_}
 use mathlib.Core.Bool.{Bool, true, false, cond}
 use mathlib.Core.List.{List, [], _∷_, _++_}
 use lib.ListN.{length, take, drop}
@@ -10,15 +10,18 @@ use Rattle.refusal.specs.declared.Refusal.the-variants.{NotADictionary, OutputT
 use Rattle.refusal.specs.declared.Answer.{Answer}
 use Rattle.refusal.specs.declared.Answer.the-variants.{Accepted, Refused}
 use Rattle.refusal.specs.Answers.{answer, output, outCause}
-use Rattle.trie_pool.specs.Words.{holds}
+use Rattle.trie_pool.specs.Words.{holds, term, termAt}
 use Rattle.trie_pool.specs.Rules.{cellsOf, isDictionary}
-use Rattle.trie_pool.specs.Meaning.{Words, meaning, prefixLengths, amount}
+use Rattle.trie_pool.specs.Meaning.{Words, Terms, meaning, prefixLengths, amount}
 use Rattle.trie_search.specs.inner.Search.{Asks, Wrote, Counts}
 use Rattle.trie_check.specs.Refusals.{held, poolCauses, readCauses}
 use Rattle.trie_char.specs.Refusals.{prefixCauses}
-use Rattle.refusal.proofs.Causes.{again, handed, handed-same, out-short, out-fits}
+use Rattle.trie_char.specs.Answers.{termsOf, tellsTerm, toldTerm}
+use Rattle.trie_char.specs.declared.WordAnswer.the-variants.{Held}
+use Rattle.trie_char.specs.declared.WordAnswer.the-variants as variants
+use Rattle.refusal.proofs.Causes.{handed, out-short, out-fits}
 use Rattle.trie_check.proofs.Refusals.{read-of}
-use Rattle.trie_check.proofs.Parts.{known-is, is-none, cells-are, sound-part, readable, held-part}
+use Rattle.trie_check.proofs.Parts.{known-is, is-none, cells-are, sound-part, readable, held-part, terms-part}
 
 -- ---- an accepted text
 
@@ -33,13 +36,20 @@ module _ (pool text : List ℕ) {a : Answer} {k : ℕ} (is : a ≡ answer (readC
     words : held (meaning pool) ≡ holds (take (8 * n) pool)
     words = held-part pool n n-is known
 
-    pub contain-yes : (b : Bool) → b ≡ holds (take (8 * n) pool) text → b ≡ true → Accepted 1 ≡ answer (readCauses text (meaning pool)) (cond (held (meaning pool) text) 1 0)
-    contain-yes b e t = again (readCauses text (meaning pool)) (length text) 1 first
-        ∙ sym (ap (λ (f : Words). answer (readCauses text (meaning pool)) (cond (f text) 1 0)) words ∙ ap (λ (z : Bool). answer (readCauses text (meaning pool)) (cond z 1 0)) (sym e ∙ t))
+    pub contain-told : (m : ℕ) → term m ≡ termAt (take (8 * n) pool) text → tellsTerm (term m) ≡ toldTerm (answer (readCauses text (meaning pool)) (length text)) (termsOf pool text)
+    contain-told m e =
+        ap tellsTerm (e ∙ sym (ap (λ (f : Terms). f text) (terms-part pool n n-is known)))
+        ∙ sym (ap (λ (z : Answer). toldTerm z (termsOf pool text)) first)
 
-    pub contain-no : (b : Bool) → b ≡ holds (take (8 * n) pool) text → b ≡ false → Accepted 0 ≡ answer (readCauses text (meaning pool)) (cond (held (meaning pool) text) 1 0)
-    contain-no b e t = again (readCauses text (meaning pool)) (length text) 0 first
-        ∙ sym (ap (λ (f : Words). answer (readCauses text (meaning pool)) (cond (f text) 1 0)) words ∙ ap (λ (z : Bool). answer (readCauses text (meaning pool)) (cond z 1 0)) (sym e ∙ t))
+    pub contain-no : (m w : ℕ) → term m ≡ termAt (take (8 * n) pool) text → w ≡ m → w ≡ 0 → Held 0 0 ≡ toldTerm (answer (readCauses text (meaning pool)) (length text)) (termsOf pool text)
+    contain-no m w e f z = sym (ap (λ (k : ℕ). tellsTerm (term k)) (sym f ∙ z)) ∙ contain-told m e
+
+    pub contain-yes : (m w : ℕ) → term m ≡ termAt (take (8 * n) pool) text → w ≡ m → (w ≡ 0 → ⊥) → Held 1 (w - 1) ≡ toldTerm (answer (readCauses text (meaning pool)) (length text)) (termsOf pool text)
+    contain-yes m w e f nz = go w nz ∙ ap (λ (k : ℕ). tellsTerm (term k)) f ∙ contain-told m e
+      where
+        go : (w : ℕ) → (w ≡ 0 → ⊥) → Held 1 (w - 1) ≡ tellsTerm (term w)
+        go zero nz = absurd (nz refl)
+        go (suc w) nz = let z : suc w - 1 ≡ w = omega arith in ap (λ (k : ℕ). Held 1 k) z
 
     lengths : prefixLengths (held (meaning pool)) text ≡ prefixLengths (holds (take (8 * n) pool)) text
     lengths = ap (λ (f : Words). prefixLengths f text) words
@@ -64,8 +74,8 @@ module _ (pool text : List ℕ) {a : Answer} {k : ℕ} (is : a ≡ answer (readC
 -- ---- a refused one
 
 module _ (pool text : List ℕ) {a : Answer} {r : Refusal} (is : a ≡ answer (readCauses text (meaning pool)) (length text)) (no′ : a ≡ Refused r) where
-  pub contain-refused : (q : ℕ) → a ≡ answer (readCauses text (meaning pool)) q
-  contain-refused q = handed-same (readCauses text (meaning pool)) (length text) q is no′
+  pub contain-refused : variants.Refused r ≡ toldTerm (answer (readCauses text (meaning pool)) (length text)) (termsOf pool text)
+  contain-refused = sym (ap (λ (z : Answer). toldTerm z (termsOf pool text)) (sym is ∙ no′))
 
   pub prefix-refused : (out : List ℕ) (q : ℕ) → a ≡ answer (prefixCauses text (meaning pool) out) q
   prefix-refused out q =
@@ -79,7 +89,7 @@ module _ (pool : List ℕ) (b : Bool) (is : b ≡ isDictionary pool) where
 
   module _ (e : b ≡ true) (n : ℕ) (n-is : n ≡ min (length pool / 8) 1048576) where
     pub counts : Counts (take (8 * n) pool)
-    counts = let s = sound-part pool n n-is (sym is ∙ e) in record { some = omega (arith, s .fits, s .shaped .some); fits = s .fits }
+    counts = let s = sound-part pool n n-is (sym is ∙ e) in record { some = s .shaped .some; fits = s .fits }
 
     pub amount-is : (m : ℕ) → m ≡ amount (take (8 * n) pool) → Accepted m ≡ answer (poolCauses (meaning pool)) (amount (cellsOf pool))
     amount-is m h = ap Accepted (h ∙ ap amount (cells-are pool n n-is))

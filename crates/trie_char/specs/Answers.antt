@@ -1,43 +1,62 @@
 -- What each operation on a dictionary answers: the first refusal that applies, or the number that
 -- it is accepted with.
 use Prim.Native.Nat.{ℕ}
-use mathlib.Core.Bool.{cond}
 use mathlib.Core.List.{List}
+use mathlib.Core.Option.{Option, none, some}
 use lib.ListN.{length}
 use Rattle.refusal.specs.declared.Answer.{Answer}
+use Rattle.refusal.specs.declared.Answer.the-variants.{Accepted, Refused}
 use Rattle.refusal.specs.Answers.{answer}
 use Rattle.char_string.specs.Blanks.{trimmedOf}
 use Rattle.trie_pool.specs.Rules.{cellsOf}
-use Rattle.trie_pool.specs.Meaning.{Words, meaning, withWord, withoutWord, report, prefixLengths, amount}
-use Rattle.trie_check.specs.Refusals.{held, poolCauses, readCauses}
+use Rattle.trie_pool.specs.Meaning.{Words, Terms, meaning, terms, withTerm, withoutTerm, reportTerm}
+use Rattle.trie_pool.specs.Meaning.{prefixLengths, amount}
+use Rattle.trie_check.specs.Refusals.{held, heldTerms, poolCauses, readCauses}
+use Rattle.trie_char.specs.declared.WordAnswer.{WordAnswer}
+use Rattle.trie_char.specs.declared.WordAnswer.the-variants.{Held}
+use Rattle.trie_char.specs.declared.WordAnswer.the-variants as variants
 use Rattle.trie_char.specs.Refusals.{prefixCauses, removeCauses, addCauses, freshCauses}
 
 -- Fresh pool: 8.
 abbrev pub freshAnswer : List ℕ → Answer
 freshAnswer pool = answer (freshCauses pool) 0
 
--- the words of a pool, and those that an accepted add or remove leaves
+-- the words of a pool, the same with their classes, and those that an accepted add or remove leaves
 abbrev pub wordsOf : List ℕ → Words
 wordsOf pool = held (meaning pool)
 
-abbrev pub added : List ℕ → List ℕ → Words
-added word pool = withWord (trimmedOf word) (wordsOf pool)
+abbrev pub termsOf : List ℕ → Terms
+termsOf pool = heldTerms (terms pool)
 
-abbrev pub removed : List ℕ → List ℕ → Words
-removed word pool = withoutWord (trimmedOf word) (wordsOf pool)
+abbrev pub added : List ℕ → ℕ → List ℕ → Terms
+added word class pool = withTerm (trimmedOf word) class (termsOf pool)
 
--- Add: 2, 3, 4, 7, 8; accepted with 1 if the set changed, else 0.
-abbrev pub addAnswer : List ℕ → List ℕ → Answer
-addAnswer word pool = answer (addCauses word pool) (report (trimmedOf word) (wordsOf pool) (added word pool))
+abbrev pub removed : List ℕ → List ℕ → Terms
+removed word pool = withoutTerm (trimmedOf word) (termsOf pool)
+
+-- Add, with a class: 2, 3, 4, 7, 8; accepted with 1 if the words or their classes changed, else 0.
+-- Add without a class means class 0.
+abbrev pub addAnswer : List ℕ → ℕ → List ℕ → Answer
+addAnswer word class pool =
+    answer (addCauses word pool) (reportTerm (trimmedOf word) (termsOf pool) (added word class pool))
 
 -- Remove: 2, 3, 4, 7; the same.
 abbrev pub removeAnswer : List ℕ → List ℕ → Answer
 removeAnswer word pool =
-    answer (removeCauses word (meaning pool)) (report (trimmedOf word) (wordsOf pool) (removed word pool))
+    answer (removeCauses word (meaning pool)) (reportTerm (trimmedOf word) (termsOf pool) (removed word pool))
 
--- Contains: 2, 3, 4; accepted with 1 or 0.
-abbrev pub containsAnswer : List ℕ → List ℕ → Answer
-containsAnswer word pool = answer (readCauses word (meaning pool)) (cond (wordsOf pool word) 1 0)
+-- Contains tells 1 and the class of a word that is held, else 0 and 0.
+abbrev pub tellsTerm : Option ℕ → WordAnswer
+tellsTerm none = Held 0 0
+tellsTerm (some class) = Held 1 class
+
+abbrev pub toldTerm : Answer → Option ℕ → WordAnswer
+toldTerm (Accepted n) term = tellsTerm term
+toldTerm (Refused r) term = variants.Refused r
+
+-- Contains: 2, 3, 4.
+abbrev pub containsAnswer : List ℕ → List ℕ → WordAnswer
+containsAnswer word pool = toldTerm (answer (readCauses word (meaning pool)) (length word)) (termsOf pool word)
 
 -- Prefix lengths: 2, 3, 4, 6; accepted with their number.
 abbrev pub prefixes : List ℕ → List ℕ → List ℕ

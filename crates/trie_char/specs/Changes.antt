@@ -8,16 +8,16 @@ use Rattle.refusal.specs.declared.Answer.{Answer}
 use Rattle.refusal.specs.declared.Answer.the-variants.{Accepted, Refused}
 use Rattle.trie_pool.specs.Cells.{nodeCells}
 use Rattle.trie_pool.specs.Rules.{capacity}
-use Rattle.trie_pool.specs.Meaning.{Words, meaning}
+use Rattle.trie_pool.specs.Meaning.{Terms, terms}
 
--- The pool of these words, of which there is one (proofs/One.antt: one-after). Later cells and a
--- part node are never written.
-pub record Became (old new : List ℕ) (words : Words) : Type 0 where
-  pub means : meaning new ≡ some words
+-- The pool of these words with these classes, of which there is one (proofs/One.antt: one-after).
+-- Later cells and a part node are never written.
+pub record Became (old new : List ℕ) (held : Terms) : Type 0 where
+  pub means : terms new ≡ some held
   pub later : drop (nodeCells * capacity old) new ≡ drop (nodeCells * capacity old) old
   pub kept : length new ≡ length old
 
 -- A refusal changes no pool.
-abbrev pub After : Answer → List ℕ → List ℕ → Words → Type 0
-After (Accepted n) old new words = Became old new words
-After (Refused r) old new words = new ≡ old
+abbrev pub After : Answer → List ℕ → List ℕ → Terms → Type 0
+After (Accepted n) old new held = Became old new held
+After (Refused r) old new held = new ≡ old

@@ -8,18 +8,18 @@ use trie_change::remove_word;
 use trie_change::reset;
 use trie_check::capacity;
 use trie_pool::NODE;
-use trie_search::is_held;
+use trie_search::mark_of;
 use trie_search::missing;
 use trie_search::nodes_in_use;
 ghost use mathlib.Core.Path.{_≡_};
-ghost use Rattle.trie_pool.specs.Meaning.{noWord};
+ghost use Rattle.trie_pool.specs.Meaning.{noTerm};
 ghost use Rattle.trie_char.specs.Answers.{freshAnswer, addAnswer, added, removeAnswer, removed};
 ghost use Rattle.trie_char.specs.Changes.{After};
 
 // Makes a dictionary without words, whatever the cells held before.
 pub fn fresh(pool: &mut [u32]) -> Answer
     ensures { λ r. ⌜ r ≡ freshAnswer (now (pool .entry)) ⌝ }
-    ensures { λ r. ⌜ After r (now (pool .entry)) (now (pool .exit)) noWord ⌝ }
+    ensures { λ r. ⌜ After r (now (pool .entry)) (now (pool .exit)) noTerm ⌝ }
 {
     if pool.len() < NODE {
         return Answer::Refused(Refusal::TooFewNodes(1));
@@ -29,11 +29,12 @@ pub fn fresh(pool: &mut [u32]) -> Answer
     Answer::Accepted(0)
 }
 
-// Adds the trimmed word; 1 if the set changed, else 0.
-pub fn add(pool: &mut [u32], word: &[u32]) -> Answer
-    ensures { λ r. ⌜ r ≡ addAnswer (now (word .entry)) (now (pool .entry)) ⌝ }
+// Adds the trimmed word with its class, or gives a word that is held this class; 1 if the words or
+// their classes changed, else 0.
+pub fn add_class(pool: &mut [u32], word: &[u32], class: u16) -> Answer
+    ensures { λ r. ⌜ r ≡ addAnswer (now (word .entry)) class (now (pool .entry)) ⌝ }
     ensures { λ r. ⌜ After r (now (pool .entry)) (now (pool .exit))
-        (added (now (word .entry)) (now (pool .entry))) ⌝ }
+        (added (now (word .entry)) class (now (pool .entry))) ⌝ }
 {
     let checked = check_word(pool, word);
     let Answer::Accepted(_) = checked else {
@@ -51,14 +52,24 @@ pub fn add(pool: &mut [u32], word: &[u32]) -> Answer
     if w.len() == 0 {
         return Answer::Accepted(0);
     }
-    if is_held(&pool[..cells], w) {
+    let mark = class as u32 + 1;
+    if mark_of(&pool[..cells], w) == mark {
         return Answer::Accepted(0);
     }
-    add_word(&mut pool[..cells], w);
+    add_word(&mut pool[..cells], w, mark);
     Answer::Accepted(1)
 }
 
-// Removes the trimmed word; 1 if the set changed, else 0.
+// Adds the trimmed word without a class, which means class 0.
+pub fn add(pool: &mut [u32], word: &[u32]) -> Answer
+    ensures { λ r. ⌜ r ≡ addAnswer (now (word .entry)) 0 (now (pool .entry)) ⌝ }
+    ensures { λ r. ⌜ After r (now (pool .entry)) (now (pool .exit))
+        (added (now (word .entry)) 0 (now (pool .entry))) ⌝ }
+{
+    add_class(pool, word, 0)
+}
+
+// Removes the trimmed word; 1 if the words changed, else 0.
 pub fn remove(pool: &mut [u32], word: &[u32]) -> Answer
     ensures { λ r. ⌜ r ≡ removeAnswer (now (word .entry)) (now (pool .entry)) ⌝ }
     ensures { λ r. ⌜ After r (now (pool .entry)) (now (pool .exit))
@@ -70,7 +81,7 @@ pub fn remove(pool: &mut [u32], word: &[u32]) -> Answer
     };
     let w = trimmed(word);
     let cells = NODE * capacity(pool.len());
-    if !is_held(&pool[..cells], w) {
+    if mark_of(&pool[..cells], w) == 0 {
         return Answer::Accepted(0);
     }
     remove_word(&mut pool[..cells], 0, w);

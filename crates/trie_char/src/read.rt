@@ -1,4 +1,6 @@
 // Reading a dictionary.
+use crate::WordAnswer;
+use cells::wide;
 use refusal::Answer;
 use refusal::Refusal;
 use trie_check::capacity;
@@ -6,25 +8,30 @@ use trie_check::check;
 use trie_check::is_dictionary;
 use trie_pool::NODE;
 use trie_search::count_words;
-use trie_search::is_held;
+use trie_search::mark_of;
 use trie_search::prefix_count;
 ghost use mathlib.Core.Path.{_≡_};
 ghost use Rattle.refusal.specs.Answers.{output};
 ghost use Rattle.trie_char.specs.Answers.{containsAnswer, prefixes, prefixesAnswer, wordCountAnswer};
 
-// 1 if the word is held, else 0. The word is taken as it is.
-pub fn contain(pool: &[u32], word: &[u32]) -> Answer
+// Whether the word is held, and its class. The word is taken as it is.
+pub fn contain(pool: &[u32], word: &[u32]) -> WordAnswer
     ensures { λ r. ⌜ r ≡ containsAnswer (now (word .entry)) (now (pool .entry)) ⌝ }
 {
     let checked = check(pool, word);
-    let Answer::Accepted(_) = checked else {
-        return checked;
-    };
-    let cells = NODE * capacity(pool.len());
-    if is_held(&pool[..cells], word) {
-        return Answer::Accepted(1);
+    match checked {
+        Answer::Refused(r) => {
+            return WordAnswer::Refused(r);
+        }
+        Answer::Accepted(_) => {
+            let cells = NODE * capacity(pool.len());
+            let mark = wide(mark_of(&pool[..cells], word));
+            if mark == 0 {
+                return WordAnswer::Held(0, 0);
+            }
+            WordAnswer::Held(1, mark - 1)
+        }
     }
-    Answer::Accepted(0)
 }
 
 // The lengths of the words that the text starts with, rising, at the front of out; accepted with

@@ -2,12 +2,12 @@
 use mathlib.Core.Path.{_≡_, refl, sym}
 use mathlib.Core.List.{List}
 use mathlib.Core.Bool.{Bool, true, false}
-use Prim.Native.Nat.{ℕ}
+use Prim.Native.Nat.{ℕ, _≤_}
 use native.Mathlib.Omega.{arith}
 use Rattle.trie_pool.specs.Cells.{used}
-use Rattle.trie_pool.specs.inner.Sound.{Sound}
-use Rattle.trie_pool.specs.Rules.{wellFormed}
-use Rattle.trie_pool.proofs.Rules.{sound, passes}
+use Rattle.trie_pool.specs.inner.Sound.{Plain, Sound}
+use Rattle.trie_pool.specs.Rules.{capacity, wellFormed}
+use Rattle.trie_pool.proofs.Rules.{sound, plain-is, in-capacity, passes}
 use Rattle.trie_check.specs.inner.Checks.{Decides}
 
 pub denied : {P : Type 0} → (P → ⊥) → Decides false P
@@ -19,13 +19,19 @@ granted p = record { yes′ = λ e. p; no′ = λ e q. let z : _≡_ {A = ℕ} 0
 pub clash : {P : Type 0} → false ≡ true → P
 clash e = let z : _≡_ {A = ℕ} 0 1 = cc in absurd (omega arith)
 
+-- the rules as facts
+pub record Passing (p : List ℕ) : Type 0 where
+  pub sound : Sound p (used p) 0
+  pub plain : Plain p
+  pub room : used p ≤ capacity p
+
 -- what is found of the cells is what the rules say
-pub refused : (p : List ℕ) → (Sound p (used p) 0 → ⊥) → false ≡ wellFormed p
+pub refused : (p : List ℕ) → (Passing p → ⊥) → false ≡ wellFormed p
 refused p f = go (wellFormed p) refl
   where
     go : (b : Bool) → wellFormed p ≡ b → false ≡ b
     go false e = refl
-    go true e = absurd (f (sound p e))
+    go true e = absurd (f (record { sound = sound p e; plain = plain-is p e; room = in-capacity p e }))
 
-pub accepted : (p : List ℕ) → Sound p (used p) 0 → true ≡ wellFormed p
-accepted p h = sym (passes p h)
+pub accepted : (p : List ℕ) → Passing p → true ≡ wellFormed p
+accepted p h = sym (passes p (h .sound) (h .plain) (h .room))

@@ -8,12 +8,13 @@ use mathlib.Core.Option.{none, some}
 use lib.ListN.{length, take}
 use lib.Seq.{length-take-le}
 use Rattle.trie_pool.specs.Cells.{used}
-use Rattle.trie_pool.specs.Words.{holds}
-use Rattle.trie_pool.specs.inner.Sound.{Sound, Readable}
+use Rattle.trie_pool.specs.Words.{holds, termAt}
+use Rattle.trie_pool.specs.inner.Sound.{Plain, Sound, Readable}
 use Rattle.trie_pool.specs.Rules.{cellsOf, wellFormed, isDictionary}
-use Rattle.trie_pool.specs.Meaning.{meaning}
-use Rattle.trie_pool.proofs.Rules.{sound, clash}
-use Rattle.trie_check.specs.Refusals.{isNone, held}
+use Rattle.trie_pool.specs.Meaning.{Terms, meaning, terms}
+use Rattle.trie_pool.proofs.Rules.{sound, plain-is, clash}
+use Rattle.trie_pool.proofs.Terms.{means-of}
+use Rattle.trie_check.specs.Refusals.{isNone, held, heldTerms}
 
 -- ---- meaning
 
@@ -40,6 +41,18 @@ known-is pool h = go (isDictionary pool) refl
 pub held-is : (pool : List ℕ) → isDictionary pool ≡ true → held (meaning pool) ≡ holds (cellsOf pool)
 held-is pool e = ap held (meaning-yes pool e)
 
+-- ---- the words with their classes
+
+pub terms-yes : (pool : List ℕ) → isDictionary pool ≡ true → terms pool ≡ some (termAt (cellsOf pool))
+unfolding terms
+terms-yes pool e = ap (λ (b : Bool). cond b (some (termAt (cellsOf pool))) none) e
+
+pub terms-is : (pool : List ℕ) → isDictionary pool ≡ true → heldTerms (terms pool) ≡ termAt (cellsOf pool)
+terms-is pool e = ap heldTerms (terms-yes pool e)
+
+pub terms-known : (pool : List ℕ) (t : Terms) → terms pool ≡ some t → isDictionary pool ≡ true
+terms-known pool t e = known-is pool (ap isNone (means-of pool t e))
+
 -- ---- the part that is lent on
 
 module _ (pool : List ℕ) (n : ℕ) (is : n ≡ min (length pool / 8) 1048576) where
@@ -62,3 +75,9 @@ module _ (pool : List ℕ) (n : ℕ) (is : n ≡ min (length pool / 8) 1048576) 
 
   pub held-part : isDictionary pool ≡ true → held (meaning pool) ≡ holds (take (8 * n) pool)
   held-part e = held-is pool e ∙ ap holds (sym cells-are)
+
+  pub terms-part : isDictionary pool ≡ true → heldTerms (terms pool) ≡ termAt (take (8 * n) pool)
+  terms-part e = terms-is pool e ∙ ap termAt (sym cells-are)
+
+  pub plain-part : isDictionary pool ≡ true → Plain (take (8 * n) pool)
+  plain-part e = plain-is (take (8 * n) pool) (ap wellFormed cells-are ∙ e)

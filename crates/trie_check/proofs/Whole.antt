@@ -2,7 +2,7 @@
 use mathlib.Core.Path.{_≡_, refl, sym, ap, subst, _∙_}
 use mathlib.Core.Bool.{Bool, true, false, not, cond}
 use mathlib.Core.List.{List}
-use Prim.Native.Nat.{ℕ, zero, suc, _+_, _-_, _*_, _≤_, _<_}
+use Prim.Native.Nat.{ℕ, zero, suc, _+_, _-_, _*_, _/_, _%_, _≤_, _<_}
 use native.Mathlib.Omega.{arith}
 use native.Mathlib.Decide.{decLt}
 use borrow.Author.Tests.{lt-ltb, le-ltb, eqb-true, eqb-false, not-true, not-false, leb-true, leb-false}
@@ -12,10 +12,10 @@ use Rattle.char_string.specs.Scalars.{isScalar}
 use Rattle.char_string.specs.Blanks.{isTrimmed}
 use Rattle.char_string.proofs.WhiteSpace.{stays-between}
 use Rattle.trie_pool.specs.Cells.{scalarAt, firstAt, countAt, markAt, used}
-use Rattle.trie_pool.specs.inner.Sound.{Shaped, Rising, Sound}
+use Rattle.trie_pool.specs.inner.Sound.{Shaped, Rising, Plain, Sound}
 use Rattle.trie_pool.specs.Levels.{hop, levelEnd}
-use Rattle.trie_check.specs.inner.Checks.{Decides, Inner, Each, Nodes}
-use Rattle.trie_pool.proofs.Shape.{within}
+use Rattle.trie_check.specs.inner.Checks.{Decides, Inner, Each, Aside, Nodes}
+use Rattle.trie_pool.proofs.Shape.{within, mark-is}
 use Rattle.trie_check.proofs.Decide.{clash}
 
 -- ---- rising
@@ -56,27 +56,33 @@ thai-legal c l h = simp (lt-ltb c 0xD800 (omega arith))
 thai-stays : (c : ℕ) → 0xE00 ≤ c → c ≤ 0xE7F → isTrimmed c ≡ false
 thai-stays c l h = stays-between c (omega arith) (omega arith)
 
-module _ (c k m z : ℕ) (zero′ : z ≡ 0) (mark : m ≤ 1) (leaf : 1 ≤ k + m) where
-  pub inner-thai : (0xE00 ≤ c) × (c ≤ 0xE7F) → Inner c k m z
-  inner-thai h = record { fit = record { legal = thai-legal c (h .0) (h .1); mark = mark; stop = λ l. thai-stays c (h .0) (h .1) }; leaf = leaf; zero′ = zero′ }
+module _ (c k m : ℕ) (mark : m ≤ 65536) (leaf : 1 ≤ k + m) where
+  pub inner-thai : (0xE00 ≤ c) × (c ≤ 0xE7F) → Inner c k m
+  inner-thai h = record { fit = record { legal = thai-legal c (h .0) (h .1); mark = mark; stop = λ l. thai-stays c (h .0) (h .1) }; leaf = leaf }
 
-  pub inner-inside : isScalar c ≡ true → m ≡ 0 → Inner c k m z
-  inner-inside legal none = record { fit = record { legal = legal; mark = mark; stop = λ l. absurd (omega arith) }; leaf = leaf; zero′ = zero′ }
+  pub inner-inside : isScalar c ≡ true → m ≡ 0 → Inner c k m
+  inner-inside legal none = record { fit = record { legal = legal; mark = mark; stop = λ l. absurd (omega arith) }; leaf = leaf }
 
   -- where a word ends, the scalar must not be trimmed
-  pub inner-end : isScalar c ≡ true → (t : Bool) → (m ≡ 0 → ⊥) → t ≡ isTrimmed c → Decides (not t) (Inner c k m z)
+  pub inner-end : isScalar c ≡ true → (t : Bool) → (m ≡ 0 → ⊥) → t ≡ isTrimmed c → Decides (not t) (Inner c k m)
   inner-end legal t some e = record {
-    yes′ = λ y. record { fit = record { legal = legal; mark = mark; stop = λ l. sym e ∙ not-true _ y }; leaf = leaf; zero′ = zero′ };
+    yes′ = λ y. record { fit = record { legal = legal; mark = mark; stop = λ l. sym e ∙ not-true _ y }; leaf = leaf };
     no′ = λ y h. clash (sym (h .fit .stop (omega arith)) ∙ sym e ∙ not-false _ y);
   }
 
-pub three : (p : List ℕ) (a : ℕ) → getD p (a + 5) 0 ≡ 0 → getD p (a + 6) 0 ≡ 0 → getD p (a + 7) 0 ≡ 0 → (r : ℕ) → 5 ≤ r → r < 8 → getD p (a + r) 0 ≡ 0
-three p a x y z r l h = pick (decLt r 6) (decLt r 7)
+-- the second half, from its four cells
+pub aside-join : (p : List ℕ) (i : ℕ) → getD p (8 * i + 4) 0 ≡ 0 → getD p (8 * i + 4 + 1) 0 ≡ 0 → getD p (8 * i + 4 + 2) 0 ≡ 0 → getD p (8 * i + 4 + 3) 0 ≡ 0 → Aside p i
+aside-join p i w x y z = record { zeros = λ r l h. pick r l h (decLt r 5) (decLt r 6) (decLt r 7) }
   where
-    pick : Dec (r < 6) → Dec (r < 7) → getD p (a + r) 0 ≡ 0
-    pick (yes u) v = let e : r ≡ 5 = omega arith in ap (λ (k : ℕ). getD p (a + k) 0) e ∙ x
-    pick (no u) (yes v) = let e : r ≡ 6 = omega arith in ap (λ (k : ℕ). getD p (a + k) 0) e ∙ y
-    pick (no u) (no v) = let e : r ≡ 7 = omega arith in ap (λ (k : ℕ). getD p (a + k) 0) e ∙ z
+    pick : (r : ℕ) → 4 ≤ r → r < 8 → Dec (r < 5) → Dec (r < 6) → Dec (r < 7) → getD p (8 * i + r) 0 ≡ 0
+    pick r l h (yes s) t u = let e : 8 * i + r ≡ 8 * i + 4 = omega arith in ap (λ (k : ℕ). getD p k 0) e ∙ w
+    pick r l h (no s) (yes t) u = let e : 8 * i + r ≡ 8 * i + 4 + 1 = omega arith in ap (λ (k : ℕ). getD p k 0) e ∙ x
+    pick r l h (no s) (no t) (yes u) = let e : 8 * i + r ≡ 8 * i + 4 + 2 = omega arith in ap (λ (k : ℕ). getD p k 0) e ∙ y
+    pick r l h (no s) (no t) (no u) = let e : 8 * i + r ≡ 8 * i + 4 + 3 = omega arith in ap (λ (k : ℕ). getD p k 0) e ∙ z
+
+-- one of its cells, as the code counts them
+pub aside-cell : (p : List ℕ) (i r k : ℕ) → Aside p i → r < 4 → k ≡ 8 * i + (4 + r) → getD p k 0 ≡ 0
+aside-cell p i r k h l e = ap (λ (z : ℕ). getD p z 0) e ∙ h .zeros (4 + r) (omega arith) (omega arith)
 
 -- ---- all nodes
 
@@ -89,6 +95,7 @@ pub record Inv (p : List ℕ) (n i s : ℕ) : Type 0 where
   pub start : 0 < i → firstAt p 0 ≡ 1
   pub here : (k : ℕ) → suc k ≡ i → firstAt p k + countAt p k ≡ s
   pub none : i ≡ 0 → s ≡ 1
+  pub aside : (k : ℕ) → k < i → Aside p k
 
 pub begin : (p : List ℕ) (n : ℕ) → 0 < n → Inv p n 0 1
 begin p n h = record {
@@ -100,11 +107,12 @@ begin p n h = record {
   start = λ l. absurd (omega arith);
   here = λ k e. absurd (omega arith);
   none = λ e. refl;
+  aside = λ k l. absurd (omega arith);
 }
 
-pub turn : (p : List ℕ) (n i s c : ℕ) → Inv p n i s → i < n → Each p n i s → c ≡ getD p (8 * i + 2) 0 → Inv p n (i + 1) (s + c)
+pub turn : (p : List ℕ) (n i s c : ℕ) → Inv p n i s → i < n → Each p n i s → Aside p i → c ≡ getD p (8 * i + 2) 0 → Inv p n (i + 1) (s + c)
 unfolding countAt
-turn p n i s c v l h e = record {
+turn p n i s c v l h z e = record {
   upto = omega arith;
   low = omega (arith, v .low);
   fits = omega (arith, h .fits);
@@ -113,8 +121,13 @@ turn p n i s c v l h e = record {
   start = λ q. starts (decLt 0 i);
   here = λ k q. let z : k ≡ i = omega arith in rw z (omega (arith, h .first));
   none = λ q. absurd (omega arith);
+  aside = λ k q. zeros k q (decLt k i);
 }
   where
+    zeros : (k : ℕ) → k < i + 1 → Dec (k < i) → Aside p k
+    zeros k q (yes m) = v .aside k m
+    zeros k q (no m) = let e : k ≡ i = omega arith in subst (Aside p) (sym e) z
+
     all : (k : ℕ) → k < i + 1 → Dec (k < i) → Each p n k (firstAt p k)
     all k q (yes m) = v .each k m
     all k q (no m) = let z : k ≡ i = omega arith in subst (λ (t : ℕ). Each p n t (firstAt p t)) (sym z) (subst (λ (t : ℕ). Each p n i t) (sym (h .first)) h)
@@ -135,6 +148,9 @@ at-s p n (suc i) s v l h = h .shaped .next i l ∙ v .here i refl
 pub refuse : (p : List ℕ) (n i s : ℕ) → Inv p n i s → i < n → (Each p n i s → ⊥) → Nodes p n → ⊥
 refuse p n i s v l no′ h = no′ (subst (λ (t : ℕ). Each p n i t) (at-s p n i s v l h) (h .each i l))
 
+pub refuse-aside : (p : List ℕ) (n i : ℕ) → i < n → (Aside p i → ⊥) → Nodes p n → ⊥
+refuse-aside p n i l no′ h = no′ (h .aside i l)
+
 pub done : (p : List ℕ) (n i s : ℕ) → Inv p n i s → 0 < n → n ≤ i → Decides (eqb s n) (Nodes p n)
 done p n i s v some l = record {
   yes′ = λ e. record {
@@ -146,6 +162,7 @@ done p n i s v some l = record {
       ahead = λ k q. v .each k (omega arith) .ahead;
     };
     each = λ k q. v .each k (omega arith);
+    aside = λ k q. v .aside k (omega arith);
   };
   no′ = λ e h. eqb-false s n e (sym (v .here (n - 1) (omega (arith, v .upto))) ∙ h .shaped .last (n - 1) (omega arith));
 }
@@ -188,35 +205,47 @@ level-done p n e d v l =
 
 -- ---- the whole
 
-pub nodes-of : (p : List ℕ) (n : ℕ) → Sound p n 0 → Nodes p n
-nodes-of p n h = record {
+pub nodes-of : (p : List ℕ) (n : ℕ) → Sound p n 0 → Plain p → Nodes p n
+nodes-of p n h f = record {
   shaped = h .shaped;
   each = λ i l. record {
     first = refl;
     ahead = h .shaped .ahead i l;
     fits = within p n (h .shaped) i l;
-    others = λ r a b. h .spare .others i r l a b;
     rising = h .rising i l;
-    inner = λ q. record { fit = h .fit i q l; leaf = h .leaf i q l (omega arith); zero′ = h .spare .fifth i q l };
+    inner = λ q. record { fit = h .fit i q l; leaf = h .leaf i q l (omega arith) };
   };
+  aside = λ i l. record { zeros = f .aside i };
 }
 
-pub sound-of : (p : List ℕ) (n : ℕ) → Nodes p n → 8 * n ≤ length p → n ≤ 1048576 → getD p 0 0 ≡ 0 → getD p 3 0 ≡ 0 → getD p 4 0 ≡ n
+pub sound-of : (p : List ℕ) (n : ℕ) → Nodes p n → 8 * n ≤ length p → n ≤ 1048576 → getD p 0 0 ≡ n
     → ((k : ℕ) → 8 * n ≤ k → getD p k 0 ≡ 0) → ((i : ℕ) → 0 < i → i ≤ countAt p 0 → isTrimmed (scalarAt p i) ≡ false) → levelEnd p n 255 ≡ n → Sound p n 0
-unfolding scalarAt markAt
-sound-of p n h fit small root um used blank starts deep = record {
+sound-of p n h fit small used blank starts deep = record {
   shaped = h .shaped;
-  fits = fit;
+  fits = omega arith;
   small = small;
-  root = root;
-  unmarked = um;
-  spare = record { used = used; fifth = λ i a l. h .each i l .inner a .zero′; others = λ i r l a b. h .each i l .others r a b; blank = blank };
+  spare = record { used = used; blank = λ i r a b. blank (8 * i + r) (omega arith) };
   fit = λ i a l. h .each i l .inner a .fit;
   start = starts;
   leaf = λ i a l ne. h .each i l .inner a .leaf;
   rising = λ i l. h .each i l .rising;
   shallow = deep;
 }
+
+pub plain-of : (p : List ℕ) (n : ℕ) → Nodes p n → getD p 3 0 ≡ 0 → ((k : ℕ) → 8 * n ≤ k → getD p k 0 ≡ 0) → Plain p
+plain-of p n h root blank = record { root = root; aside = λ i r a b. go i r a b (decLt i n) }
+  where
+    go : (i r : ℕ) → 4 ≤ r → r < 8 → Dec (i < n) → getD p (8 * i + r) 0 ≡ 0
+    go i r a b (yes l) = h .aside i l .zeros r a b
+    go i r a b (no l) = blank (8 * i + r) (omega arith)
+
+-- the cells behind the nodes in use are 0
+pub blank-of : (p : List ℕ) (n : ℕ) → Sound p n 0 → Plain p → (k : ℕ) → 8 * n ≤ k → getD p k 0 ≡ 0
+blank-of p n h f k l = let e : k ≡ 8 * (k / 8) + k % 8 = omega arith in ap (λ (z : ℕ). getD p z 0) e ∙ go (decLt (k % 8) 4)
+  where
+    go : Dec (k % 8 < 4) → getD p (8 * (k / 8) + k % 8) 0 ≡ 0
+    go (yes q) = h .spare .blank (k / 8) (k % 8) (omega arith) q
+    go (no q) = f .aside (k / 8) (k % 8) (omega arith) (omega arith)
 
 -- the nodes in use, as the code reads them
 pub at-n : (p : List ℕ) (n : ℕ) → n ≡ used p → Sound p (used p) 0 → Sound p n 0
@@ -242,31 +271,25 @@ pub starts-not : (p : List ℕ) (k i : ℕ) → isTrimmed (getD p (8 * i) 0) ≡
 unfolding scalarAt
 starts-not p k i h a b f = clash (sym (f i a b) ∙ h)
 
--- ---- the root
+-- ---- one node, from its cells
 
-pub root-of : (p : List ℕ) (n : ℕ) → Sound p n 0 → getD p 0 0 ≡ 0
-unfolding scalarAt
-root-of p n h = h .root
+pub inner-cells : (p : List ℕ) (i : ℕ) → 0 < i → Inner (scalarAt p i) (countAt p i) (markAt p i) → Inner (getD p (8 * i) 0) (getD p (8 * i + 2) 0) (getD p (8 * i + 3) 0)
+unfolding scalarAt countAt
+inner-cells p i l h = subst (λ (m : ℕ). Inner (scalarAt p i) (countAt p i) m) (mark-is p i l) h
 
-pub mark-of : (p : List ℕ) (n : ℕ) → Sound p n 0 → getD p 3 0 ≡ 0
-unfolding markAt
-mark-of p n h = h .unmarked
-
-pub each-join : (p : List ℕ) (n i s f k : ℕ) → f ≡ getD p (8 * i + 1) 0 → f ≡ s → i < s → s ≤ n → k ≡ getD p (8 * i + 2) 0 → k ≤ n - s
-    → getD p (8 * i + 5) 0 ≡ 0 → getD p (8 * i + 6) 0 ≡ 0 → getD p (8 * i + 7) 0 ≡ 0 → Rising p s (s + k)
-    → (0 < i → Inner (getD p (8 * i) 0) (getD p (8 * i + 2) 0) (getD p (8 * i + 3) 0) (getD p (8 * i + 4) 0)) → Each p n i s
-unfolding scalarAt firstAt countAt markAt
-each-join p n i s f k e e′ ahead l q fit x y z r inner = record {
+pub each-join : (p : List ℕ) (n i s f k : ℕ) → f ≡ getD p (8 * i + 1) 0 → f ≡ s → i < s → s ≤ n → k ≡ getD p (8 * i + 2) 0 → k ≤ n - s → Rising p s (s + k)
+    → (0 < i → Inner (getD p (8 * i) 0) (getD p (8 * i + 2) 0) (getD p (8 * i + 3) 0)) → Each p n i s
+unfolding scalarAt firstAt countAt
+each-join p n i s f k e e′ ahead l q fit r inner = record {
   first = sym e ∙ e′;
   ahead = ahead;
   fits = omega arith;
-  others = three p (8 * i) x y z;
   rising = λ j a b. r j a (omega arith);
-  inner = inner;
+  inner = λ a. subst (λ (m : ℕ). Inner (scalarAt p i) (countAt p i) m) (sym (mark-is p i a)) (inner a);
 }
 
 -- the root's children are nodes
-pub starts-fit : (p : List ℕ) (n k : ℕ) → Nodes p n → 8 * n ≤ length p → k ≡ getD p 2 0 → 8 * k < length p
+pub starts-fit : (p : List ℕ) (n k : ℕ) → Nodes p n → 8 * n ≤ length p + 4 → k ≡ getD p 2 0 → 8 * k < length p
 unfolding countAt
 starts-fit p n k h l e = omega (arith, h .each 0 (h .shaped .some) .fits, h .shaped .start)
 

@@ -6,7 +6,7 @@ use mathlib.Core.Option.{Option, none, some}
 use Rattle.refusal.specs.Answers.{Cause}
 use Rattle.refusal.specs.declared.Refusal.the-variants.{NotADictionary}
 use Rattle.char_string.specs.Scalars.{textCauses}
-use Rattle.trie_pool.specs.Meaning.{Words, noWord}
+use Rattle.trie_pool.specs.Meaning.{Words, noWord, Terms, noTerm}
 
 abbrev pub isNone : Option Words → Bool
 isNone none = true
@@ -16,6 +16,11 @@ isNone (some f) = false
 abbrev pub held : Option Words → Words
 held none = noWord
 held (some f) = f
+
+-- the same with their classes
+abbrev pub heldTerms : Option Terms → Terms
+heldTerms none = noTerm
+heldTerms (some f) = f
 
 -- 4: the pool isn't a dictionary; 0.
 abbrev pub poolCauses : Option Words → List Cause

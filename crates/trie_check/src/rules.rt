@@ -5,14 +5,16 @@ use char_string::is_scalar;
 use char_string::is_trimmed;
 use trie_pool::COUNT;
 use trie_pool::FIRST;
+use trie_pool::HALF;
 use trie_pool::IN_USE;
 use trie_pool::MARK;
+use trie_pool::MAX_MARK;
 use trie_pool::MAX_NODES;
 use trie_pool::MAX_WORD;
 use trie_pool::NODE;
 ghost use mathlib.Core.Path.{_≡_};
 ghost use mathlib.Core.Bool.{false};
-ghost use Prim.Native.Nat.{ℕ, _*_, _≤_, _<_};
+ghost use Prim.Native.Nat.{ℕ, _+_, _*_, _≤_, _<_};
 ghost use lib.ListN.{length, getD};
 ghost use Rattle.refusal.specs.Limits.{maxWord};
 ghost use Rattle.char_string.specs.Blanks.{isTrimmed};
@@ -20,7 +22,7 @@ ghost use Rattle.trie_pool.specs.Cells.{nodeCells, scalarAt};
 ghost use Rattle.trie_pool.specs.inner.Sound.{Shaped, Rising};
 ghost use Rattle.trie_pool.specs.Levels.{levelEnd};
 ghost use Rattle.trie_pool.specs.Rules.{wellFormed};
-ghost use Rattle.trie_check.specs.inner.Checks.{Decides, Inner, Each, Nodes};
+ghost use Rattle.trie_check.specs.inner.Checks.{Decides, Inner, Each, Aside, Nodes};
 
 // The Thai block, of which nearly all nodes are. None of it is trimmed.
 fn is_thai(x: u32) -> bool
@@ -35,15 +37,11 @@ fn is_thai(x: u32) -> bool
     true
 }
 
-// Whether a node that is not the root may have this scalar, number of children, mark and fifth
-// cell.
-fn inner_ok(scalar: u32, count: u32, mark: u32, fifth: u32) -> bool
-    ensures { λ r. ⌜ Decides r (Inner scalar count mark fifth) ⌝ }
+// Whether a node that is not the root may have this scalar, number of children and mark.
+fn inner_ok(scalar: u32, count: u32, mark: u32) -> bool
+    ensures { λ r. ⌜ Decides r (Inner scalar count mark) ⌝ }
 {
-    if fifth != 0 {
-        return false;
-    }
-    if 1 < mark {
+    if MAX_MARK < mark {
         return false;
     }
     if wide(count) + wide(mark) == 0 {
@@ -63,7 +61,7 @@ fn inner_ok(scalar: u32, count: u32, mark: u32, fifth: u32) -> bool
 
 // Whether the scalars of the nodes from s to e rise.
 fn rising(p: &[u32], s: usize, e: usize) -> bool
-    requires { ⌜ (s ≤ e) × (nodeCells * e ≤ length (now p)) ⌝ }
+    requires { ⌜ (s ≤ e) × (nodeCells * e ≤ length (now p) + 4) ⌝ }
     ensures { λ r. ⌜ Decides r (Rising (now (p .entry)) s e) ⌝ }
 {
     if e - s < 2 {
@@ -81,7 +79,7 @@ fn rising(p: &[u32], s: usize, e: usize) -> bool
 
 // Whether node i may stand where it does, if its children start at s.
 fn each_ok(p: &[u32], n: usize, i: usize, s: usize) -> bool
-    requires { ⌜ (i < n) × (s ≤ n) × (nodeCells * n ≤ length (now p)) ⌝ }
+    requires { ⌜ (i < n) × (s ≤ n) × (nodeCells * n ≤ length (now p) + 4) ⌝ }
     ensures { λ r. ⌜ Decides r (Each (now (p .entry)) n i s) ⌝ }
 {
     let a = NODE * i;
@@ -95,22 +93,34 @@ fn each_ok(p: &[u32], n: usize, i: usize, s: usize) -> bool
     if n - s < k {
         return false;
     }
-    if p[a + 5] != 0 {
-        return false;
-    }
-    if p[a + 6] != 0 {
-        return false;
-    }
-    if p[a + 7] != 0 {
-        return false;
-    }
     if !rising(p, s, s + k) {
         return false;
     }
     if i == 0 {
         return true;
     }
-    if !inner_ok(p[a], p[a + COUNT], p[a + MARK], p[a + IN_USE]) {
+    if !inner_ok(p[a], p[a + COUNT], p[a + MARK]) {
+        return false;
+    }
+    true
+}
+
+// Whether the second half of node i is 0.
+fn aside_zero(p: &[u32], i: usize) -> bool
+    requires { ⌜ nodeCells * i + nodeCells ≤ length (now p) ⌝ }
+    ensures { λ r. ⌜ Decides r (Aside (now (p .entry)) i) ⌝ }
+{
+    let a = NODE * i + HALF;
+    if p[a] != 0 {
+        return false;
+    }
+    if p[a + 1] != 0 {
+        return false;
+    }
+    if p[a + 2] != 0 {
+        return false;
+    }
+    if p[a + 3] != 0 {
         return false;
     }
     true
@@ -126,6 +136,9 @@ fn nodes_ok(p: &[u32], n: usize) -> bool
     let mut s: usize = 1;
     while i < n {
         if !each_ok(p, n, i, s) {
+            return false;
+        }
+        if !aside_zero(p, i) {
             return false;
         }
         s += wide(p[NODE * i + COUNT]);
@@ -151,7 +164,7 @@ fn starts_ok(p: &[u32], k: usize) -> bool
 
 // Whether the nodes stand on at most 255 levels below the root.
 fn shallow(p: &[u32], n: usize) -> bool
-    requires { ⌜ (Shaped (now p) n) × (nodeCells * n ≤ length (now p)) ⌝ }
+    requires { ⌜ (Shaped (now p) n) × (nodeCells * n ≤ length (now p) + 4) ⌝ }
     ensures { λ r. ⌜ Decides r (levelEnd (now (p .entry)) n maxWord ≡ n) ⌝ }
 {
     let mut e: usize = 1;
@@ -180,7 +193,8 @@ fn blank(p: &[u32], k: usize) -> bool
     true
 }
 
-// Whether the cells of a pool are a dictionary: all rules hold.
+// Whether the cells of a pool are a plain dictionary: all rules hold. One walk over the nodes sees
+// to both halves.
 pub fn well_formed(p: &[u32]) -> bool
     ensures { λ r. ⌜ r ≡ wellFormed (now (p .entry)) ⌝ }
 {
@@ -195,9 +209,6 @@ pub fn well_formed(p: &[u32]) -> bool
         return false;
     }
     if p.len() / NODE < n {
-        return false;
-    }
-    if p[0] != 0 {
         return false;
     }
     if p[MARK] != 0 {

@@ -1,4 +1,5 @@
--- Two dictionaries that hold the same words are the same, cell by cell. Assumes nothing.
+-- Two dictionaries that hold the same words with the same classes are the same, cell by cell.
+-- Assumes nothing.
 use mathlib.Core.Path.{_≡_, refl, sym, ap, subst, _∙_}
 use mathlib.Core.Bool.{true, false}
 use mathlib.Core.List.{List, [], _∷_}
@@ -9,8 +10,10 @@ use lib.ListN.{length, getD}
 use lib.Seq.{ext-getD}
 use Rattle.trie_pool.specs.Cells.{scalarAt, firstAt, countAt, markAt}
 use Rattle.trie_pool.specs.inner.Paths.{reach, rev}
-use Rattle.trie_pool.specs.inner.Sound.{Rising, Sound}
-use Rattle.trie_pool.specs.Words.{Place, none, at, on-place, child, walk, marked, holds}
+use Rattle.trie_pool.specs.inner.Sound.{Rising, Plain, Sound}
+use Rattle.trie_pool.specs.Words.{Place, none, at, on-place, child, walk, marked, holds, term, termAt}
+use mathlib.Core.Option as option
+use Rattle.trie_pool.specs.Meaning.{isSome}
 use Rattle.trie_pool.proofs.Shape.{within, one-parent, child-found, step, walk-reach, reach-within, scan-new, climb}
 
 clash : {P : Type 0} → false ≡ true → P
@@ -155,6 +158,15 @@ look-in p q n m g same u i l e e′ c a b =
     let f = child-found q i (scalarAt p c) (y .node) (sym (ap (on-place none (λ k. child q k (scalarAt p c))) e′) ∙ y .is) in
     record { place = y .node; low = f .low; high = f .high; is = f .is }
 
+term-is : (p u : List ℕ) (i : ℕ) → reach p u ≡ at i → termAt p (rev u []) ≡ term (markAt p i)
+term-is p u i e = ap (on-place option.none (λ r. term (markAt p r))) (walk-reach p u [] ∙ ap (on-place none (λ k. walk p [] k)) e)
+
+one-mark : (a b : ℕ) → term a ≡ term b → a ≡ b
+one-mark zero zero e = refl
+one-mark zero (suc b) e = let z : _≡_ {A = ℕ} 0 1 = cc in absurd (omega arith)
+one-mark (suc a) zero e = let z : _≡_ {A = ℕ} 0 1 = cc in absurd (omega arith)
+one-mark (suc a) (suc b) e = let z : a ≡ b = cc in ap suc z
+
 module _ (p q : List ℕ) (n m : ℕ) (gp : Sound p n 0) (gq : Sound q m 0) (same : (v : List ℕ) → holds p v ≡ holds q v) where
   begin : Match p q n m 0 1
   begin = record {
@@ -285,57 +297,72 @@ module _ (p q : List ℕ) (n m : ℕ) (gp : Sound p n 0) (gq : Sound q m 0) (sam
   whole : Whole
   whole = run n 0 1 (omega arith) begin
 
-  one-bit : (a b : ℕ) → a ≤ 1 → b ≤ 1 → marked a ≡ marked b → a ≡ b
-  one-bit zero zero x y e = refl
-  one-bit zero (suc b) x y e = clash e
-  one-bit (suc a) zero x y e = clash (sym e)
-  one-bit (suc a) (suc b) x y e = omega arith
+  module _ (classes : (v : List ℕ) → termAt p v ≡ termAt q v) where
+    mark : (c : ℕ) → c < n → markAt p c ≡ markAt q c
+    mark c l =
+        let w = whole .all in
+        let u = w .has c l .path in
+        let e = w .has c l .leads in
+        one-mark (markAt p c) (markAt q c) (sym (term-is p u c e) ∙ classes (rev u []) ∙ term-is q u c (w .there c u l e))
 
-  mark : (c : ℕ) → c < n → Dec (0 < c) → markAt p c ≡ markAt q c
-  mark c l (no a) = let z : c ≡ 0 = omega arith in rw z (gp .unmarked ∙ sym (gq .unmarked))
-  mark c l (yes a) =
-      let w = whole .all in
-      let u = w .has c l .path in
-      let e = w .has c l .leads in
-      one-bit (markAt p c) (markAt q c) (gp .fit c a l .mark) (gq .fit c a (omega (arith, whole .size)) .mark)
-      (sym (ends-is p u c e) ∙ same (rev u []) ∙ ends-is q u c (w .there c u l e))
+    module _ (root : getD p 3 0 ≡ getD q 3 0) where
+      node : (i r : ℕ) → i < n → r < 4 → getD p (8 * i + r) 0 ≡ getD q (8 * i + r) 0
+      unfolding scalarAt firstAt countAt markAt
+      node i r l h = go (decLt r 1) (decLt r 2) (decLt r 3)
+        where
+          scalar′ : Dec (0 < i) → getD p (8 * i) 0 ≡ getD q (8 * i) 0
+          scalar′ (yes a) = whole .all .scalars i a l
+          scalar′ (no a) = let z : i ≡ 0 = omega arith in ap (λ (k : ℕ). getD p (8 * k) 0) z ∙ gp .spare .used ∙ whole .size ∙ sym (gq .spare .used) ∙ sym (ap (λ (k : ℕ). getD q (8 * k) 0) z)
 
-  node : (i r : ℕ) → i < n → r < 8 → getD p (8 * i + r) 0 ≡ getD q (8 * i + r) 0
-  unfolding scalarAt firstAt countAt markAt
-  node i r l h = go (decLt r 1) (decLt r 2) (decLt r 3) (decLt r 4) (decLt r 5)
-    where
-      lq : i < m
-      lq = omega (arith, whole .size)
+          mark′ : (i : ℕ) → i < n → getD p (8 * i + 3) 0 ≡ getD q (8 * i + 3) 0
+          mark′ zero l = root
+          mark′ (suc i) l = mark (suc i) l
 
-      scalar′ : Dec (0 < i) → getD p (8 * i) 0 ≡ getD q (8 * i) 0
-      scalar′ (yes a) = whole .all .scalars i a l
-      scalar′ (no a) = let z : i ≡ 0 = omega arith in ap (λ (k : ℕ). getD p (8 * k) 0) z ∙ gp .root ∙ sym (gq .root) ∙ sym (ap (λ (k : ℕ). getD q (8 * k) 0) z)
+          at-r : (k : ℕ) → r ≡ k → getD p (8 * i + k) 0 ≡ getD q (8 * i + k) 0 → getD p (8 * i + r) 0 ≡ getD q (8 * i + r) 0
+          at-r k e t = ap (λ (z : ℕ). getD p (8 * i + z) 0) e ∙ t ∙ sym (ap (λ (z : ℕ). getD q (8 * i + z) 0) e)
 
-      fifth : Dec (0 < i) → getD p (8 * i + 4) 0 ≡ getD q (8 * i + 4) 0
-      fifth (yes a) = gp .spare .fifth i a l ∙ sym (gq .spare .fifth i a lq)
-      fifth (no a) = let z : i ≡ 0 = omega arith in ap (λ (k : ℕ). getD p (8 * k + 4) 0) z ∙ gp .spare .used ∙ whole .size ∙ sym (gq .spare .used) ∙ sym (ap (λ (k : ℕ). getD q (8 * k + 4) 0) z)
+          go : Dec (r < 1) → Dec (r < 2) → Dec (r < 3) → getD p (8 * i + r) 0 ≡ getD q (8 * i + r) 0
+          go (yes a) b c = let z : 8 * i + r ≡ 8 * i = omega arith in ap (λ (k : ℕ). getD p k 0) z ∙ scalar′ (decLt 0 i) ∙ sym (ap (λ (k : ℕ). getD q k 0) z)
+          go (no a) (yes b) c = at-r 1 (omega arith) (whole .all .firsts i l)
+          go (no a) (no b) (yes c) = at-r 2 (omega arith) (whole .all .counts i l)
+          go (no a) (no b) (no c) = at-r 3 (omega arith) (mark′ i l)
 
-      at-r : (k : ℕ) → r ≡ k → getD p (8 * i + k) 0 ≡ getD q (8 * i + k) 0 → getD p (8 * i + r) 0 ≡ getD q (8 * i + r) 0
-      at-r k e t = ap (λ (z : ℕ). getD p (8 * i + z) 0) e ∙ t ∙ sym (ap (λ (z : ℕ). getD q (8 * i + z) 0) e)
-
-      go : Dec (r < 1) → Dec (r < 2) → Dec (r < 3) → Dec (r < 4) → Dec (r < 5) → getD p (8 * i + r) 0 ≡ getD q (8 * i + r) 0
-      go (yes a) b c d e = let z : 8 * i + r ≡ 8 * i = omega arith in ap (λ (k : ℕ). getD p k 0) z ∙ scalar′ (decLt 0 i) ∙ sym (ap (λ (k : ℕ). getD q k 0) z)
-      go (no a) (yes b) c d e = at-r 1 (omega arith) (whole .all .firsts i l)
-      go (no a) (no b) (yes c) d e = at-r 2 (omega arith) (whole .all .counts i l)
-      go (no a) (no b) (no c) (yes d) e = at-r 3 (omega arith) (mark i l (decLt 0 i))
-      go (no a) (no b) (no c) (no d) (yes e) = at-r 4 (omega arith) (fifth (decLt 0 i))
-      go (no a) (no b) (no c) (no d) (no e) = gp .spare .others i r l (omega arith) h ∙ sym (gq .spare .others i r lq (omega arith) h)
-
-  -- the words and the length say all of the pool
-  pub one-pool : length p ≡ length q → p ≡ q
-  one-pool long = ext-getD 0 p q long (λ k l. go k (decLt k (8 * n)))
-    where
-      go : (k : ℕ) → Dec (k < 8 * n) → getD p k 0 ≡ getD q k 0
-      go k (yes l) =
-          let e : k ≡ 8 * (k / 8) + k % 8 = omega arith in
-          ap (λ (z : ℕ). getD p z 0) e ∙ node (k / 8) (k % 8) (omega arith) (omega arith) ∙ sym (ap (λ (z : ℕ). getD q z 0) e)
-      go k (no l) = gp .spare .blank k (omega arith) ∙ sym (gq .spare .blank k (omega (arith, whole .size)))
+      -- the words, their classes and the root's fourth cell say all of the half
+      pub one-half : (i r : ℕ) → r < 4 → getD p (8 * i + r) 0 ≡ getD q (8 * i + r) 0
+      one-half i r h = go (decLt i n)
+        where
+          go : Dec (i < n) → getD p (8 * i + r) 0 ≡ getD q (8 * i + r) 0
+          go (yes l) = node i r l h
+          go (no l) = gp .spare .blank i r (omega arith) h ∙ sym (gq .spare .blank i r (omega (arith, whole .size)) h)
 
 -- a word leads to each node
 pub has-path : (p : List ℕ) (n : ℕ) → Sound p n 0 → (c : ℕ) → c < n → Has p c
 has-path p n g c l = whole p p n n g g (λ v. refl) .all .has c l
+
+-- the words are those with a class
+pub holds-term : (p v : List ℕ) → holds p v ≡ isSome (termAt p v)
+holds-term p v = go (walk p v 0)
+  where
+    some′ : (m : ℕ) → marked m ≡ isSome (term m)
+    some′ zero = refl
+    some′ (suc m) = refl
+
+    go : (q : Place) → on-place false (λ r. marked (markAt p r)) q ≡ isSome (on-place option.none (λ r. term (markAt p r)) q)
+    go none = refl
+    go (at r) = some′ (markAt p r)
+
+-- the words, their classes and the length say all of a plain pool
+pub one-pool : (p q : List ℕ) (n m : ℕ) → Sound p n 0 → Sound q m 0 → Plain p → Plain q → ((v : List ℕ) → termAt p v ≡ termAt q v) → length p ≡ length q → p ≡ q
+one-pool p q n m gp gq fp fq classes long = ext-getD 0 p q long (λ k l. go k (decLt (k % 8) 4))
+  where
+    words : (v : List ℕ) → holds p v ≡ holds q v
+    words v = holds-term p v ∙ ap isSome (classes v) ∙ sym (holds-term q v)
+
+    split : (k : ℕ) → k ≡ 8 * (k / 8) + k % 8
+    split k = omega arith
+
+    go : (k : ℕ) → Dec (k % 8 < 4) → getD p k 0 ≡ getD q k 0
+    go k (yes r) = ap (λ (z : ℕ). getD p z 0) (split k) ∙ one-half p q n m gp gq words classes (fp .root ∙ sym (fq .root)) (k / 8) (k % 8) r ∙ sym (ap (λ (z : ℕ). getD q z 0) (split k))
+    go k (no r) =
+        ap (λ (z : ℕ). getD p z 0) (split k) ∙ fp .aside (k / 8) (k % 8) (omega arith) (omega arith) ∙ sym (fq .aside (k / 8) (k % 8) (omega arith) (omega arith))
+        ∙ sym (ap (λ (z : ℕ). getD q z 0) (split k))

@@ -18,6 +18,11 @@ use Rattle.trie_pool.proofs.Level.{ends-mono, level-low}
 use Rattle.trie_pool.proofs.Rules.{clash}
 use Rattle.trie_pool.proofs.Edges.{trimmed-is}
 
+-- no word ends at the root
+pub root-mark : (p : List ℕ) → markAt p 0 ≡ 0
+unfolding markAt
+root-mark p = refl
+
 -- where the word ends
 pub record Ending (p w : List ℕ) : Type 0 where
   pub node : ℕ
@@ -98,7 +103,7 @@ module _ (p : List ℕ) (n : ℕ) (g : Sound p n 0) where
   held-word w h = go w (ending p w h) (rev w []) refl
     where
       go : (w : List ℕ) → Ending p w → (u : List ℕ) → rev w [] ≡ u → Word w
-      go [] f u q = let z : 0 ≡ f .node = cc (f .there) in absurd (omega (arith, f .mark, g .unmarked, ap (markAt p) z))
+      go [] f u q = let z : 0 ≡ f .node = cc (f .there) in absurd (omega (arith, f .mark, root-mark p, ap (markAt p) z))
       go (y ∷ w) f [] q = absurd (omega (arith, ap length q, long-rev (y ∷ w) []))
       go (y ∷ w) f (x ∷ u) q =
           let path : reach p (x ∷ u) ≡ at (f .node) = sym (ap (reach p) q) ∙ sym (walk-is p (y ∷ w)) ∙ f .there in

@@ -10,4 +10,5 @@ pub mod Number
 pub mod Listing
 pub mod With
 pub mod Walks
+pub mod Terms
 pub mod Early

@@ -12,7 +12,7 @@ use borrow.Author.Tests.{lt-ltb, le-ltb, eq-eqb, eqb-true}
 use lib.Dec.{ltb, eqb}
 use lib.Seq.{take-suc, take-add}
 use lib.ListN.{take, drop, getD, length}
-use Rattle.trie_pool.specs.Cells.{scalarAt, firstAt, countAt}
+use Rattle.trie_pool.specs.Cells.{scalarAt, firstAt, countAt, markAt}
 use Rattle.trie_pool.specs.inner.Paths.{reach, rev}
 use Rattle.trie_pool.specs.inner.Sound.{Shaped, Rising, Fit}
 use Rattle.trie_pool.specs.Words.{Place, none, at, on-place, scan, child, walk}
@@ -26,6 +26,12 @@ first-is p i = refl
 pub count-is : (p : List ℕ) (i : ℕ) → countAt p i ≡ getD p (8 * i + 2) 0
 unfolding countAt
 count-is p i = refl
+
+-- the root has no mark
+pub mark-is : (p : List ℕ) (i : ℕ) → 0 < i → markAt p i ≡ getD p (8 * i + 3) 0
+unfolding markAt
+mark-is p zero l = absurd (omega arith)
+mark-is p (suc i) l = refl
 
 pub refit : {c c′ m m′ : ℕ} → c′ ≡ c → m′ ≡ m → Fit c m → Fit c′ m′
 refit {c} {c′} {m} {m′} e f h = subst (λ (z : ℕ). Fit c′ z) (sym f) (subst (λ (z : ℕ). Fit z m) (sym e) h)

@@ -12,7 +12,7 @@ use lib.Seq.{getD-drop, length-take-le}
 use Rattle.trie_pool.specs.Cells.{markAt}
 use Rattle.trie_pool.specs.Words.{none, at, on-place, child, walk, marked, holds}
 use Rattle.trie_pool.specs.inner.Sound.{Sound, Readable}
-use Rattle.trie_pool.proofs.Shape.{within, child-found, walk-more, walk-append}
+use Rattle.trie_pool.proofs.Shape.{within, child-found, child-after, walk-more, walk-append}
 use Rattle.trie_pool.proofs.Held.{held-word}
 
 -- the first k characters from place b
@@ -43,6 +43,10 @@ module _ (p text : List ℕ) (b : ℕ) where
       go : (t : Bool) → holds p (part text b k) ≡ t → t ≡ false
       go false e = refl
       go true e = absurd (omega (arith, held-word p n g (part text b k) e .short, length-take-le k (drop b text) (omega (arith, length-drop b text))))
+
+-- a child is never the root
+pub child-past : (p : List ℕ) (b x r : ℕ) → child p b x ≡ at r → Readable p b → 0 < r
+child-past p b x r e g = omega (arith, child-after p (g .nodes) (g .shaped) b x r (g .inside) e)
 
 -- a child of a node that may be read may be read
 pub readable-child : (p : List ℕ) (b x r : ℕ) → child p b x ≡ at r → Readable p b → Readable p r

@@ -3,6 +3,7 @@ pub mod Words
 pub mod Levels
 pub mod Rules
 pub mod Meaning
+pub mod Classes
 pub mod Listing
 pub mod Early
 pub mod inner

@@ -3,6 +3,8 @@ use Prim.Native.Nat.{ℕ, zero, suc, _≤_, _<_}
 use mathlib.Core.Path.{_≡_}
 use mathlib.Core.Bool.{Bool, true, false, cond}
 use mathlib.Core.List.{List, [], _∷_}
+use mathlib.Core.Option.{Option}
+use mathlib.Core.Option as option
 use lib.Dec.{ltb, eqb}
 use lib.ListN.{length, getD}
 use Rattle.char_string.specs.Scalars.{isScalar}
@@ -45,7 +47,7 @@ abbrev pub walk : List ℕ → List ℕ → ℕ → Place
 walk p [] i = at i
 walk p (x ∷ w) i = on-place none (λ r. walk p w r) (child p i x)
 
--- whether a word ends at a node, by its mark
+-- whether a word ends at a node, by its mark: class and one, or 0
 abbrev pub marked : ℕ → Bool
 marked zero = false
 marked (suc m) = true
@@ -53,6 +55,15 @@ marked (suc m) = true
 -- whether the word is held
 abbrev pub holds : List ℕ → List ℕ → Bool
 holds p w = on-place false (λ r. marked (markAt p r)) (walk p w 0)
+
+-- the class of the word that ends at a node, by its mark, or nothing
+abbrev pub term : ℕ → Option ℕ
+term zero = option.none
+term (suc c) = option.some c
+
+-- the class of the word if it is held, or nothing
+abbrev pub termAt : List ℕ → List ℕ → Option ℕ
+termAt p w = on-place option.none (λ r. term (markAt p r)) (walk p w 0)
 
 -- the nodes that the word needs below node i and the pool lacks
 abbrev pub lacking : List ℕ → List ℕ → ℕ → ℕ

@@ -12,7 +12,7 @@ use Rattle.trie_search.specs.inner.Search.{Between, Sought}
 
 module _ (p : List ℕ) (b x low high : ℕ) (v : Between p b x low high) where
   -- both are nodes of the pool
-  pub between-fits : 8 * high + 8 ≤ length p
+  pub between-fits : 8 * high + 4 ≤ length p
   between-fits = let g = v .readable in omega (arith, within p (g .nodes) (g .shaped) b (g .inside), g .fits, v .upto)
 
   module _ (middle : ℕ) (more : low + 1 < high) (is : middle ≡ low + (high - low) / 2) where

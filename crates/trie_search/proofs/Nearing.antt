@@ -34,7 +34,7 @@ module _ (p : List ℕ) (b x f n : ℕ) (g : Readable p b) (u : f ≡ getD p (8 
   count-here : n ≡ countAt p b
   count-here = omega (arith, count-is p b)
 
-  pub children-fit : 8 * (f + n) ≤ length p
+  pub children-fit : 8 * (f + n) ≤ length p + 4
   children-fit = omega (arith, first-here, count-here, within p (g .nodes) (g .shaped) b (g .inside), g .fits)
 
   pub ends-at : f + n ≡ firstAt p b + countAt p b

@@ -12,8 +12,8 @@ use Rattle.trie_pool.specs.Words.{Place, none, at, on-place, child, walk, marke
 use Rattle.trie_pool.specs.inner.Sound.{Readable}
 use Rattle.trie_pool.specs.Meaning.{lengthsFrom, prefixLengths}
 use Rattle.trie_pool.proofs.Lists.{drop-next}
-use Rattle.trie_pool.proofs.Shape.{walk-append, walk-more}
-use Rattle.trie_pool.proofs.Walks.{readable-child}
+use Rattle.trie_pool.proofs.Shape.{walk-append, walk-more, mark-is}
+use Rattle.trie_pool.proofs.Walks.{child-past, readable-child}
 use Rattle.trie_search.specs.inner.Search.{toPlace, Wrote}
 use Rattle.trie_search.specs.declared.search.Kid.{Kid}
 use Rattle.trie_search.specs.declared.search.Kid.the-variants.{Nothing, Is}
@@ -75,16 +75,17 @@ module _ (p text : List ℕ) (b i : ℕ) (h : i < length text) (k : Kid) (t : to
   pub no-more : k ≡ Nothing → prefixes p (drop i text) i b ≡ []
   no-more q = next ∙ ap (λ (z : Kid). on-place [] more (toPlace z)) q
 
-  module _ (r : ℕ) (q : k ≡ Is r) where
+  module _ (g : Readable p b) (r : ℕ) (q : k ≡ Is r) where
+    mark : markAt p r ≡ getD p (8 * r + 3) 0
+    mark = mark-is p r (child-past p b (getD text i 0) r (sym t ∙ ap toPlace q) g)
+
     pub passed : getD p (8 * r + 3) 0 ≡ 0 → prefixes p (drop i text) i b ≡ prefixes p (drop (i + 1) text) (i + 1) r
-    unfolding markAt
     passed z = next ∙ ap (λ (y : Kid). on-place [] more (toPlace y)) q
-        ∙ ap (λ (m : ℕ). cond (marked m) ((i + 1) ∷ prefixes p (drop (i + 1) text) (i + 1) r) (prefixes p (drop (i + 1) text) (i + 1) r)) z
+        ∙ ap (λ (m : ℕ). cond (marked m) ((i + 1) ∷ prefixes p (drop (i + 1) text) (i + 1) r) (prefixes p (drop (i + 1) text) (i + 1) r)) (mark ∙ z)
 
     pub one-more : (getD p (8 * r + 3) 0 ≡ 0 → ⊥) → prefixes p (drop i text) i b ≡ (i + 1) ∷ prefixes p (drop (i + 1) text) (i + 1) r
-    unfolding markAt
     one-more nz = next ∙ ap (λ (y : Kid). on-place [] more (toPlace y)) q
-        ∙ ap (λ (m : Bool). cond m ((i + 1) ∷ prefixes p (drop (i + 1) text) (i + 1) r) (prefixes p (drop (i + 1) text) (i + 1) r)) (is-marked (getD p (8 * r + 3) 0) nz)
+        ∙ ap (λ (m : Bool). cond m ((i + 1) ∷ prefixes p (drop (i + 1) text) (i + 1) r) (prefixes p (drop (i + 1) text) (i + 1) r)) (ap marked mark ∙ is-marked (getD p (8 * r + 3) 0) nz)
 
 -- ---- counting
 
@@ -110,7 +111,7 @@ module _ {p text : List ℕ} {b n i : ℕ} (v : Counted p text b n i) (h : i < l
     here = there _ k t q (v .here);
     at-most = omega arith;
     few = omega (arith, v .few);
-    sum = omega (arith, v .sum, ap length (passed p text b i h k t r q z));
+    sum = omega (arith, v .sum, ap length (passed p text b i h k t (v .here) r q z));
   }
 
   pub counted-more : (r : ℕ) → k ≡ Is r → (getD p (8 * r + 3) 0 ≡ 0 → ⊥) → Counted p text r (n + 1) (i + 1)
@@ -118,7 +119,7 @@ module _ {p text : List ℕ} {b n i : ℕ} (v : Counted p text b n i) (h : i < l
     here = there _ k t q (v .here);
     at-most = omega arith;
     few = omega (arith, v .few);
-    sum = omega (arith, v .sum, ap length (one-more p text b i h k t r q nz));
+    sum = omega (arith, v .sum, ap length (one-more p text b i h k t (v .here) r q nz));
   }
 
 -- ---- writing
@@ -158,7 +159,7 @@ module _ {p text out₀ out : List ℕ} {b n i : ℕ} (v : Written p text out₀
     here = there _ k t q (v .here);
     at-most = omega arith;
     fits = v .fits;
-    same = v .same ∙ ap (λ (u : List ℕ). take n out ++ u) (passed p text b i h k t r q z);
+    same = v .same ∙ ap (λ (u : List ℕ). take n out ++ u) (passed p text b i h k t (v .here) r q z);
     kept = v .kept;
     long = v .long;
   }
@@ -168,7 +169,7 @@ module _ {p text out₀ out : List ℕ} {b n i : ℕ} (v : Written p text out₀
     roomy =
         omega (
           arith,
-          ap length (v .same ∙ ap (λ (u : List ℕ). take n out ++ u) (one-more p text b i h k t r q nz)),
+          ap length (v .same ∙ ap (λ (u : List ℕ). take n out ++ u) (one-more p text b i h k t (v .here) r q nz)),
           length-append (take n out) ((i + 1) ∷ prefixes p (drop (i + 1) text) (i + 1) r),
           length-take-le n out (v .fits),
           v .long,
@@ -181,7 +182,7 @@ module _ {p text out₀ out : List ℕ} {b n i : ℕ} (v : Written p text out₀
           here = there _ k t q (v .here);
           at-most = omega arith;
           fits = omega (arith, length-set out n (i + 1), roomy);
-          same = v .same ∙ ap (λ (u : List ℕ). take n out ++ u) (one-more p text b i h k t r q nz)
+          same = v .same ∙ ap (λ (u : List ℕ). take n out ++ u) (one-more p text b i h k t (v .here) r q nz)
               ∙ sym (ap (λ (u : List ℕ). u ++ prefixes p (drop (i + 1) text) (i + 1) r) front ∙ append-snoc (take n out) (i + 1) (prefixes p (drop (i + 1) text) (i + 1) r));
           kept = drop-set-lt (n + 1) out n (i + 1) (omega arith) ∙ sym (drop-drop 1 n out) ∙ ap (λ (u : List ℕ). drop 1 u) (v .kept) ∙ drop-drop 1 n out₀;
           long = length-set out n (i + 1) ∙ v .long;

@@ -5,7 +5,7 @@ pub use search::Kid;
 pub use search::count_words;
 pub use search::ends_word;
 pub use search::find_child;
-pub use search::is_held;
+pub use search::mark_of;
 pub use search::missing;
 pub use search::nodes_in_use;
 pub use search::prefix_count;

@@ -9,7 +9,7 @@ ghost use mathlib.Core.Path.{_≡_};
 ghost use Prim.Native.Nat.{_<_, min};
 ghost use lib.ListN.{length};
 ghost use Rattle.trie_pool.specs.Cells.{markAt, used};
-ghost use Rattle.trie_pool.specs.Words.{child, marked, holds, lacking};
+ghost use Rattle.trie_pool.specs.Words.{child, marked, holds, term, termAt, lacking};
 ghost use Rattle.trie_pool.specs.Meaning.{prefixLengths, amount};
 ghost use Rattle.trie_pool.specs.inner.Sound.{Readable};
 ghost use Rattle.trie_search.specs.inner.Search.{Between, Sought, toPlace, Asks, Wrote, Counts};
@@ -115,26 +115,29 @@ pub fn find_child(p: &[u32], b: usize, x: u32) -> Kid
     Kid::Is(r)
 }
 
-// Whether a word ends at node i.
+// Whether a word ends at node i, which is not the root.
 pub fn ends_word(p: &[u32], i: usize) -> bool
-    requires { ⌜ Readable (now p) i ⌝ }
+    requires { ⌜ (0 < i) × Readable (now p) i ⌝ }
     ensures { λ r. ⌜ r ≡ marked (markAt (now (p .entry)) i) ⌝ }
 {
     p[NODE * i + MARK] != 0
 }
 
-// Whether the word is held.
-pub fn is_held(p: &[u32], w: &[u32]) -> bool
+// The word's mark: its class and one if it is held, else 0.
+pub fn mark_of(p: &[u32], w: &[u32]) -> u32
     requires { ⌜ Readable (now p) 0 ⌝ }
-    ensures { λ r. ⌜ r ≡ holds (now (p .entry)) (now (w .entry)) ⌝ }
+    ensures { λ r. ⌜ term r ≡ termAt (now (p .entry)) (now (w .entry)) ⌝ }
 {
+    if w.len() == 0 {
+        return 0;
+    }
     let mut i: usize = 0;
     let mut t: usize = 0;
     while t < w.len() {
         let kid = find_child(p, i, w[t]);
         match kid {
             Kid::Nothing => {
-                return false;
+                return 0;
             }
             Kid::Is(r) => {
                 i = r;
@@ -142,7 +145,7 @@ pub fn is_held(p: &[u32], w: &[u32]) -> bool
         }
         t += 1;
     }
-    p[NODE * i + MARK] != 0
+    p[NODE * i + MARK]
 }
 
 // How many nodes the word needs that the pool lacks.
@@ -224,20 +227,20 @@ pub fn prefix_lengths(p: &[u32], text: &[u32], out: &mut [u32]) -> usize
 
 // The nodes in use.
 pub fn nodes_in_use(p: &[u32]) -> usize
-    requires { ⌜ 4 < length (now p) ⌝ }
+    requires { ⌜ 0 < length (now p) ⌝ }
     ensures { λ r. ⌜ r ≡ used (now (p .entry)) ⌝ }
 {
     wide(p[IN_USE])
 }
 
-// How many words are held.
+// How many words are held. None ends at the root.
 pub fn count_words(p: &[u32]) -> usize
     requires { ⌜ Counts (now p) ⌝ }
     ensures { λ r. ⌜ r ≡ amount (now (p .entry)) ⌝ }
 {
     let n = wide(p[IN_USE]);
     let mut words: usize = 0;
-    let mut i: usize = 0;
+    let mut i: usize = 1;
     while i < n {
         let mark = p[NODE * i + MARK];
         i += 1;

@@ -5,8 +5,9 @@ pub const MAX_NODES: usize = 1_048_576;
 
 const NODE_CELLS: usize = 8;
 
-/// A set of words, in a pool of its own that grows as words need it. Every call checks the whole pool. Two dictionaries are
-/// equal if they hold the same words, whatever the sizes of their pools.
+/// Words, each with a class, in a pool of its own that grows as words need it. Every call checks the whole pool. Two
+/// dictionaries are equal if they hold the same words with the same classes, whatever the sizes of their pools. Cutting
+/// reads no class.
 #[derive(Clone, Debug)]
 pub struct Dictionary {
     pool: Vec<u32>,
@@ -25,7 +26,7 @@ impl Dictionary {
         Dictionary { pool }
     }
 
-    /// The words of an iterator.
+    /// The words of an iterator, each with class 0.
     pub fn from_words<'w>(words: impl IntoIterator<Item = &'w str>) -> Result<Dictionary, Error> {
         let mut dictionary = Dictionary::new();
         for word in words {
@@ -40,20 +41,22 @@ impl Dictionary {
         Ok(Dictionary { pool })
     }
 
-    /// The pool's cells. Equal words and an equal length give equal cells.
+    /// The pool's cells. Equal words, equal classes and an equal length give equal cells.
     pub fn pool(&self) -> &[u32] {
         &self.pool
     }
 
-    /// Adds a word, trimmed as `str::trim` does; true if the set changed. Refused with 2, 7, and 8 where the pool can't grow.
+    /// Adds a word with class 0, trimmed as `str::trim` does; true if the words or their classes changed. Refused with 2, 7,
+    /// and 8 where the pool can't grow.
     pub fn add(&mut self, word: &str) -> Result<bool, Error> {
         let word = scalars(word)?;
-        loop {
-            match ffi::add(&mut self.pool, &word) {
-                Err(Error::TooFewNodes(missing)) if self.grow(missing) => {}
-                answer => return Ok(answer? == 1),
-            }
-        }
+        self.grow_for(|pool| ffi::add(pool, &word))
+    }
+
+    /// Adds a word with a class, which replaces the class of a held word; the rest is as in [`Dictionary::add`].
+    pub fn add_class(&mut self, word: &str, class: u16) -> Result<bool, Error> {
+        let word = scalars(word)?;
+        self.grow_for(|pool| ffi::add_class(pool, &word, class))
     }
 
     /// Removes a word, trimmed as `str::trim` does; true if the set changed. Refused with 2 and 7.
@@ -64,6 +67,12 @@ impl Dictionary {
     /// True if the word is held, as it is and not trimmed. Refused with 2.
     pub fn contains(&self, word: &str) -> Result<bool, Error> {
         Ok(ffi::contains(&self.pool, &scalars(word)?)? == 1)
+    }
+
+    /// The class of the word, if it is held, as it is and not trimmed. Refused with 2.
+    pub fn class_of(&self, word: &str) -> Result<Option<u16>, Error> {
+        let (held, class) = ffi::contains_class(&self.pool, &scalars(word)?)?;
+        Ok((held == 1).then(|| class.try_into().expect("a class of sixteen bits")))
     }
 
     /// The lengths, in characters and rising, of the words that the text starts with. Refused with 2.
@@ -84,7 +93,17 @@ impl Dictionary {
 
     /// The cells of the nodes in use, which the root tells the number of.
     fn in_use(&self) -> &[u32] {
-        &self.pool[..NODE_CELLS * self.pool[4] as usize]
+        &self.pool[..NODE_CELLS * self.pool[0] as usize]
+    }
+
+    /// Makes an add, as often as the pool has to grow for it; true if it reported a change.
+    fn grow_for(&mut self, add: impl Fn(&mut [u32]) -> Result<usize, Error>) -> Result<bool, Error> {
+        loop {
+            match add(&mut self.pool) {
+                Err(Error::TooFewNodes(missing)) if self.grow(missing) => {}
+                answer => return Ok(answer? == 1),
+            }
+        }
     }
 
     /// Gives the pool at least so many more nodes, where it may have them. New nodes are zero, as those not in use must be.
@@ -99,7 +118,8 @@ impl Dictionary {
     }
 }
 
-/// The nodes in use stand in an order that the words alone decide (docs/POOL.md), and behind them no cell means anything.
+/// The nodes in use stand in an order that the words alone decide, with their classes as marks (docs/POOL.md), and behind
+/// them no cell means anything.
 impl PartialEq for Dictionary {
     fn eq(&self, other: &Dictionary) -> bool {
         self.in_use() == other.in_use()

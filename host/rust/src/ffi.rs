@@ -29,6 +29,15 @@ extern "C" {
         count: &mut usize,
         detail: &mut usize,
     ) -> u32;
+    fn fetlockice_add_class(
+        pool: *mut u32,
+        pool_len: usize,
+        word: *const u32,
+        word_len: usize,
+        word_class: u16,
+        count: &mut usize,
+        detail: &mut usize,
+    ) -> u32;
     fn fetlockice_remove(
         pool: *mut u32,
         pool_len: usize,
@@ -43,6 +52,15 @@ extern "C" {
         word: *const u32,
         word_len: usize,
         count: &mut usize,
+        detail: &mut usize,
+    ) -> u32;
+    fn fetlockice_contains_class(
+        pool: *const u32,
+        pool_len: usize,
+        word: *const u32,
+        word_len: usize,
+        count: &mut usize,
+        word_class: &mut usize,
         detail: &mut usize,
     ) -> u32;
     fn fetlockice_prefix_lengths(
@@ -185,6 +203,14 @@ pub fn add(pool: &mut [u32], word: &[u32]) -> Result<usize, Error> {
     accepted(number, detail, count)
 }
 
+pub fn add_class(pool: &mut [u32], word: &[u32], class: u16) -> Result<usize, Error> {
+    let (mut count, mut detail) = (0, 0);
+    let number = unsafe {
+        fetlockice_add_class(pool.as_mut_ptr(), pool.len(), word.as_ptr(), word.len(), class, &mut count, &mut detail)
+    };
+    accepted(number, detail, count)
+}
+
 pub fn remove(pool: &mut [u32], word: &[u32]) -> Result<usize, Error> {
     let (mut count, mut detail) = (0, 0);
     let number =
@@ -197,6 +223,23 @@ pub fn contains(pool: &[u32], word: &[u32]) -> Result<usize, Error> {
     let number =
         unsafe { fetlockice_contains(pool.as_ptr(), pool.len(), word.as_ptr(), word.len(), &mut count, &mut detail) };
     accepted(number, detail, count)
+}
+
+/// 1 if the word is held, else 0, and its class.
+pub fn contains_class(pool: &[u32], word: &[u32]) -> Result<(usize, usize), Error> {
+    let (mut count, mut class, mut detail) = (0, 0, 0);
+    let number = unsafe {
+        fetlockice_contains_class(
+            pool.as_ptr(),
+            pool.len(),
+            word.as_ptr(),
+            word.len(),
+            &mut count,
+            &mut class,
+            &mut detail,
+        )
+    };
+    accepted(number, detail, (count, class))
 }
 
 pub fn prefix_lengths(pool: &[u32], text: &[u32], out: &mut [u32]) -> Result<usize, Error> {

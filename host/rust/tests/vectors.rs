@@ -79,9 +79,12 @@ fn text(field: &str) -> Option<String> {
 }
 
 fn words(field: &str) -> Option<Dictionary> {
-    let word = |part: &str| text(part.split_once(':').expect("a word and its class").0);
-    let all = if field == "-" { Some(Vec::new()) } else { field.split(',').map(word).collect::<Option<Vec<_>>>() }?;
-    Some(Dictionary::from_words(all.iter().map(String::as_str)).expect("words that can be held"))
+    let mut words = Dictionary::new();
+    for part in field.split(',').filter(|_| field != "-") {
+        let (word, class) = part.split_once(':').expect("a word and its class");
+        words.add_class(&text(word)?, class.parse().expect("a class")).expect("a word that can be held");
+    }
+    Some(words)
 }
 
 fn row(numbers: &[usize], between: &str) -> String {
@@ -137,11 +140,20 @@ fn step(dictionary: &mut Dictionary, step: &str) -> Option<String> {
             *dictionary = Dictionary::with_nodes(1);
             Ok("0".into())
         }
-        "+" => dictionary.add(&text(field)?).map(|yes| u8::from(yes).to_string()),
+        "+" => match field.split_once(':') {
+            Some((word, class)) => dictionary.add_class(&text(word)?, class.parse().expect("a class")),
+            None => dictionary.add(&text(field)?),
+        }
+        .map(|yes| u8::from(yes).to_string()),
         "-" => dictionary.remove(&text(field)?).map(|yes| u8::from(yes).to_string()),
-        "?" => dictionary.contains(&text(field)?).map(|yes| format!("{}.0", u8::from(yes))),
+        "?" => {
+            let (word, told) =
+                (text(field)?, |class: Option<u16>| format!("{}.{}", class.iter().len(), class.unwrap_or(0)));
+            assert_eq!(dictionary.contains(&word), dictionary.class_of(&word).map(|class| class.is_some()));
+            dictionary.class_of(&word).map(told)
+        }
         "#" => Ok(dictionary.len().to_string()),
-        "n" => Ok(dictionary.pool()[4].to_string()),
+        "n" => Ok(dictionary.pool()[0].to_string()),
         "p" => dictionary.prefix_lengths(&text(field)?).map(|all| row(&all, ".")),
         _ => return None,
     };

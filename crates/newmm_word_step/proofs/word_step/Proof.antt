@@ -1,7 +1,7 @@
 -- Assumes nothing.
 use mathlib.Core.Path.{sym, _∙_}
 use borrow.Author.Tests.{not-true, not-false}
-use Rattle.newmm_word_step.proofs.Steps.{no-more, found-node, flag-index, unmarked-part, unended-part, whole-word}
+use Rattle.newmm_word_step.proofs.Steps.{no-more, found-child, flag-index, unmarked-part, unended-part, whole-word}
 use borrow.Author.Needs.{needs}
 use Rattle.newmm_word_step.proofs.word_step.Statement.{statement}
 use Rattle.newmm_word_step.proofs.word_step.Tie as tie
@@ -25,7 +25,7 @@ ends-word-requires : tie.Need-ends-word-requires
 ends-word-requires c κs =
     let c3 = c .before .before .before in
     let c8 = c3 .before .before .before .before .before in
-    found-node (c8 .pre) (c3 .find-child .ensures) (c .before .kid .given .1)
+    found-child (c8 .pre) (c3 .find-child .ensures) (c .before .kid .given .1)
 
 returns : tie.Need-returns
 returns c =

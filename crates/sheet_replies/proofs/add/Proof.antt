@@ -1,11 +1,8 @@
 -- Assumes nothing.
 use Prim.Native.Nat.{ℕ}
 use mathlib.Core.List.{List}
-use Rattle.char_string.specs.Blanks.{trimmedOf}
 use Rattle.utf8.specs.Decoding.{scalarsOf}
-use Rattle.trie_pool.specs.Meaning.{meaning, withWord}
-use Rattle.trie_check.specs.Refusals.{held}
-use Rattle.trie_char.specs.Answers.{addAnswer}
+use Rattle.trie_char.specs.Answers.{addAnswer, added}
 use Rattle.sheet_replies.proofs.Replying.{scalars-are, reported-stop, pool-stop, lent-fits, lent-size, reported-text, pool-text}
 use borrow.Author.Needs.{needs}
 use Rattle.sheet_replies.proofs.add.Statement.{statement}
@@ -50,12 +47,12 @@ returns c =
     let c5 = c .before .before .before .before .before in
     let c10 = c5 .before .before .before .before .before in (
       reported-stop (c10 .args .text .now) (c10 .args .scalars .now) (c5 .decode .ensures .0) (c5 .decode .ensures .1)
-          (c .before .decoded .given .1) (addAnswer (scalarsOf (c10 .args .text .now)) (c10 .args .pool .now)),
+          (c .before .decoded .given .1) (addAnswer (scalarsOf (c10 .args .text .now)) 0 (c10 .args .pool .now)),
       (
         pool-stop (c10 .args .text .now) (c10 .args .scalars .now) (c5 .decode .ensures .0) (c5 .decode .ensures .1)
-            (c .before .decoded .given .1) (addAnswer (scalarsOf (c10 .args .text .now)) (c10 .args .pool .now))
+            (c .before .decoded .given .1) (addAnswer (scalarsOf (c10 .args .text .now)) 0 (c10 .args .pool .now))
             (c10 .args .pool .now)
-            (withWord (trimmedOf (scalarsOf (c10 .args .text .now))) (held (meaning (c10 .args .pool .now)))),
+            (added (scalarsOf (c10 .args .text .now)) 0 (c10 .args .pool .now)),
         scalars-are
             (c10 .args .text .now) (c10 .args .scalars .now) (c5 .decode .ensures .0) (c5 .decode .ensures .1),
       ),
@@ -74,12 +71,12 @@ returns-2 c =
     let c11 = c7 .before .before .before .before in
     let c16 = c11 .before .before .before .before .before in (
       reported-text (c16 .args .text .now) (c16 .args .scalars .now) (c11 .decode .ensures .0)
-          (c11 .decode .ensures .1) (c7 .decoded2 .given .1) (λ (w : List ℕ). addAnswer w (c16 .args .pool .now))
+          (c11 .decode .ensures .1) (c7 .decoded2 .given .1) (λ (w : List ℕ). addAnswer w 0 (c16 .args .pool .now))
           (c3 .add .ensures .0) (c .reported .ensures),
       (
         pool-text (c16 .args .text .now) (c16 .args .scalars .now) (c11 .decode .ensures .0) (c11 .decode .ensures .1)
-            (c7 .decoded2 .given .1) (λ (w : List ℕ). addAnswer w (c16 .args .pool .now))
-            (λ (w : List ℕ). withWord (trimmedOf w) (held (meaning (c16 .args .pool .now)))) (c16 .args .pool .now)
+            (c7 .decoded2 .given .1) (λ (w : List ℕ). addAnswer w 0 (c16 .args .pool .now))
+            (λ (w : List ℕ). added w 0 (c16 .args .pool .now)) (c16 .args .pool .now)
             (c3 .add .last .0) (c3 .add .ensures .0) (c3 .add .ensures .1),
         scalars-are (c16 .args .text .now)
             (c16 .args .scalars .now) (c11 .decode .ensures .0) (c11 .decode .ensures .1),

@@ -1,11 +1,8 @@
 -- Assumes nothing.
 use Prim.Native.Nat.{ℕ}
 use mathlib.Core.List.{List}
-use Rattle.char_string.specs.Blanks.{trimmedOf}
 use Rattle.utf8.specs.Decoding.{scalarsOf}
-use Rattle.trie_pool.specs.Meaning.{meaning, withoutWord}
-use Rattle.trie_check.specs.Refusals.{held}
-use Rattle.trie_char.specs.Answers.{removeAnswer}
+use Rattle.trie_char.specs.Answers.{removeAnswer, removed}
 use Rattle.sheet_replies.proofs.Replying.{scalars-are, reported-stop, pool-stop, lent-fits, lent-size, reported-text, pool-text}
 use borrow.Author.Needs.{needs}
 use Rattle.sheet_replies.proofs.remove.Statement.{statement}
@@ -55,7 +52,7 @@ returns c =
         pool-stop (c10 .args .text .now) (c10 .args .scalars .now) (c5 .decode .ensures .0) (c5 .decode .ensures .1)
             (c .before .decoded .given .1) (removeAnswer (scalarsOf (c10 .args .text .now)) (c10 .args .pool .now))
             (c10 .args .pool .now)
-            (withoutWord (trimmedOf (scalarsOf (c10 .args .text .now))) (held (meaning (c10 .args .pool .now)))),
+            (removed (scalarsOf (c10 .args .text .now)) (c10 .args .pool .now)),
         scalars-are
             (c10 .args .text .now) (c10 .args .scalars .now) (c5 .decode .ensures .0) (c5 .decode .ensures .1),
       ),
@@ -79,7 +76,7 @@ returns-2 c =
       (
         pool-text (c16 .args .text .now) (c16 .args .scalars .now) (c11 .decode .ensures .0) (c11 .decode .ensures .1)
             (c7 .decoded2 .given .1) (λ (w : List ℕ). removeAnswer w (c16 .args .pool .now))
-            (λ (w : List ℕ). withoutWord (trimmedOf w) (held (meaning (c16 .args .pool .now)))) (c16 .args .pool .now)
+            (λ (w : List ℕ). removed w (c16 .args .pool .now)) (c16 .args .pool .now)
             (c3 .remove .last .0) (c3 .remove .ensures .0) (c3 .remove .ensures .1),
         scalars-are (c16 .args .text .now)
             (c16 .args .scalars .now) (c11 .decode .ensures .0) (c11 .decode .ensures .1),

@@ -21,14 +21,17 @@ part-at-requires c κs = search needs
 read-word-requires : tie.Need-read-word-requires Inv-loop μ-loop
 read-word-requires c κs = search needs
 
-slice-reshare-prefix-add : tie.Need-slice-reshare-prefix-add Inv-loop μ-loop
-slice-reshare-prefix-add c = search needs
+slice-reshare-prefix-add-class : tie.Need-slice-reshare-prefix-add-class Inv-loop μ-loop
+slice-reshare-prefix-add-class c = search needs
 
-slice-aggregate-add : tie.Need-slice-aggregate-add Inv-loop μ-loop
-slice-aggregate-add c = search needs
+slice-aggregate-add-class : tie.Need-slice-aggregate-add-class Inv-loop μ-loop
+slice-aggregate-add-class c = search needs
 
-add-requires : tie.Need-add-requires Inv-loop μ-loop
-add-requires c κs = search needs
+read-class-requires : tie.Need-read-class-requires Inv-loop μ-loop
+read-class-requires c κs = search needs
+
+add-class-requires : tie.Need-add-class-requires Inv-loop μ-loop
+add-class-requires c κs = search needs
 
 expect-done-requires : tie.Need-expect-done-requires Inv-loop μ-loop
 expect-done-requires c κs = search needs
@@ -60,9 +63,10 @@ add-words-spec =
     loop-holds
     part-at-requires
     read-word-requires
-    slice-reshare-prefix-add
-    slice-aggregate-add
-    add-requires
+    slice-reshare-prefix-add-class
+    slice-aggregate-add-class
+    read-class-requires
+    add-class-requires
     expect-done-requires
     behind-requires
     loop-less

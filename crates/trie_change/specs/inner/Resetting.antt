@@ -8,5 +8,5 @@ use lib.ListN.{getD}
 -- use
 pub record RootAlone (p : List ℕ) : Type 0 where
   pub first : getD p 1 0 ≡ 1
-  pub used : getD p 4 0 ≡ 1
-  pub others : (k : ℕ) → (k ≡ 1 → ⊥) → (k ≡ 4 → ⊥) → getD p k 0 ≡ 0
+  pub used : getD p 0 0 ≡ 1
+  pub others : (k : ℕ) → (k ≡ 1 → ⊥) → (k ≡ 0 → ⊥) → getD p k 0 ≡ 0

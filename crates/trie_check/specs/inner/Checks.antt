@@ -12,23 +12,25 @@ pub record Decides (b : Bool) (P : Type 0) : Type 0 where
   pub yes′ : b ≡ true → P
   pub no′ : b ≡ false → P → ⊥
 
--- what is asked of the scalar, the count, the mark and the fifth cell of a node that is not the
--- root
-pub record Inner (c k m z : ℕ) : Type 0 where
+-- what is asked of the scalar, the count and the mark of a node that is not the root
+pub record Inner (c k m : ℕ) : Type 0 where
   pub fit : Fit c m
   pub leaf : 1 ≤ k + m
-  pub zero′ : z ≡ 0
 
 -- what is asked of node i, whose children start at s
 pub record Each (p : List ℕ) (n i s : ℕ) : Type 0 where
   pub first : firstAt p i ≡ s
   pub ahead : i < s
   pub fits : s + countAt p i ≤ n
-  pub others : (r : ℕ) → 5 ≤ r → r < 8 → getD p (8 * i + r) 0 ≡ 0
   pub rising : Rising p s (s + countAt p i)
-  pub inner : 0 < i → Inner (scalarAt p i) (countAt p i) (markAt p i) (getD p (8 * i + 4) 0)
+  pub inner : 0 < i → Inner (scalarAt p i) (countAt p i) (markAt p i)
+
+-- the second half of node i is 0
+pub record Aside (p : List ℕ) (i : ℕ) : Type 0 where
+  pub zeros : (r : ℕ) → 4 ≤ r → r < 8 → getD p (8 * i + r) 0 ≡ 0
 
 -- all that is asked of each node, and that the children are all the nodes but the root
 pub record Nodes (p : List ℕ) (n : ℕ) : Type 0 where
   pub shaped : Shaped p n
   pub each : (i : ℕ) → i < n → Each p n i (firstAt p i)
+  pub aside : (i : ℕ) → i < n → Aside p i

@@ -8,7 +8,7 @@ use lib.ListN.{length, getD}
 use Rattle.refusal.specs.Limits.{maxWord, maxNodes}
 use Rattle.char_string.specs.Scalars.{isScalar}
 use Rattle.char_string.specs.Blanks.{isTrimmed}
-use Rattle.trie_pool.specs.Cells.{scalarAt, firstAt, countAt, markAt}
+use Rattle.trie_pool.specs.Cells.{maxClass, scalarAt, firstAt, countAt, markAt}
 use Rattle.trie_pool.specs.Levels.{levelEnd}
 
 -- n nodes in level order: the children of each node stand behind those of the node before it, from
@@ -27,24 +27,25 @@ Rising p s e = (k : ℕ) → s ≤ k → suc k < e → scalarAt p k < scalarAt p
 -- the scalar and the mark of a node that isn't the root
 pub record Fit (c m : ℕ) : Type 0 where
   pub legal : isScalar c ≡ true
-  pub mark : m ≤ 1
+  pub mark : m ≤ maxClass + 1
   pub stop : 1 ≤ m → isTrimmed c ≡ false
 
--- cells that say nothing are 0; the root's fifth is the number of nodes in use
+-- the root's first cell is the number of nodes in use, and the nodes that are not in use are 0
 pub record Spare (p : List ℕ) (n : ℕ) : Type 0 where
-  pub used : getD p 4 0 ≡ n
-  pub fifth : (i : ℕ) → 0 < i → i < n → getD p (8 * i + 4) 0 ≡ 0
-  pub others : (i r : ℕ) → i < n → 5 ≤ r → r < 8 → getD p (8 * i + r) 0 ≡ 0
-  pub blank : (k : ℕ) → 8 * n ≤ k → getD p k 0 ≡ 0
+  pub used : getD p 0 0 ≡ n
+  pub blank : (i r : ℕ) → n ≤ i → r < 4 → getD p (8 * i + r) 0 ≡ 0
+
+-- what a plain pool has beside its dictionary
+pub record Plain (p : List ℕ) : Type 0 where
+  pub root : getD p 3 0 ≡ 0
+  pub aside : (i r : ℕ) → 4 ≤ r → r < 8 → getD p (8 * i + r) 0 ≡ 0
 
 -- a dictionary of n nodes, but that the node cur may be a leaf that ends no word (0, the root: no
 -- exception)
 pub record Sound (p : List ℕ) (n cur : ℕ) : Type 0 where
   pub shaped : Shaped p n
-  pub fits : 8 * n ≤ length p
+  pub fits : 8 * n ≤ length p + 4
   pub small : n ≤ maxNodes
-  pub root : scalarAt p 0 ≡ 0
-  pub unmarked : markAt p 0 ≡ 0
   pub rising : (i : ℕ) → i < n → Rising p (firstAt p i) (firstAt p i + countAt p i)
   pub fit : (i : ℕ) → 0 < i → i < n → Fit (scalarAt p i) (markAt p i)
   pub leaf : (i : ℕ) → 0 < i → i < n → (i ≡ cur → ⊥) → 1 ≤ countAt p i + markAt p i
@@ -57,5 +58,5 @@ pub record Readable (p : List ℕ) (b : ℕ) : Type 0 where
   pub nodes : ℕ
   pub inside : b < nodes
   pub shaped : Shaped p nodes
-  pub fits : 8 * nodes ≤ length p
+  pub fits : 8 * nodes ≤ length p + 4
   pub rising : (i : ℕ) → i < nodes → Rising p (firstAt p i) (firstAt p i + countAt p i)

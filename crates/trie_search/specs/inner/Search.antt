@@ -43,7 +43,7 @@ pub record Wrote (old answer new : List ℕ) (r : ℕ) : Type 0 where
   pub count : r ≡ length answer
   pub is : new ≡ answer ++ drop (length answer) old
 
--- what the word count asks: the cells of the nodes in use
+-- what the word count asks: the cells of the nodes in use, the root among them
 pub record Counts (p : List ℕ) : Type 0 where
-  pub some : 8 ≤ length p
-  pub fits : 8 * used p ≤ length p
+  pub some : 1 ≤ used p
+  pub fits : 8 * used p ≤ length p + 4

@@ -24,16 +24,16 @@ abbrev remove-word-below : ℕ → In 2 remove-word-kinds.ps
 remove-word-below t = and 2 remove-word-kinds.ps (falls 2 remove-word-kinds.ps _<_ μ-remove-word t) remove-word.Pre
 
 remove-word-mul-p : (t : ℕ) → remove-word-lts.Need-mul-p (find-child-reads.Asked, find-child-reads.Learnt, remove-word-below t, remove-word.Post, prune-reads.Asked, prune-reads.Learnt) (remove-word-at t) remove-word.Post
-remove-word-mul-p t c = let i = inside-remove _ _ (c .before .before .before .pre .1) in omega arith
+remove-word-mul-p t c = let i = inside-remove _ _ _ (c .before .before .before .pre .1) in omega arith
 
 remove-word-add-p : (t : ℕ) → remove-word-lts.Need-add-p (find-child-reads.Asked, find-child-reads.Learnt, remove-word-below t, remove-word.Post, prune-reads.Asked, prune-reads.Learnt) (remove-word-at t) remove-word.Post
-remove-word-add-p t c = let i = inside-remove _ _ (c .before .before .before .pre .1) in omega arith
+remove-word-add-p t c = let i = inside-remove _ _ _ (c .before .before .before .pre .1) in omega arith
 
 remove-word-mul-p-2 : (t : ℕ) → remove-word-lts.Need-mul-p-2 (find-child-reads.Asked, find-child-reads.Learnt, remove-word-below t, remove-word.Post, prune-reads.Asked, prune-reads.Learnt) (remove-word-at t) remove-word.Post
-remove-word-mul-p-2 t c = let i = inside-remove _ _ (c .before .before .before .pre .1) in omega arith
+remove-word-mul-p-2 t c = let i = inside-remove _ _ _ (c .before .before .before .pre .1) in omega arith
 
 remove-word-slice-write-p : (t : ℕ) → remove-word-lts.Need-slice-write-p (find-child-reads.Asked, find-child-reads.Learnt, remove-word-below t, remove-word.Post, prune-reads.Asked, prune-reads.Learnt) (remove-word-at t) remove-word.Post
-remove-word-slice-write-p t c = let i = inside-remove _ _ (c .before .before .before .pre .1) in omega arith
+remove-word-slice-write-p t c = let i = inside-remove _ _ _ (c .before .before .before .pre .1) in omega arith
 
 remove-word-same-length : (t : ℕ) → remove-word-lts.Need-same-length (find-child-reads.Asked, find-child-reads.Learnt, remove-word-below t, remove-word.Post, prune-reads.Asked, prune-reads.Learnt) (remove-word-at t) remove-word.Post
 remove-word-same-length t c = search needs
@@ -47,7 +47,7 @@ remove-word-shared-slice-read-find-child : (t : ℕ) → remove-word-lts.Need-sh
 remove-word-shared-slice-read-find-child t c = omega (arith, c .before .before .if1 .left)
 
 remove-word-find-child-requires : (t : ℕ) → remove-word-lts.Need-find-child-requires (find-child-reads.Asked, find-child-reads.Learnt, remove-word-below t, remove-word.Post, prune-reads.Asked, prune-reads.Learnt) (remove-word-at t) remove-word.Post
-remove-word-find-child-requires t c κs = readable _ _ (c .before .before .before .before .before .pre .1)
+remove-word-find-child-requires t c κs = readable _ _ _ (c .before .before .before .before .before .pre .1)
 
 remove-word-enum-told : (t : ℕ) → remove-word-lts.Need-enum-told (find-child-reads.Asked, find-child-reads.Learnt, remove-word-below t, remove-word.Post, prune-reads.Asked, prune-reads.Learnt) (remove-word-at t) remove-word.Post
 remove-word-enum-told t c = search needs

@@ -1,11 +1,17 @@
 -- Assumes nothing.
 use mathlib.Core.Path.{refl, sym}
-use borrow.Author.Tests.{not-true, not-false}
 use Rattle.trie_check.proofs.Parts.{inside, long, readable}
 use Rattle.trie_char.proofs.Changing.{known, remove-absent, removes, remove-done, remove-refused, untouched}
 use borrow.Author.Needs.{needs}
 use Rattle.trie_char.proofs.change.remove.Statement.{statement}
 use Rattle.trie_char.proofs.change.remove.Tie as tie
+use Rattle.trie_char.proofs.change.remove.Reads as reads
+use Rattle.trie_char.proofs.change.remove.Lts as lts
+use Rattle.char_string.proofs.trimmed.Reads as trimmed-reads
+use Rattle.trie_change.proofs.remove_word.Reads as remove-word-reads
+use Rattle.trie_char.proofs.words.check_word.Reads as check-word-reads
+use Rattle.trie_check.proofs.capacity.Reads as capacity-reads
+use Rattle.trie_search.proofs.mark_of.Reads as mark-of-reads
 
 check-word-requires : tie.Need-check-word-requires
 check-word-requires c κs = search needs
@@ -38,18 +44,18 @@ capacity-requires c κs = search needs
 mul-cells : tie.Need-mul-cells
 mul-cells c = search needs
 
-slice-reshare-prefix-is-held : tie.Need-slice-reshare-prefix-is-held
-slice-reshare-prefix-is-held c =
+slice-reshare-prefix-mark-of : tie.Need-slice-reshare-prefix-mark-of
+slice-reshare-prefix-mark-of c =
     let c8 = c .before .before .before .before .before .before .before .before in
     inside (c8 .args .pool .now) _ (c .capacity .ensures)
 
-slice-aggregate-is-held : tie.Need-slice-aggregate-is-held
-slice-aggregate-is-held c =
+slice-aggregate-mark-of : tie.Need-slice-aggregate-mark-of
+slice-aggregate-mark-of c =
     let c9 = c .before .before .before .before .before .before .before .before .before in
     sym (long (c9 .args .pool .now) _ (c .before .capacity .ensures))
 
-is-held-requires : tie.Need-is-held-requires
-is-held-requires c κs =
+mark-of-requires : tie.Need-mark-of-requires
+mark-of-requires c κs =
     let c2 = c .before .before in
     let c3 = c2 .before in
     let c5 = c3 .before .before in
@@ -69,7 +75,7 @@ returns-2 c =
     let c7 = c5 .before .before in
     let c11 = c7 .before .before .before .before in
     remove-absent (c11 .args .pool .now) (c11 .args .word .now) (c7 .check-word .ensures) (c5 .enum-told .given .1) _
-    (c3 .capacity .ensures) _ (c4 .trimmed .ensures .0) _ (c .before .is-held .ensures) (not-true _ (c .if1 .taken))
+    (c3 .capacity .ensures) _ (c4 .trimmed .ensures .0) _ (c .before .mark-of .ensures) (c .if1 .taken)
 
 slice-relend-prefix-remove-word : tie.Need-slice-relend-prefix-remove-word
 slice-relend-prefix-remove-word c =
@@ -85,13 +91,14 @@ slice-aggregate-remove-word c =
 
 remove-word-requires : tie.Need-remove-word-requires
 remove-word-requires c κs =
-    let c4 = c .before .before .before .before in
+    let c2 = c .before .before in
+    let c4 = c2 .before .before in
     let c5 = c4 .before in
     let c6 = c5 .before in
     let c8 = c6 .before .before in
     let c12 = c8 .before .before .before .before in
     removes (c12 .args .pool .now) (c12 .args .word .now) (c8 .check-word .ensures) (c6 .enum-told .given .1) _
-    (c4 .capacity .ensures) _ (c5 .trimmed .ensures .0)
+    (c4 .capacity .ensures) _ (c5 .trimmed .ensures .0) _ (c2 .mark-of .ensures) (c .before .if1 .left)
 
 same-length-3 : tie.Need-same-length-3
 same-length-3 c = search needs
@@ -107,7 +114,7 @@ returns-3 c =
     let c11 = c9 .before .before in
     let c15 = c11 .before .before .before .before in
     remove-done (c15 .args .pool .now) (c15 .args .word .now) (c11 .check-word .ensures) (c9 .enum-told .given .1) _
-    (c7 .capacity .ensures) _ (c8 .trimmed .ensures .0) _ (c5 .is-held .ensures) (not-false _ (c4 .if1 .left)) _
+    (c7 .capacity .ensures) _ (c8 .trimmed .ensures .0) _ (c5 .mark-of .ensures) (c4 .if1 .left) _
     (c2 .remove-word .kept .0) (c2 .remove-word .ensures)
 
 pub remove-spec : {M : Type 1} → statement M
@@ -122,9 +129,9 @@ remove-spec =
     trimmed-requires
     capacity-requires
     mul-cells
-    slice-reshare-prefix-is-held
-    slice-aggregate-is-held
-    is-held-requires
+    slice-reshare-prefix-mark-of
+    slice-aggregate-mark-of
+    mark-of-requires
     same-length-2
     returns-2
     slice-relend-prefix-remove-word

@@ -4,10 +4,15 @@ use native.Mathlib.Omega.{arith}
 use borrow.Author.Tests.{not-true, not-false}
 use Rattle.trie_check.proofs.Decide.{denied}
 use Rattle.trie_pool.proofs.Shape.{count-is}
-use Rattle.trie_check.proofs.Whole.{Inv, begin, turn, refuse, done}
+use Rattle.trie_check.proofs.Whole.{Inv, begin, turn, refuse, refuse-aside, done}
 use borrow.Author.Needs.{needs}
 use Rattle.trie_check.proofs.rules.nodes_ok.Statement.{statement}
 use Rattle.trie_check.proofs.rules.nodes_ok.Tie as tie
+use Rattle.trie_check.proofs.rules.nodes_ok.Reads as reads
+use Rattle.trie_check.proofs.rules.nodes_ok.Lts as lts
+use Rattle.cells.proofs.wide.Reads as wide-reads
+use Rattle.trie_check.proofs.rules.aside_zero.Reads as aside-zero-reads
+use Rattle.trie_check.proofs.rules.each_ok.Reads as each-ok-reads
 
 abbrev Inv-loop : tie.InvT-loop
 Inv-loop p n i₀ s₀ i s = Inv p n i s
@@ -19,7 +24,7 @@ loop-holds : tie.Need-loop-holds Inv-loop μ-loop
 loop-holds c = begin _ _ (c .before .pre .0)
 
 each-ok-requires : tie.Need-each-ok-requires Inv-loop μ-loop
-each-ok-requires c κs = (c .loop-test .taken, c .before .loop .inv .fits, c .before .before .before .pre .1)
+each-ok-requires c κs = (c .loop-test .taken, c .before .loop .inv .fits, omega (arith, c .before .before .before .pre .1))
 
 returns : tie.Need-returns Inv-loop μ-loop
 returns c =
@@ -28,6 +33,17 @@ returns c =
     let c5 = c3 .before .before in
     denied (refuse (c5 .args .p .now) (c5 .args .n) (c3 .loop .i) (c3 .loop .s) (c3 .loop .inv) (c2 .loop-test .taken)
     (c .before .each-ok .ensures .no′ (not-true _ (c .if1 .taken))))
+
+aside-zero-requires : tie.Need-aside-zero-requires Inv-loop μ-loop
+aside-zero-requires c κs = search needs
+
+returns-2 : tie.Need-returns-2 Inv-loop μ-loop
+returns-2 c =
+    let c4 = c .before .before .before .before in
+    let c5 = c4 .before in
+    let c7 = c5 .before .before in
+    denied (refuse-aside (c7 .args .p .now) (c7 .args .n) (c5 .loop .i) (c4 .loop-test .taken)
+    (c .before .aside-zero .ensures .no′ (not-true _ (c .if2 .taken))))
 
 mul-wide : tie.Need-mul-wide Inv-loop μ-loop
 mul-wide c = search needs
@@ -46,15 +62,15 @@ wide-requires c κs = search needs
 
 add-s : tie.Need-add-s Inv-loop μ-loop
 add-s c =
-    let c2 = c .before .before in
-    let c3 = c2 .before in
-    let c5 = c3 .before .before in
+    let c4 = c .before .before .before .before in
+    let c5 = c4 .before in
     let c7 = c5 .before .before in
+    let c9 = c7 .before .before in
     omega (
       arith,
-      c3 .each-ok .ensures .yes′ (not-false _ (c2 .if1 .left)) .fits,
-      count-is (c7 .args .p .now)
-          (c5 .loop .i),
+      c5 .each-ok .ensures .yes′ (not-false _ (c4 .if1 .left)) .fits,
+      count-is (c9 .args .p .now)
+          (c7 .loop .i),
       c .wide .ensures,
     )
 
@@ -62,7 +78,7 @@ add-i : tie.Need-add-i Inv-loop μ-loop
 add-i c = search needs
 
 loop-less : tie.Need-loop-less Inv-loop μ-loop
-loop-less c = omega (arith, c .before .before .before .before .loop-test .taken)
+loop-less c = omega (arith, c .before .before .before .before .before .before .loop-test .taken)
 
 loop-again : tie.Need-loop-again Inv-loop μ-loop
 loop-again c =
@@ -70,12 +86,15 @@ loop-again c =
     let c3 = c2 .before in
     let c4 = c3 .before in
     let c5 = c4 .before in
-    let c7 = c5 .before .before in
-    turn (c7 .args .p .now) (c7 .args .n) (c5 .loop .i) (c5 .loop .s) _ (c5 .loop .inv) (c4 .loop-test .taken)
-    (c3 .each-ok .ensures .yes′ (not-false _ (c2 .if1 .left))) (c .wide .ensures)
+    let c6 = c5 .before in
+    let c7 = c6 .before in
+    let c9 = c7 .before .before in
+    turn (c9 .args .p .now) (c9 .args .n) (c7 .loop .i) (c7 .loop .s) _ (c7 .loop .inv) (c6 .loop-test .taken)
+    (c5 .each-ok .ensures .yes′ (not-false _ (c4 .if1 .left)))
+    (c3 .aside-zero .ensures .yes′ (not-false _ (c2 .if2 .left))) (c .wide .ensures)
 
-returns-2 : tie.Need-returns-2 Inv-loop μ-loop
-returns-2 c =
+returns-3 : tie.Need-returns-3 Inv-loop μ-loop
+returns-3 c =
     let c3 = c .before .before .before in
     done (c3 .args .p .now) (c3 .args .n) (c .before .loop .i) (c .before .loop .s) (c .before .loop .inv)
     (c3 .pre .0) (c .loop-test .left)
@@ -89,6 +108,8 @@ nodes-ok-spec =
     loop-holds
     each-ok-requires
     returns
+    aside-zero-requires
+    returns-2
     mul-wide
     add-wide
     mul-wide-2
@@ -98,4 +119,4 @@ nodes-ok-spec =
     add-i
     loop-less
     loop-again
-    returns-2)
+    returns-3)

@@ -1,8 +1,7 @@
 -- Assumes nothing.
 use Prim.Native.Nat.{_-_}
-use mathlib.Core.Path.{refl}
 use native.Mathlib.Omega.{arith}
-use Rattle.trie_search.proofs.Finding.{Tallied, tallied-all, tallied-more, tallied-on}
+use Rattle.trie_search.proofs.Finding.{Tallied, tallied-root, tallied-all, tallied-more, tallied-on}
 use borrow.Author.Needs.{needs}
 use Rattle.trie_search.proofs.search.count_words.Statement.{statement}
 use Rattle.trie_search.proofs.search.count_words.Tie as tie
@@ -20,7 +19,7 @@ wide-requires : tie.Need-wide-requires Inv-loop μ-loop
 wide-requires c κs = search needs
 
 loop-holds : tie.Need-loop-holds Inv-loop μ-loop
-loop-holds c = record { upto = omega arith; few = omega arith; is = refl }
+loop-holds c = tallied-root _ _ (omega (arith, c .wide .ensures, c .before .before .before .pre .some))
 
 mul-mark : tie.Need-mul-mark Inv-loop μ-loop
 mul-mark c = search needs

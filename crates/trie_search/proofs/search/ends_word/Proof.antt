@@ -1,5 +1,5 @@
 -- Assumes nothing.
-use Rattle.trie_search.proofs.Finding.{mark-is}
+use Rattle.trie_search.proofs.Finding.{reads-mark}
 use borrow.Author.Needs.{needs}
 use Rattle.trie_search.proofs.search.ends_word.Statement.{statement}
 use Rattle.trie_search.proofs.search.ends_word.Tie as tie
@@ -17,7 +17,7 @@ shared-slice-read-result : tie.Need-shared-slice-read-result
 shared-slice-read-result c = search needs
 
 returns : tie.Need-returns
-returns c = mark-is (c .before .args .p .now) (c .before .args .i)
+returns c = reads-mark (c .before .args .p .now) (c .before .args .i) (c .before .pre .0)
 
 pub ends-word-spec : {M : Type 1} → statement M
 ends-word-spec =

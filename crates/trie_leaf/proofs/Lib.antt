@@ -1,0 +1,6 @@
+pub mod Halves
+pub mod Planted
+pub mod Plucked
+pub mod Leaf
+pub mod Keep
+pub mod Gone

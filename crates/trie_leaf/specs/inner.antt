@@ -1,0 +1,4 @@
+-- Words of inner contracts. No public contract needs them.
+pub mod Moving
+pub mod Planting
+pub mod Plucking
