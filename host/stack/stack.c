@@ -16,7 +16,7 @@ static ucontext_t here, there;
 static void (*call)(void);
 
 static uint8_t bytes[4 * LONG];
-static uint32_t pool[CELLS], text[LONG + 1], word[1024], out[LONG + 1], claim[LONG + 1];
+static uint32_t pool[CELLS], text[LONG + 1], word[1024], out[LONG + 1], won[LONG + 1], claim[LONG + 1];
 static uint32_t scratch[FETLOCKICE_SCRATCH_CELLS(LONG)];
 static uint32_t text_ends[TEXTS], answers[FETLOCKICE_ANSWER_CELLS * TEXTS];
 static size_t bytes_len, pool_len, text_len, word_len, out_len, claim_len, scratch_len, answers_len;
@@ -24,6 +24,7 @@ static size_t count, edges, detail;
 
 static void decode(void) { fetlockice_decode(bytes, bytes_len, out, out_len, &count, &detail); }
 static void clusters(void) { fetlockice_clusters(text, text_len, out, out_len, &count, &detail); }
+static void winners(void) { fetlockice_winners(text, text_len, out, out_len, won, out_len, &count, &detail); }
 static void fresh(void) { fetlockice_fresh(pool, pool_len, &count, &detail); }
 static void add(void) { fetlockice_add(pool, pool_len, word, word_len, &count, &detail); }
 static void drop(void) { fetlockice_remove(pool, pool_len, word, word_len, &count, &detail); }
@@ -59,15 +60,16 @@ static void many_sheet(void) {
                               scratch, scratch_len, &count, &detail);
 }
 
-static void (*const calls[])(void) = {decode, clusters, fresh, add,   drop,  contains,   lengths,   words,
-                                      plain,  safe,     sheet, judge, many_plain, many_safe, many_sheet};
-static const char *const names[] = {"decode",         "clusters",      "fresh",          "add",       "remove",
-                                    "contains",       "prefix_lengths", "word_count",    "cut_plain", "cut_safe",
-                                    "cut_sheet",      "check_claim",   "cut_many_plain", "cut_many_safe",
-                                    "cut_many_sheet"};
+static void (*const calls[])(void) = {decode, clusters, winners, fresh, add,        drop,      contains,  lengths,
+                                      words,  plain,    safe,    sheet, judge,      many_plain, many_safe, many_sheet};
+static const char *const names[] = {"decode",         "clusters",       "winners",    "fresh",     "add",
+                                    "remove",         "contains",       "prefix_lengths", "word_count", "cut_plain",
+                                    "cut_safe",       "cut_sheet",      "check_claim", "cut_many_plain",
+                                    "cut_many_safe",  "cut_many_sheet"};
 enum {
     DECODE,
     CLUSTERS,
+    WINNERS,
     FRESH,
     ADD,
     REMOVE,
@@ -165,11 +167,19 @@ static void on_texts(size_t len) {
         out_len = room ? len : draw((uint32_t)len + 1);
         scratch_len = room < 2 ? FETLOCKICE_SCRATCH_CELLS(len < LONG ? len : LONG) : draw(9 * (uint32_t)len + 128);
         if (scratch_len > FETLOCKICE_SCRATCH_CELLS(LONG)) scratch_len = FETLOCKICE_SCRATCH_CELLS(LONG);
-        make(CLUSTERS), make(PREFIX_LENGTHS), make(CUT_SAFE), make(CUT_SHEET), make(CUT_PLAIN);
+        make(CLUSTERS), make(WINNERS), make(PREFIX_LENGTHS), make(CUT_SAFE), make(CUT_SHEET), make(CUT_PLAIN);
         claims();
         part(len);
         make(CUT_MANY_PLAIN), make(CUT_MANY_SAFE), make(CUT_MANY_SHEET);
     }
+}
+
+/* The cluster with the most characters, so that the second matcher goes as deep as an alternative has items. */
+static void on_clusters(void) {
+    static const uint32_t deepest[] = {0xE40, 0xE01, 0xE01, 0xE35, 0xE48, 0xE22, 0xE30, 0xE01, 0xE01, 0xE34, 0xE4C};
+    text_len = out_len = sizeof deepest / sizeof *deepest;
+    memcpy(text, deepest, sizeof deepest);
+    make(CLUSTERS), make(WINNERS);
 }
 
 /* Words of every length, added and removed: removal goes as deep as the word is long. */
@@ -206,6 +216,7 @@ int main(int argc, char **argv) {
         dictionary();
         on_words();
         on_texts(round == 0 ? LONG : round == 1 ? LONG + 1 : draw(2000));
+        on_clusters();
         on_bytes();
         hostile_pool();
     }
