@@ -142,7 +142,7 @@ def measure_rows():
     wanted += [("ours", (op, LONG, words)) for words in ("small", "all") for op in ("check", "read", "read-wide")]
     wanted += [("ours", ("check", texts, words)) for texts, words in FIRSTS]
     wanted += [("ours", ("sheet", texts, words)) for words in ("small", "all") for texts in (LINES, LONG)]
-    wanted += [("ours", (op, LONG, words)) for words in ("small", "all") for op in ("cut", "claim")]
+    wanted += [("ours", (op, LONG, words)) for words in ("small", "all") for op in ("cut", "reasons", "claim")]
     if os.path.exists(DRIVERS["before"]):
         wanted += [("before", (op, LONG, "all")) for op in ("places", "check")]
     times = rounds(wanted)

@@ -14,10 +14,11 @@ size_t search_places(const uint32_t *pool, size_t pool_len, const uint32_t *text
 #pragma weak fetlockice_cut_sheet
 #pragma weak fetlockice_check_claim
 #pragma weak fetlockice_cut_many_plain
+#pragma weak fetlockice_reasons_plain
 
-enum op { DECODE, CLUSTERS, PREFIX, PLACES, PLAIN, SAFE, SHEET, BATCH, CUT, CLAIM, CHECK, READ, READ_WIDE };
-static const char *const names[] = {"decode", "clusters", "prefix", "places", "plain", "safe", "sheet",
-                                    "batch",  "cut",      "claim",  "check",  "read",  "read-wide"};
+enum op { DECODE, CLUSTERS, PREFIX, PLACES, PLAIN, SAFE, SHEET, BATCH, CUT, REASONS, CLAIM, CHECK, READ, READ_WIDE };
+static const char *const names[] = {"decode", "clusters", "prefix",  "places", "plain", "safe", "sheet",
+                                    "batch",  "cut",      "reasons", "claim",  "check", "read", "read-wide"};
 
 static enum op op;
 static uint32_t *pool, *out, *scratch, *cells, *text_ends, *told, **scalars, **ends;
@@ -66,6 +67,14 @@ static size_t cut_scalars(size_t i, uint32_t *to) {
     return count;
 }
 
+/* The same with reasons: pairs. */
+static size_t reasons(size_t i) {
+    size_t n = lengths[i], count, edges, detail;
+    accepted(fetlockice_reasons_plain(scalars[i], n, pool, pool_len, out, 2 * n, scratch, FETLOCKICE_SCRATCH_CELLS(n), &count,
+                                      &edges, &detail));
+    return 2 * count;
+}
+
 /* The check of these ends, which are right. */
 static size_t claim(size_t i) {
     size_t n = lengths[i], right, token, detail;
@@ -108,6 +117,7 @@ static size_t answer(size_t i) {
     case SHEET: return cut(i);
     case BATCH: return batch();
     case CUT: return cut_scalars(i, out);
+    case REASONS: return reasons(i);
     case CLAIM: return claim(i);
     case CHECK: return check();
     case READ: return read_cells();
@@ -191,7 +201,7 @@ static void prepare(const char *path) {
     }
     scratch_len = FETLOCKICE_SCRATCH_CELLS(longest);
     cells = room(4 * all);
-    out = room(4 * (all + 255));
+    out = room(4 * (2 * all + 255));
     scratch = room(4 * scratch_len);
     text_ends = room(4 * text_count);
     told = room(4 * FETLOCKICE_ANSWER_CELLS * text_count);

@@ -19,13 +19,21 @@ static const unsigned refusals[OPS] = {
     [CUT_PLAIN] = 1 << 2 | 1 << 3 | 1 << 4 | 1 << 5 | 1 << 6,
     [CUT_SAFE] = 1 << 2 | 1 << 3 | 1 << 4 | 1 << 5 | 1 << 6,
     [CUT_SHEET] = 1 << 2 | 1 << 3 | 1 << 4 | 1 << 5 | 1 << 6,
+    [REASONS_PLAIN] = 1 << 2 | 1 << 3 | 1 << 4 | 1 << 5 | 1 << 6,
+    [REASONS_SAFE] = 1 << 2 | 1 << 3 | 1 << 4 | 1 << 5 | 1 << 6,
+    [REASONS_SHEET] = 1 << 2 | 1 << 3 | 1 << 4 | 1 << 5 | 1 << 6,
     [CHECK_CLAIM] = 1 << 2 | 1 << 3 | 1 << 4 | 1 << 5,
 };
 
-int writes_output(enum op op) { return op == DECODE || op == CLUSTERS || op == PREFIX_LENGTHS || cuts(op); }
+int writes_output(enum op op) {
+    return op == DECODE || op == CLUSTERS || op == PREFIX_LENGTHS || cuts(op) || tells_reasons(op);
+}
 int writes_pool(enum op op) { return op == FRESH || op == ADD || op == REMOVE; }
 int cuts(enum op op) { return op == CUT_PLAIN || op == CUT_SAFE || op == CUT_SHEET; }
-int uses_scratch(enum op op) { return cuts(op) || op == CHECK_CLAIM; }
+int tells_reasons(enum op op) { return op == REASONS_PLAIN || op == REASONS_SAFE || op == REASONS_SHEET; }
+int uses_scratch(enum op op) { return cuts(op) || tells_reasons(op) || op == CHECK_CLAIM; }
+enum op cut_of(enum op op) { return tells_reasons(op) ? (enum op)(op - REASONS_PLAIN + CUT_PLAIN) : op; }
+size_t cells_of(enum op op, size_t count) { return tells_reasons(op) ? 2 * count : count; }
 
 /* The rows of one call. */
 struct rows {
@@ -37,8 +45,25 @@ struct numbers {
     size_t guard0, count, guard1, edges, guard2, detail, guard3;
 };
 
+/* With reasons, in each mode, half of the even rows as rows of records. */
+static uint32_t told(const struct call *c, const void *text, uint32_t *pool, uint32_t *out, uint32_t *scratch,
+                     struct numbers *to) {
+    struct fetlockice_record *records = (struct fetlockice_record *)out;
+    int mode = (int)(c->op - REASONS_PLAIN);
+    if (c->room % 4 == 0)
+        return (mode == 0   ? fetlockice_records_plain
+                : mode == 1 ? fetlockice_records_safe
+                            : fetlockice_records_sheet)(text, c->n, pool, c->cells, records, c->room / 2, scratch,
+                                                        c->scratch, &to->count, &to->edges, &to->detail);
+    return (mode == 0   ? fetlockice_reasons_plain
+            : mode == 1 ? fetlockice_reasons_safe
+                        : fetlockice_reasons_sheet)(text, c->n, pool, c->cells, out, c->room, scratch, c->scratch,
+                                                    &to->count, &to->edges, &to->detail);
+}
+
 static uint32_t exported(const struct call *c, const void *text, uint32_t *pool, const uint32_t *claim, uint32_t *out,
                          uint32_t *scratch, struct numbers *to) {
+    if (tells_reasons(c->op)) return told(c, text, pool, out, scratch, to);
     switch (c->op) {
     case DECODE: return fetlockice_decode(text, c->n, out, c->room, &to->count, &to->detail);
     case CLUSTERS: return fetlockice_clusters(text, c->n, out, c->room, &to->count, &to->detail);
@@ -76,8 +101,9 @@ static void check_rows(const struct call *c, const struct rows *rows, const stru
     check_kept(&rows->claim, 0, "a claim was written");
     size_t pool_kept = writes_pool(c->op) && a->number == 0 ? 32 * nodes_of(c->cells) : 0;
     check_kept(&rows->pool, pool_kept, "a pool was written that must be kept");
-    must(a->count <= c->room || !writes_output(c->op), "more was told of than the output has cells");
-    check_kept(&rows->out, writes_output(c->op) ? 4 * a->count : 0, "an output was written that must be kept");
+    size_t written = writes_output(c->op) ? cells_of(c->op, a->count) : 0;
+    must(written <= c->room, "more was told of than the output has cells");
+    check_kept(&rows->out, 4 * written, "an output was written that must be kept");
     int untouched = !uses_scratch(c->op) || (a->number >= 2 && a->number <= 5);
     check_kept(&rows->scratch, untouched ? 0 : rows->scratch.size, "scratch was written that must be kept");
     must(untouched || all_zero(&rows->scratch), "scratch isn't all zero");
@@ -121,7 +147,8 @@ struct answer call_twice(const struct call *c) {
     struct answer a = call_once(c, &own[0]), b = call_once(c, &own[1]);
     must(a.number == b.number && a.count == b.count && a.edges == b.edges && a.detail == b.detail,
          "two calls told different numbers");
-    must(!writes_output(c->op) || memcmp(a.out, b.out, 4 * a.count) == 0, "two calls wrote different outputs");
+    must(!writes_output(c->op) || memcmp(a.out, b.out, 4 * cells_of(c->op, a.count)) == 0,
+         "two calls wrote different outputs");
     size_t same = c->op == FRESH ? (a.number == 0 ? 32 * nodes_of(c->cells) : 0) : 4 * c->cells;
     must(memcmp(a.pool, b.pool, same) == 0, "two calls left different pools");
     return a;

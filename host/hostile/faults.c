@@ -27,6 +27,9 @@ uint32_t __real_fetlockice_word_count(const uint32_t *, size_t, size_t *, size_t
 uint32_t __real_fetlockice_cut_plain(CUT);
 uint32_t __real_fetlockice_cut_safe(CUT);
 uint32_t __real_fetlockice_cut_sheet(CUT);
+uint32_t __real_fetlockice_reasons_plain(CUT);
+uint32_t __real_fetlockice_reasons_safe(CUT);
+uint32_t __real_fetlockice_reasons_sheet(CUT);
 uint32_t __real_fetlockice_check_claim(CLAIM);
 uint32_t __real_fetlockice_cut_many_plain(MANY);
 uint32_t __real_fetlockice_cut_many_safe(MANY);
@@ -144,4 +147,28 @@ uint32_t __wrap_fetlockice_cut_many_safe(MANY) {
 uint32_t __wrap_fetlockice_cut_many_sheet(MANY) {
     if (FAULT == 21) return __real_fetlockice_cut_many_safe(MANY_WITH);
     return __real_fetlockice_cut_many_sheet(MANY_WITH);
+}
+
+/* 22: "to a non-Thai run" wherever the search stops at a word; 23: the last cell of an odd row is written */
+uint32_t __wrap_fetlockice_reasons_plain(CUT) {
+    uint32_t number = __real_fetlockice_reasons_plain(CUT_WITH);
+    for (size_t i = 0; FAULT == 22 && number == 0 && i < *count; i++)
+        if (out[2 * i + 1] == FETLOCKICE_TO_WORD) out[2 * i + 1] = FETLOCKICE_TO_NON_THAI;
+    if (FAULT == 23 && number == 0 && room % 2 == 1) out[room - 1] ^= 1;
+    return number;
+}
+
+/* 24: "to the end" of the text alone; 25: refusal 6 counts cells */
+uint32_t __wrap_fetlockice_reasons_safe(CUT) {
+    uint32_t number = __real_fetlockice_reasons_safe(CUT_WITH);
+    for (size_t i = 0; FAULT == 24 && number == 0 && i + 1 < *count; i++)
+        if (out[2 * i + 1] == FETLOCKICE_TO_END) out[2 * i + 1] = FETLOCKICE_TO_NON_THAI;
+    if (FAULT == 25 && number == FETLOCKICE_OUTPUT_TOO_SHORT) *detail *= 2;
+    return number;
+}
+
+/* 26: the profile "sheet" is safe mode */
+uint32_t __wrap_fetlockice_reasons_sheet(CUT) {
+    if (FAULT == 26) return __real_fetlockice_reasons_safe(CUT_WITH);
+    return __real_fetlockice_reasons_sheet(CUT_WITH);
 }

@@ -5,6 +5,7 @@
 #include "many.h"
 #include "model.h"
 #include "parts.h"
+#include "reasons.h"
 #include "rows.h"
 #include <signal.h>
 #include <stdio.h>
@@ -37,15 +38,15 @@ static struct refusal due(const struct call *c, int is_dict) {
 /* Refusal 6 is given exactly where the output is a cell too short. */
 static void check_fit(const struct call *c, const struct answer *a) {
     struct call fit = *c;
-    size_t needed = a->number == 6 ? a->detail : a->count;
-    must(a->number != 6 || a->detail > c->room, "6 where the output has the room");
-    fit.room = needed;
+    size_t needed = a->number == 6 ? a->detail : a->count, cells = cells_of(c->op, needed);
+    must(a->number != 6 || cells > c->room, "6 where the output has the room");
+    fit.room = cells;
     struct answer b = call_twice(&fit);
     must(b.number == 0 && b.count == needed && (a->number == 6 || b.edges == a->edges),
          "an output with just the room is refused");
-    must(a->number == 6 || memcmp(a->out, b.out, 4 * needed) == 0, "the room changes the answer");
+    must(a->number == 6 || memcmp(a->out, b.out, 4 * cells) == 0, "the room changes the answer");
     if (needed == 0) return;
-    fit.room = needed - 1;
+    fit.room = cells - 1;
     b = call_twice(&fit);
     must(b.number == 6 && b.detail == needed, "an output a cell too short is not refused");
 }
@@ -153,6 +154,9 @@ static void check_accepted(const struct call *c, const struct answer *a) {
     case CUT_PLAIN:
     case CUT_SAFE:
     case CUT_SHEET: check_cut(c, a); break;
+    case REASONS_PLAIN:
+    case REASONS_SAFE:
+    case REASONS_SHEET: check_reasons(c, a); break;
     case CHECK_CLAIM: check_verdict(c, a); break;
     default: check_change(c, a); break;
     }
@@ -179,7 +183,7 @@ static struct call make_call(enum op op, int *is_dict) {
         c.n = make_word(text);
     else if (op != FRESH && op != WORD_COUNT)
         c.n = make_sheet(text, pool, *is_dict);
-    if (writes_output(op)) c.room = make_room(op == PREFIX_LENGTHS ? below(4) : c.n);
+    if (writes_output(op)) c.room = make_room(op == PREFIX_LENGTHS ? below(4) : cells_of(op, c.n));
     if (uses_scratch(op)) c.scratch = below(4) == 0 ? make_room(9 * c.n + 128) : 9 * c.n + 128 + below(4);
     if (op == CHECK_CLAIM) claim_for(&c);
     return c;
@@ -197,8 +201,8 @@ static void step(void) {
     if (a.number == 6) check_fit(&c, &a);
     if (a.number != 0) return;
     if (cuts(c.op)) memcpy(ends, a.out, 4 * a.count);
-    check_accepted(&c, &a);
     if (writes_output(c.op)) check_fit(&c, &a);
+    check_accepted(&c, &a);
     if (cuts(c.op)) check_parts(&c, &a, ends);
 }
 

@@ -37,6 +37,10 @@ size_t lacking(const uint32_t *pool, const uint32_t *word, size_t n, int *held);
 long wrong_token(const uint32_t *text, size_t n, const unsigned char *is_end, const uint32_t *pool,
                  const uint32_t *claim, size_t ends);
 
+/* Why the token from b to e of such a text ends there: 1 to 5. */
+uint32_t reason_of(const uint32_t *text, size_t n, const unsigned char *is_end, const uint32_t *pool, size_t b,
+                   size_t e);
+
 /* How many words a dictionary has. */
 size_t words_of(const uint32_t *pool);
 

@@ -3,6 +3,7 @@
 mod claims;
 mod cuts;
 mod many;
+mod reasons;
 mod texts;
 mod words;
 
@@ -13,6 +14,9 @@ pub use cuts::fetlockice_cut_sheet;
 pub use many::fetlockice_cut_many_plain;
 pub use many::fetlockice_cut_many_safe;
 pub use many::fetlockice_cut_many_sheet;
+pub use reasons::fetlockice_reasons_plain;
+pub use reasons::fetlockice_reasons_safe;
+pub use reasons::fetlockice_reasons_sheet;
 pub use texts::fetlockice_clusters;
 pub use texts::fetlockice_decode;
 pub use words::fetlockice_add;

@@ -1,12 +1,17 @@
 //! Thai word cutting whose every answer is proved: a safe interface over the library of the repository's crates.
 //!
 //! ```
-//! use fetlockice::{Cutter, Dictionary, Mode};
+//! use fetlockice::{Cutter, Dictionary, Mode, Reason};
 //!
 //! let words = Dictionary::from_words(["กข", "กขค", "คง", "ง"])?;
 //! let cut = Cutter::new().cut(&words, "กขคง", Mode::Safe)?;
 //! let tokens: Vec<&str> = cut.tokens.iter().map(|token| token.text).collect();
 //! assert_eq!(tokens, ["กข", "คง"]);
+//!
+//! // why each token ends where it does
+//! let cut = Cutter::new().explain(&words, "จกข 12", Mode::Plain)?;
+//! let reasons: Vec<Reason> = cut.tokens.iter().map(|token| token.reason).collect();
+//! assert_eq!(reasons, [Reason::ToNonThai, Reason::NonThai, Reason::NonThai]);
 //!
 //! // many short texts: the dictionary is checked once for all of them
 //! let cuts = Cutter::new().cut_lines(&words, ["กขคง", "", "งกข"], Mode::Safe);
@@ -19,7 +24,7 @@ mod dictionary;
 mod error;
 mod ffi;
 
-pub use cutter::{Cut, Cutter, Mode, Token, Verdict};
+pub use cutter::{Cut, Cutter, Mode, Reason, Token, Verdict};
 pub use dictionary::{Dictionary, MAX_NODES};
 pub use error::Error;
 
