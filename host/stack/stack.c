@@ -16,13 +16,14 @@ static ucontext_t here, there;
 static void (*call)(void);
 
 static uint8_t bytes[4 * LONG];
-static uint32_t pool[CELLS], text[LONG + 1], word[1024], out[LONG + 1], claim[LONG + 1];
+static uint32_t pool[CELLS], text[LONG + 1], word[1024], out[LONG + 1], positions[LONG + 1], claim[LONG + 1];
 static uint32_t scratch[FETLOCKICE_SCRATCH_CELLS(LONG)];
 static uint32_t text_ends[TEXTS], answers[FETLOCKICE_ANSWER_CELLS * TEXTS];
 static size_t bytes_len, pool_len, text_len, word_len, out_len, claim_len, scratch_len, answers_len;
 static size_t count, word_class, edges, detail;
 
-static void decode(void) { fetlockice_decode(bytes, bytes_len, out, out_len, &count, &detail); }
+static void decode(void) { fetlockice_decode(bytes, bytes_len, out, out_len, positions, LONG + 1, &count, &detail); }
+static void end_in_bytes(void) { fetlockice_end_in_bytes(positions, LONG + 1, out_len, text_len, &count, &detail); }
 static void clusters(void) { fetlockice_clusters(text, text_len, out, out_len, &count, &detail); }
 static void fresh(void) { fetlockice_fresh(pool, pool_len, &count, &detail); }
 static void add(void) { fetlockice_add(pool, pool_len, word, word_len, &count, &detail); }
@@ -61,15 +62,16 @@ static void many_sheet(void) {
                               scratch, scratch_len, &count, &detail);
 }
 
-static void (*const calls[])(void) = {decode,   clusters, fresh,      add,       add_class, drop,
-                                      contains, class_of, lengths,    words,     plain,     safe,
-                                      sheet,    judge,    many_plain, many_safe, many_sheet};
+static void (*const calls[])(void) = {decode, end_in_bytes, clusters, fresh,      add,       add_class,
+                                      drop,   contains,     class_of, lengths,    words,     plain,
+                                      safe,   sheet,        judge,    many_plain, many_safe, many_sheet};
 static const char *const names[] = {
-    "decode",    "clusters",       "fresh",          "add",           "add_class",     "remove",
-    "contains",  "contains_class", "prefix_lengths", "word_count",    "cut_plain",     "cut_safe",
-    "cut_sheet", "check_claim",    "cut_many_plain", "cut_many_safe", "cut_many_sheet"};
+    "decode",   "end_in_bytes", "clusters",       "fresh",          "add",           "add_class",
+    "remove",   "contains",     "contains_class", "prefix_lengths", "word_count",    "cut_plain",
+    "cut_safe", "cut_sheet",    "check_claim",    "cut_many_plain", "cut_many_safe", "cut_many_sheet"};
 enum {
     DECODE,
+    END_IN_BYTES,
     CLUSTERS,
     FRESH,
     ADD,
@@ -195,9 +197,9 @@ static void on_bytes(void) {
     bytes_len = draw(4 * LONG);
     for (size_t i = 0; i < bytes_len; i += 3) memcpy(bytes + i, draw(500) ? "\xE0\xB8\x81" : "\xE0\xB8\xC0", 3);
     out_len = LONG;
-    make(DECODE);
+    make(DECODE), make(END_IN_BYTES);
     for (size_t i = 0; i < bytes_len; i++) bytes[i] = (uint8_t)draw(256);
-    make(DECODE);
+    make(DECODE), make(END_IN_BYTES);
 }
 
 static void hostile_pool(void) {

@@ -15,6 +15,7 @@ pub use many::fetlockice_cut_many_safe;
 pub use many::fetlockice_cut_many_sheet;
 pub use texts::fetlockice_clusters;
 pub use texts::fetlockice_decode;
+pub use texts::fetlockice_end_in_bytes;
 pub use words::fetlockice_add;
 pub use words::fetlockice_add_class;
 pub use words::fetlockice_contains;

@@ -2,4 +2,5 @@ pub mod FirstBytes
 pub mod Sizes
 pub mod Pieces
 pub mod Runs
+pub mod Places
 pub mod Decoded

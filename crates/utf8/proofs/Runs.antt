@@ -132,7 +132,7 @@ filled-next {s} {out₀} {out} {at} {n} w h i = go (eqb (sizeOf (drop at s)) 0) 
         absurd (let y : _≡_ {A = ℕ} 0 1 = cc in omega arith)
 
 module _ {s out₀ out : List ℕ} {at n : ℕ} (p : Piece) (h : Filled s out₀ out at n) (i : 0 < sizeOf (drop at s)) (e : p ≡ pieceOf (drop at s)) where
-  size-is : p .size ≡ sizeOf (drop at s)
+  pub size-is : p .size ≡ sizeOf (drop at s)
   size-is = ap (λ (q : Piece). q .size) e
 
   head-is : p .scalar ≡ scalarOf (take (p .size) (drop at s))

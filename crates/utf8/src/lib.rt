@@ -1,6 +1,8 @@
-// UTF-8 to scalars: one pass that checks and counts, and one that writes.
+// UTF-8 to scalars and their byte positions: one pass that checks and counts, and one that writes;
+// ends in bytes.
 mod leads;
 
+use cells::narrow;
 use leads::lead;
 use leads::lead_table;
 use refusal::Answer;
@@ -13,7 +15,8 @@ ghost use lib.ListN.{length, drop};
 ghost use mathlib.Core.List.{_++_};
 ghost use Rattle.lists.specs.Scans.{within};
 ghost use Rattle.refusal.specs.Answers.{output};
-ghost use Rattle.utf8.specs.Decoding.{Leads, sizeOf, runAll, scalarsOf, decoded};
+ghost use Rattle.utf8.specs.Decoding.{Leads, sizeOf, runAll, scalarsOf, roomIn, decoded};
+ghost use Rattle.utf8.specs.Positions.{positionsOf, endInBytes};
 ghost use Rattle.utf8.specs.inner.Passes.{pieceOf, countedOf};
 
 // The scalar at a place, and the number of bytes of its sequence.
@@ -136,28 +139,35 @@ fn piece_at(s: &[u8], at: usize) -> Piece
     }
 }
 
-// The second pass, over well-formed bytes, into room that is enough.
-fn fill(s: &[u8], out: &mut [u32])
+// The second pass, over well-formed bytes of a text that is not too long, into room that is enough.
+fn fill(s: &[u8], out: &mut [u32], positions: &mut [u32])
     requires { ⌜ runAll (now s) .whole ≡ true ⌝ }
+    requires { ⌜ length (scalarsOf (now s)) ≤ 65535 ⌝ }
     requires { ⌜ length (scalarsOf (now s)) ≤ length (now out) ⌝ }
+    requires { ⌜ length (scalarsOf (now s)) < length (now positions) ⌝ }
     ensures { λ _. ⌜ now (out .exit) ≡
         scalarsOf (now (s .entry)) ++ drop (length (scalarsOf (now (s .entry)))) (now (out .entry)) ⌝ }
+    ensures { λ _. ⌜ now (positions .exit) ≡
+        positionsOf (now (s .entry)) ++ drop (length (positionsOf (now (s .entry)))) (now (positions .entry)) ⌝ }
 {
     let mut at = 0;
     let mut n = 0;
     while at < s.len() {
         let p = piece_at(s, at);
         out[n] = p.scalar;
+        positions[n] = narrow(at);
         at += p.size;
         n += 1;
     }
+    positions[n] = narrow(s.len());
 }
 
-// Writes the scalars of the bytes to the front of `out`, and answers how many there are. Refusals
-// 1, 2, 6.
-pub fn decode(bytes: &[u8], out: &mut [u32]) -> Answer
-    ensures { λ r. ⌜ r ≡ decoded (now (bytes .entry)) (length (now (out .entry))) ⌝ }
+// Writes the scalars of the bytes to the front of `out`, the byte position of each and of the end
+// to the front of `positions`, and answers how many scalars there are. Refusals 1, 2, 6.
+pub fn decode(bytes: &[u8], out: &mut [u32], positions: &mut [u32]) -> Answer
+    ensures { λ r. ⌜ r ≡ decoded (now (bytes .entry)) (roomIn (now (out .entry)) (now (positions .entry))) ⌝ }
     ensures { λ r. ⌜ now (out .exit) ≡ output r (scalarsOf (now (bytes .entry))) (now (out .entry)) ⌝ }
+    ensures { λ r. ⌜ now (positions .exit) ≡ output r (positionsOf (now (bytes .entry))) (now (positions .entry)) ⌝ }
 {
     let c = count(bytes);
     if !c.whole {
@@ -169,6 +179,30 @@ pub fn decode(bytes: &[u8], out: &mut [u32]) -> Answer
     if out.len() < c.scalars {
         return Answer::Refused(Refusal::OutputTooShort(c.scalars));
     }
-    fill(bytes, out);
+    let places = c.scalars + 1;
+    if positions.len() < places {
+        return Answer::Refused(Refusal::OutputTooShort(places));
+    }
+    fill(bytes, out, positions);
     Answer::Accepted(c.scalars)
+}
+
+// An end in bytes.
+pub enum InBytes {
+    At(usize),
+    Nothing,
+}
+
+// An end of a text of n characters in bytes: the cell of its position row at that end. An end over
+// n has none, nor has one that the row has no cell for.
+pub fn end_in_bytes(positions: &[u32], n: usize, end: usize) -> InBytes
+    ensures { λ r. ⌜ r ≡ endInBytes (now (positions .entry)) n end ⌝ }
+{
+    if n < end {
+        return InBytes::Nothing;
+    }
+    if positions.len() <= end {
+        return InBytes::Nothing;
+    }
+    InBytes::At(cells::wide(positions[end]))
 }

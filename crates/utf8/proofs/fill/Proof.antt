@@ -1,79 +1,144 @@
 -- Assumes nothing.
 use Prim.Native.Nat.{_-_, _<_}
 use native.Mathlib.Omega.{arith}
-use lib.ListN.{length}
-use Rattle.utf8.proofs.Runs.{Filled, filled-none, filled-next, filled-room, filled-inside, filled-more, filled-done}
+use lib.ListN.{length, length-set}
+use Rattle.utf8.proofs.Runs.{Filled, filled-none, filled-next, size-is, filled-room, filled-inside, filled-more, filled-done}
+use Rattle.utf8.proofs.Places.{Placed, placed-none, placed-more, placed-last}
 use borrow.Author.Needs.{needs}
 use Rattle.utf8.proofs.fill.Statement.{statement}
 use Rattle.utf8.proofs.fill.Tie as tie
+use Rattle.utf8.proofs.fill.Reads as reads
+use Rattle.utf8.proofs.fill.Lts as lts
+use Rattle.cells.proofs.narrow.Reads as narrow-reads
+use Rattle.utf8.proofs.piece_at.Reads as piece-at-reads
 
 abbrev Inv-loop : tie.InvT-loop
-Inv-loop s out₀ at₀ n₀ out at n = Filled s out₀ out at n
+Inv-loop s out₀ positions₀ at₀ n₀ out positions at n = Filled s out₀ out at n × Placed s positions₀ positions at n
 
 abbrev μ-loop : tie.MeasureT-loop
-μ-loop s out₀ at₀ n₀ out at n = length s - at
+μ-loop s out₀ positions₀ at₀ n₀ out positions at n = length s - at
 
 loop-holds : tie.Need-loop-holds Inv-loop μ-loop
-loop-holds c = filled-none _ _
+loop-holds c = (filled-none _ _, placed-none _ _)
 
 piece-at-requires : tie.Need-piece-at-requires Inv-loop μ-loop
-piece-at-requires c κs = filled-next (c .before .before .before .before .pre .0) (c .before .loop .inv) (c .loop-test .taken)
+piece-at-requires c κs = filled-next (c .before .before .before .before .before .pre .0) (c .before .loop .inv .0) (c .loop-test .taken)
 
 mul-out : tie.Need-mul-out Inv-loop μ-loop
 mul-out c =
     let c2 = c .before .before in
-    let c5 = c2 .before .before .before in
-    let z = filled-room _ (c2 .loop .inv) (filled-next (c5 .pre .0) (c2 .loop .inv) (c .before .loop-test .taken))
-    (c .piece-at .ensures) in
-    let y : c2 .loop .n < length (c5 .args .out .now) = omega (arith, c5 .pre .1) in
+    let c6 = c2 .before .before .before .before in
+    let z = filled-room _ (c2 .loop .inv .0)
+    (filled-next (c6 .pre .0) (c2 .loop .inv .0) (c .before .loop-test .taken)) (c .piece-at .ensures) in
+    let y : c2 .loop .n < length (c6 .args .out .now) = omega (arith, c6 .pre .1 .1 .0) in
     search needs
 
 slice-write-out : tie.Need-slice-write-out Inv-loop μ-loop
 slice-write-out c =
     let c2 = c .before .before in
-    let c5 = c2 .before .before .before in
-    let z = filled-room _ (c2 .loop .inv) (filled-next (c5 .pre .0) (c2 .loop .inv) (c .before .loop-test .taken))
-    (c .piece-at .ensures) in
-    omega (arith, c5 .pre .1, c2 .loop .inv .long)
+    let c6 = c2 .before .before .before .before in
+    let z = filled-room _ (c2 .loop .inv .0)
+    (filled-next (c6 .pre .0) (c2 .loop .inv .0) (c .before .loop-test .taken)) (c .piece-at .ensures) in
+    omega (arith, c6 .pre .1 .1 .0, c2 .loop .inv .0 .long)
+
+narrow-requires : tie.Need-narrow-requires Inv-loop μ-loop
+narrow-requires c κs =
+    let c2 = c .before .before in
+    let c6 = c2 .before .before .before .before in
+    let z = filled-room _ (c2 .loop .inv .0)
+    (filled-next (c6 .pre .0) (c2 .loop .inv .0) (c .before .loop-test .taken)) (c .piece-at .ensures) in
+    omega (arith, c6 .pre .1 .0, c2 .loop .inv .1 .near)
+
+mul-positions : tie.Need-mul-positions Inv-loop μ-loop
+mul-positions c =
+    let c2 = c .before .before in
+    let c3 = c2 .before in
+    let c7 = c3 .before .before .before .before in
+    let z = filled-room _ (c3 .loop .inv .0) (filled-next (c7 .pre .0) (c3 .loop .inv .0) (c2 .loop-test .taken))
+    (c .before .piece-at .ensures) in
+    let y : c3 .loop .n < length (c7 .args .positions .now) = omega (arith, c7 .pre .1 .1 .1) in
+    search needs
+
+slice-write-positions : tie.Need-slice-write-positions Inv-loop μ-loop
+slice-write-positions c =
+    let c2 = c .before .before in
+    let c3 = c2 .before in
+    let c7 = c3 .before .before .before .before in
+    let z = filled-room _ (c3 .loop .inv .0) (filled-next (c7 .pre .0) (c3 .loop .inv .0) (c2 .loop-test .taken))
+    (c .before .piece-at .ensures) in
+    omega (arith, c7 .pre .1 .1 .1, c3 .loop .inv .1 .long)
 
 add-at : tie.Need-add-at Inv-loop μ-loop
 add-at c =
     let c2 = c .before .before in
     let c3 = c2 .before in
-    let c6 = c3 .before .before .before in
-    let z = filled-inside _ (c3 .loop .inv) (filled-next (c6 .pre .0) (c3 .loop .inv) (c2 .loop-test .taken))
-    (c .before .piece-at .ensures) in
+    let c4 = c3 .before in
+    let c8 = c4 .before .before .before .before in
+    let z = filled-inside _ (c4 .loop .inv .0) (filled-next (c8 .pre .0) (c4 .loop .inv .0) (c3 .loop-test .taken))
+    (c2 .piece-at .ensures) in
     omega arith
 
 add-n : tie.Need-add-n Inv-loop μ-loop
 add-n c =
-    let c3 = c .before .before .before in
-    let z = c3 .loop .inv .read .few in
-    let y = c3 .loop .inv .read .inside in
+    let z = c .before .before .before .before .loop .inv .0 .read .few in
+    let y = c .before .before .before .before .loop .inv .0 .read .inside in
     search needs
 
 loop-less : tie.Need-loop-less Inv-loop μ-loop
 loop-less c =
     let c2 = c .before .before in
     let c3 = c2 .before in
-    let c6 = c3 .before .before .before in
-    let z = filled-inside _ (c3 .loop .inv) (filled-next (c6 .pre .0) (c3 .loop .inv) (c2 .loop-test .taken))
-    (c .before .piece-at .ensures) in
+    let c4 = c3 .before in
+    let c8 = c4 .before .before .before .before in
+    let z = filled-inside _ (c4 .loop .inv .0) (filled-next (c8 .pre .0) (c4 .loop .inv .0) (c3 .loop-test .taken))
+    (c2 .piece-at .ensures) in
     omega arith
 
 loop-again : tie.Need-loop-again Inv-loop μ-loop
 loop-again c =
     let c2 = c .before .before in
     let c3 = c2 .before in
-    let c6 = c3 .before .before .before in
-    filled-more _ (c3 .loop .inv) (filled-next (c6 .pre .0) (c3 .loop .inv) (c2 .loop-test .taken))
-    (c .before .piece-at .ensures) (c6 .pre .1)
+    let c4 = c3 .before in
+    let c8 = c4 .before .before .before .before in
+    let i = filled-next (c8 .pre .0) (c4 .loop .inv .0) (c3 .loop-test .taken) in
+    let z = filled-room _ (c4 .loop .inv .0) i (c2 .piece-at .ensures) in
+    (filled-more _ (c4 .loop .inv .0) i (c2 .piece-at .ensures) (c8 .pre .1 .1 .0), placed-more (c4 .loop .inv .1) _ _
+    (c .before .narrow .ensures) (size-is _ (c4 .loop .inv .0) i (c2 .piece-at .ensures))
+    (filled-inside _ (c4 .loop .inv .0) i (c2 .piece-at .ensures) .0) (omega (arith, c8 .pre .1 .1 .1)))
+
+narrow-requires-2 : tie.Need-narrow-requires-2 Inv-loop μ-loop
+narrow-requires-2 c κs =
+    let c5 = c .before .before .before .before .before in
+    omega (arith, c5 .pre .1 .0, c .before .loop .inv .1 .near, c .before .loop .inv .0 .read .number,
+    c .loop-test .left)
+
+mul-positions-2 : tie.Need-mul-positions-2 Inv-loop μ-loop
+mul-positions-2 c =
+    let c2 = c .before .before in
+    let c6 = c2 .before .before .before .before in
+    let z = c2 .loop .inv .0 .read .number in
+    let y : c2 .loop .n < length (c6 .args .positions .now) = omega (arith, c6 .pre .1 .1 .1) in
+    search needs
+
+slice-write-positions-2 : tie.Need-slice-write-positions-2 Inv-loop μ-loop
+slice-write-positions-2 c =
+    let c2 = c .before .before in
+    let c6 = c2 .before .before .before .before in
+    omega (arith, c6 .pre .1 .1 .1, c2 .loop .inv .1 .long, c2 .loop .inv .0 .read .number)
 
 same-length : tie.Need-same-length Inv-loop μ-loop
-same-length c = c .before .loop .inv .long
+same-length c = c .before .before .loop .inv .0 .long
+
+same-length-2 : tie.Need-same-length-2 Inv-loop μ-loop
+same-length-2 c = simp length-set (c .before .before .loop .inv .1 .long)
 
 returns : tie.Need-returns Inv-loop μ-loop
-returns c = filled-done (c .before .loop .inv) (c .loop-test .left)
+returns c =
+    let c2 = c .before .before in
+    let c6 = c2 .before .before .before .before in
+    (filled-done (c2 .loop .inv .0) (c .before .loop-test .left), placed-last (c2 .loop .inv .1) _
+    (c .narrow2 .ensures) (c2 .loop .inv .0 .read .inside) (c .before .loop-test .left)
+    (omega (arith, c6 .pre .1 .1 .1, c2 .loop .inv .0 .read .number)))
 
 pub fill-spec : {M : Type 1} → statement M
 fill-spec =
@@ -85,9 +150,16 @@ fill-spec =
     piece-at-requires
     mul-out
     slice-write-out
+    narrow-requires
+    mul-positions
+    slice-write-positions
     add-at
     add-n
     loop-less
     loop-again
+    narrow-requires-2
+    mul-positions-2
+    slice-write-positions-2
     same-length
+    same-length-2
     returns)
