@@ -142,7 +142,7 @@ def measure_rows():
     wanted += [("ours", (op, LONG, words)) for words in ("small", "all") for op in ("check", "read", "read-wide")]
     wanted += [("ours", ("check", texts, words)) for texts, words in FIRSTS]
     wanted += [("ours", ("sheet", texts, words)) for words in ("small", "all") for texts in (LINES, LONG)]
-    wanted += [("ours", (op, LONG, words)) for words in ("small", "all") for op in ("cut", "claim")]
+    wanted += [("ours", (op, LONG, words)) for words in ("small", "all") for op in ("cut", "claim", "map", "next", "next-bare")]
     if os.path.exists(DRIVERS["before"]):
         wanted += [("before", (op, LONG, "all")) for op in ("places", "check")]
     times = rounds(wanted)
@@ -171,6 +171,11 @@ def growth():
     return found
 
 
+def breaks():
+    """The number of ends of the long text's plain cut, by the words."""
+    return {words: len(output(command("ours", "answers", "cut", LONG, words)).split()) for words in ("small", "all")}
+
+
 def sizes():
     """The characters and bytes of the texts."""
     found = {}
@@ -189,7 +194,7 @@ def main():
         print("comparing", *what, flush=True)
         if not hold(what):
             raise SystemExit("the Rust gives no answers: %s %s %s" % what)
-    results = {"sizes": sizes(), "loads": loads, "rows": measure_rows(), "growth": growth()}
+    results = {"sizes": sizes(), "breaks": breaks(), "loads": loads, "rows": measure_rows(), "growth": growth()}
     with open(os.path.join(WORK, "results.json"), "w", encoding="utf-8") as file:
         json.dump(results, file, indent=1)
 

@@ -61,6 +61,7 @@ class Results:
         self.all = json.load(open(os.path.join(WORK, "results.json"), encoding="utf-8"))
         self.rows = {(row["side"], *row["what"]): row for row in self.all["rows"]}
         self.sizes, self.loads, self.growth = self.all["sizes"], self.all["loads"], self.all["growth"]
+        self.breaks = self.all["breaks"]
 
     def time(self, *key):
         return min(self.rows[key]["times"]) - (self.time(*self.check(*key)) if self.check(*key) else 0)
@@ -193,6 +194,28 @@ def claims_grown(r):
     return table(["text, words", "n", "plain, from bytes to ends", "claim, on scalars"], rows)
 
 
+def map_of_ends(r, words):
+    """The map of the long text's ends over the plain cut on scalars, the check left out: by time and by instructions."""
+    of_cut = [of("ours", "cut", LONG, words) - of("ours", "check", LONG, words) for of in (r.time, r.count)]
+    return [of("ours", "map", LONG, words) / whole for of, whole in zip((r.time, r.count), of_cut)]
+
+
+def a_break(r, op, words):
+    """The next break from each break of the long text: nanoseconds and instructions a break."""
+    return [of("ours", op, LONG, words) / r.breaks[words] for of in (r.time, r.count)]
+
+
+def maps(r):
+    """Maps of breaks: of the long text's ends, and asked for every break."""
+    head = ["words", "breaks", "map / cut", "by instr.", "next break, ns", "instr.", "without tests, ns", "instr."]
+    rows = []
+    for words in ("small", "all"):
+        costs = ["%.3f" % x for x in map_of_ends(r, words)]
+        costs += [ns(x) for op in ("next", "next-bare") for x in a_break(r, op, words)]
+        rows.append([r.words(words), "{:,}".format(r.breaks[words])] + costs)
+    return table(head, rows)
+
+
 def growth(r):
     ordinary = of_case(r, "ordinary", "all")[65535]["ours"] / 65535
     head = ["text, words", "n", "ours ns", "instr.", "times ordinary text", "Rust ns", "Rust / ours"]
@@ -278,6 +301,10 @@ def limits(r):
         yield row("the profile sheet against safe mode, one long text, %s words" % r.words(words), 1.05, ratios)
         ratios = [(of("ours", "claim", LONG, words) - of("ours", "check", LONG, words)) / (of("ours", "cut", LONG, words) - of("ours", "check", LONG, words)) for of in (r.time, r.count)]
         yield row("a claim of our own ends against the plain cut, the check left out, %s words" % r.words(words), 1, ratios)
+        name = "the map of a text's ends against its plain cut, the check left out, %s words" % r.words(words)
+        yield row(name, 0.05, map_of_ends(r, words))
+        took = a_break(r, "next", words)[0]
+        yield ["nanoseconds of a next break, %s words" % r.words(words), "3", "%.2f" % took, "", verdict(3, took, took, False)]
     firsts = {
         "prefix lookup, 26 Latin and 4,974 CJK first characters more, against %s words" % r.words("all"): ((LONG, "many"), (LONG, "all")),
         "prefix lookup, 20,000 evenly spaced first characters against 200": [("spaced-%d.txt" % n, "spaced-%d" % n) for n in (20000, 200)],
@@ -316,6 +343,7 @@ def sections(r):
     yield "## libthai and ICU", others(r)
     yield "## The check of the pool", ["Refusal 4 costs one check in every call that is lent a pool.", "", *pools(r)]
     yield "## Checking a claim", [*claims(r), "", "Instructions a character, the check of the pool included:", "", *claims_grown(r)]
+    yield "## Maps of breaks", ["Of the long text. A next break is a call from each break to the one behind it.", "", *maps(r)]
     yield "## Loading and memory", ["Ours adds the words one by one. The pool is as long as its nodes need.", "", *memory(r)]
     yield "## Growth", ["![cost a character against the text's length](cost.svg)", "", *growth(r)]
 

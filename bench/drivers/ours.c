@@ -14,13 +14,35 @@ size_t search_places(const uint32_t *pool, size_t pool_len, const uint32_t *text
 #pragma weak fetlockice_cut_sheet
 #pragma weak fetlockice_check_claim
 #pragma weak fetlockice_cut_many_plain
+#pragma weak fetlockice_break_map
+#pragma weak fetlockice_next_break
 
-enum op { DECODE, CLUSTERS, PREFIX, PLACES, PLAIN, SAFE, SHEET, BATCH, CUT, CLAIM, CHECK, EDIT, READ, READ_WIDE };
-static const char *const names[] = {"decode", "clusters", "prefix", "places", "plain", "safe", "sheet",
-                                    "batch",  "cut",      "claim",  "check",  "edit",  "read", "read-wide"};
+enum op {
+    DECODE,
+    CLUSTERS,
+    PREFIX,
+    PLACES,
+    PLAIN,
+    SAFE,
+    SHEET,
+    BATCH,
+    CUT,
+    CLAIM,
+    MAP,
+    NEXT,
+    NEXT_BARE,
+    CHECK,
+    EDIT,
+    READ,
+    READ_WIDE
+};
+static const char *const names[] = {"decode",    "clusters", "prefix", "places", "plain",    "safe",
+                                    "sheet",     "batch",    "cut",    "claim",  "map",      "next",
+                                    "next-bare", "check",    "edit",   "read",   "read-wide"};
 
 static enum op op;
 static uint32_t *pool, *out, *scratch, *cells, *text_ends, *told, **scalars, **ends;
+static uint64_t **maps;
 static size_t pool_len, scratch_len, *lengths, *end_counts;
 static volatile uint32_t kept;
 
@@ -75,6 +97,39 @@ static size_t claim(size_t i) {
     return right;
 }
 
+/* The map of these ends. */
+static size_t map(size_t i) {
+    size_t n = lengths[i], count, detail;
+    accepted(fetlockice_break_map(n, ends[i], end_counts[i], maps[i], FETLOCKICE_MAP_CELLS(n), &count, &detail));
+    return count;
+}
+
+/* The same call without a test of what it is given. */
+__attribute__((noinline)) static uint32_t next_bare(size_t n, const uint64_t *row, size_t row_len, size_t position, size_t *found,
+                                                    size_t *at, size_t *detail) {
+    (void)row_len;
+    *found = *at = *detail = 0;
+    for (size_t p = position + 1; p <= n; p = (p / 64 + 1) * 64) {
+        uint64_t bits = row[p / 64] >> p % 64;
+        if (bits == 0) continue;
+        *found = 1, *at = p + (size_t)__builtin_ctzll(bits);
+        break;
+    }
+    return 0;
+}
+
+/* Every break of the map, found from the one before; their number is that of the ends. */
+static size_t next(size_t i) {
+    size_t n = lengths[i], found, at, detail, position = 0, count = 0;
+    for (;; position = at, count++) {
+        accepted((op == NEXT ? fetlockice_next_break : next_bare)(n, maps[i], FETLOCKICE_MAP_CELLS(n), position, &found, &at,
+                                                                  &detail));
+        if (!found) break;
+    }
+    if (count != end_counts[i]) die("the breaks are not the ends");
+    return count;
+}
+
 /* An empty word is searched for in no time, so this is the check of the pool. */
 static size_t check(void) {
     size_t count, detail;
@@ -118,6 +173,9 @@ static size_t answer(size_t i) {
     case BATCH: return batch();
     case CUT: return cut_scalars(i, out);
     case CLAIM: return claim(i);
+    case MAP: return map(i);
+    case NEXT:
+    case NEXT_BARE: return next(i);
     case CHECK: return check();
     case EDIT: return edit(i);
     case READ: return read_cells();
@@ -207,13 +265,16 @@ static void prepare(const char *path) {
     told = room(4 * FETLOCKICE_ANSWER_CELLS * text_count);
 }
 
-/* The ends that are claimed. */
-static void prepare_claims(void) {
+/* The ends that are claimed, and their maps. */
+static void prepare_ends(void) {
     ends = room(text_count * sizeof *ends);
     end_counts = room(text_count * sizeof *end_counts);
+    maps = room(text_count * sizeof *maps);
     for (size_t i = 0; i < text_count; i++) {
         ends[i] = room(4 * lengths[i]);
         end_counts[i] = cut_scalars(i, ends[i]);
+        maps[i] = room(8 * FETLOCKICE_MAP_CELLS(lengths[i]));
+        if (op != CLAIM) map(i);
     }
 }
 
@@ -227,7 +288,7 @@ int main(int argc, char **argv) {
         if (++op > READ_WIDE) die(argv[2]);
     prepare(argv[3]);
     if (argc > 4) pool = (uint32_t *)read_file(argv[4], &pool_len), pool_len /= 4;
-    if (op == CLAIM) prepare_claims();
+    if (op >= CLAIM && op <= NEXT_BARE) prepare_ends();
     if (!strcmp(argv[1], "answers")) answers();
     else if (!strcmp(argv[1], "time")) printf("%.1f\n", best_ns());
     else bench_pass();

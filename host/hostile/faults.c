@@ -34,6 +34,9 @@ uint32_t __real_fetlockice_check_claim(CLAIM);
 uint32_t __real_fetlockice_cut_many_plain(MANY);
 uint32_t __real_fetlockice_cut_many_safe(MANY);
 uint32_t __real_fetlockice_cut_many_sheet(MANY);
+uint32_t __real_fetlockice_break_map(size_t, const uint32_t *, size_t, uint64_t *, size_t, size_t *, size_t *);
+uint32_t __real_fetlockice_breaks_up_to(size_t, const uint64_t *, size_t, size_t, size_t *, size_t *);
+uint32_t __real_fetlockice_next_break(size_t, const uint64_t *, size_t, size_t, size_t *, size_t *, size_t *);
 
 /* 1: the detail of a refusal is one too high */
 uint32_t __wrap_fetlockice_decode(const uint8_t *bytes, size_t n, uint32_t *out, size_t room, size_t *count,
@@ -180,4 +183,32 @@ uint32_t __wrap_fetlockice_cut_many_safe(MANY) {
 uint32_t __wrap_fetlockice_cut_many_sheet(MANY) {
     if (FAULT == 21) return __real_fetlockice_cut_many_safe(MANY_WITH);
     return __real_fetlockice_cut_many_sheet(MANY_WITH);
+}
+
+/* 22: the cell behind the map is cleared; 23: an end that equals the one before it is taken for it */
+uint32_t __wrap_fetlockice_break_map(size_t n, const uint32_t *ends, size_t ends_len, uint64_t *map, size_t map_len,
+                                     size_t *count, size_t *detail) {
+    uint32_t number = __real_fetlockice_break_map(n, ends, ends_len, map, map_len, count, detail);
+    if (FAULT == 31 && number == 0 && map_len > *count) map[*count] = 0;
+    if (FAULT == 32 && number == FETLOCKICE_WRONG_POSITION && *detail > 0 && ends[*detail] == ends[*detail - 1])
+        return __real_fetlockice_break_map(n, ends, *detail, map, map_len, count, detail);
+    return number;
+}
+
+/* 24: the position itself is left out; 25: the lowest bit above n is named by its place in the cell */
+uint32_t __wrap_fetlockice_breaks_up_to(size_t n, const uint64_t *map, size_t map_len, size_t position, size_t *count,
+                                        size_t *detail) {
+    uint32_t number = __real_fetlockice_breaks_up_to(n, map, map_len, position, count, detail);
+    if (FAULT == 33 && number == 0) *count -= map[position / 64] >> position % 64 & 1;
+    if (FAULT == 34 && number == FETLOCKICE_BIT_ABOVE_END) *detail %= 64;
+    return number;
+}
+
+/* 26: a break at the position itself is found; 27: a cell behind the map is read */
+uint32_t __wrap_fetlockice_next_break(size_t n, const uint64_t *map, size_t map_len, size_t position, size_t *found,
+                                      size_t *at, size_t *detail) {
+    if (FAULT == 36) (void)*(const volatile uint64_t *)(map + map_len);
+    uint32_t number = __real_fetlockice_next_break(n, map, map_len, position, found, at, detail);
+    if (FAULT == 35 && number == 0 && (map[position / 64] >> position % 64 & 1) != 0) *found = 1, *at = position;
+    return number;
 }

@@ -3,6 +3,7 @@
 #include "calls.h"
 #include "inputs.h"
 #include "many.h"
+#include "maps.h"
 #include "model.h"
 #include "parts.h"
 #include "rows.h"
@@ -241,13 +242,18 @@ int main(int argc, char **argv) {
     }
     while (calls < most) {
         alarm(300);
-        for (size_t k = 0; k < 100 && calls < most; k++) below(OPS + 1) == 0 ? many_step() : step();
+        for (size_t k = 0; k < 100 && calls < most; k++) {
+            size_t which = below(OPS + 3);
+            which < OPS ? step() : which == OPS ? many_step() : map_step();
+        }
     }
     printf("hostile: calls of each function:");
     for (size_t i = 0; i < OPS; i++) printf(" %lu", calls_of[i]);
     printf(", of many texts:");
     for (size_t i = 0; i < MODES; i++) printf(" %lu", many_calls[i]);
-    printf(", %lu of them refused", many_refused);
+    printf(", %lu of them refused, of maps:", many_refused);
+    for (size_t i = 0; i < MAP_OPS; i++) printf(" %lu", map_calls[i]);
+    printf(", %lu of them refused", map_refused);
     printf("\nhostile: answers 0 to 8:");
     for (size_t i = 0; i < 9; i++) printf(" %lu", answers[i]);
     printf("\nhostile: %lu calls, no error\n", calls);

@@ -42,11 +42,13 @@ static void reserve(struct row *row) {
     must(row->before != NULL, "no memory");
 }
 
-void *lend(struct row *row, const void *content, size_t size) {
+void *lend(struct row *row, const void *content, size_t size) { return lend_at(row, content, size, 4); }
+
+void *lend_at(struct row *row, const void *content, size_t size, size_t unit) {
     if (row->area == NULL) reserve(row);
     must(size + 2 * GUARD <= ROW_BYTES, "a row is too long to be lent");
     size_t room = ROW_BYTES - size, place = below(4);
-    size_t at = place == 0 ? 0 : place == 1 ? room : GUARD + 4 * below((room - 2 * GUARD) / 4 + 1) % 4096;
+    size_t at = place == 0 ? 0 : place == 1 ? room : GUARD + unit * below((room - 2 * GUARD) / unit + 1) % 4096;
     free(row->heap);
     row->heap = place == 3 ? malloc(size) : NULL;
     must(place != 3 || row->heap != NULL, "no memory");

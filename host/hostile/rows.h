@@ -31,6 +31,9 @@ struct row {
  * content, or noise where that is NULL. */
 void *lend(struct row *row, const void *content, size_t size);
 
+/* The same at a multiple of so many bytes, which the size is one of; 4 where nothing is said. */
+void *lend_at(struct row *row, const void *content, size_t size, size_t unit);
+
 /* The guards are untouched, and so are the row's bytes from the first one given on. */
 void check_kept(const struct row *row, size_t from, const char *what);
 

@@ -7,6 +7,7 @@
  *   *word_class  accepted: the class of a word that is held, 0 for another; refused: 0
  *   *edges       accepted: the edges recorded in the whole cut; refused: 0
  *   *right, *token  of a claim: 1 and 0 if it is right; 0 and the first token that is wrong; refused: 0 and 0
+ *   *found, *at     of a next break: 1 and where it is; 0 and 0 if there is none; refused: 0 and 0
  *   *detail      accepted: 0; refused: the refusal's detail, below
  *
  * Lent memory. A row that a call takes as const is only read. A refused call changes no output and no pool. An
@@ -18,9 +19,9 @@
  * THE CALLER'S DUTIES. Everything else about the contents is the library's to answer.
  *
  *   1. A row is a pointer and, straight behind it, its length in elements: bytes for const uint8_t *, cells for
- *      uint32_t *. That many are there, and may be read, and written where the row isn't const. Const rows and the
- *      pools of add and remove hold values; outputs, scratch and the pool of fresh may hold anything.
- *   2. No pointer is NULL, also where the length is 0. uint32_t rows and size_t numbers are aligned as C aligns them.
+ *      uint32_t * and uint64_t *. That many are there, and may be read, and written where the row isn't const. Const
+ *      rows and the pools of add and remove hold values; outputs, scratch and the pool of fresh may hold anything.
+ *   2. No pointer is NULL, also where the length is 0. Rows of cells and size_t numbers are aligned as C aligns them.
  *   3. A row or number that a call may write overlaps no other row or number of that call. Two const rows may overlap.
  *   4. While a call runs, no other thread writes what it was lent, or reads what it may write. So calls on different
  *      memory may run at once, and so may calls that only read one pool.
@@ -63,6 +64,9 @@ extern "C" {
 /* The cells of a text's answer in a cut of many texts. */
 #define FETLOCKICE_ANSWER_CELLS 4
 
+/* The cells of a map of breaks over the positions 0 to n, 64 to a cell. */
+#define FETLOCKICE_MAP_CELLS(n) ((size_t)(n) / 64 + 1)
+
 /* What a call answers. The lowest number that applies to the call is given; a cut of many texts gives 10 before 6. */
 enum fetlockice_answer {
     FETLOCKICE_ACCEPTED = 0,
@@ -74,7 +78,8 @@ enum fetlockice_answer {
     FETLOCKICE_OUTPUT_TOO_SHORT = 6,  /* the output has fewer cells than the answer; the cells needed */
     FETLOCKICE_WORD_TOO_LONG = 7,     /* the word is over 255 scalars after trimming; its trimmed length */
     FETLOCKICE_TOO_FEW_NODES = 8,     /* the pool has too few free nodes; the nodes missing */
-    FETLOCKICE_WRONG_POSITION = 10    /* a position is wrong; its index where it is one of a list */
+    FETLOCKICE_WRONG_POSITION = 10,   /* a position is wrong; it, or its index where it is one of a list */
+    FETLOCKICE_BIT_ABOVE_END = 11     /* a map has a bit set above n in its last used cell; the lowest such position */
 };
 
 /* Writes the scalars of UTF-8 bytes. *count: how many. Refusals 1, 2, 6. */
@@ -187,6 +192,25 @@ uint32_t fetlockice_cut_many_sheet(const uint32_t *texts, size_t texts_len, cons
                                    size_t text_count, const uint32_t *pool, size_t pool_len, uint32_t *answers,
                                    size_t answers_len, uint32_t *out, size_t out_len, uint32_t *scratch,
                                    size_t scratch_len, size_t *count, size_t *detail);
+
+/* Writes a map of breaks: a bit for each position 0 to n, set exactly at the ends. Bit p is bit p % 64, lowest first, of
+ * map[p / 64]; bits above n are zero. *count: FETLOCKICE_MAP_CELLS(n), the cells that are written; the rest is kept. The
+ * ends of any cut of a text of n characters are right; ends need not reach n. Refusals: 2 if n is over 65,535; 6 if map
+ * is too short; 10, an end is 0, over n or not above the end before it; its index. */
+uint32_t fetlockice_break_map(size_t n, const uint32_t *ends, size_t ends_len, uint64_t *map, size_t map_len,
+                              size_t *count, size_t *detail);
+
+/* *count: the number of breaks up to and including a position of a map over 0 to n. The map may be any cells: bit 0
+ * counts like others, and cells after the first FETLOCKICE_MAP_CELLS(n) are ignored. Refusals: 2 if n is over 65,535; 6
+ * if map is too short; 10, the position is over n; it. 11, a bit is set above n in the last used cell; the lowest such
+ * position. */
+uint32_t fetlockice_breaks_up_to(size_t n, const uint64_t *map, size_t map_len, size_t position, size_t *count,
+                                 size_t *detail);
+
+/* The first break above a position, up to n. *found: 1, and *at: where it is; or both 0, where there is none. Refusals
+ * as for fetlockice_breaks_up_to. */
+uint32_t fetlockice_next_break(size_t n, const uint64_t *map, size_t map_len, size_t position, size_t *found,
+                               size_t *at, size_t *detail);
 
 #ifdef __cplusplus
 }

@@ -19,6 +19,8 @@ static uint8_t bytes[4 * LONG];
 static uint32_t pool[CELLS], text[LONG + 1], word[1024], out[LONG + 1], claim[LONG + 1];
 static uint32_t scratch[FETLOCKICE_SCRATCH_CELLS(LONG)];
 static uint32_t text_ends[TEXTS], answers[FETLOCKICE_ANSWER_CELLS * TEXTS];
+static uint64_t map[FETLOCKICE_MAP_CELLS(LONG)];
+static size_t map_len, position;
 static size_t bytes_len, pool_len, text_len, word_len, out_len, claim_len, scratch_len, answers_len;
 static size_t count, word_class, edges, detail;
 
@@ -61,13 +63,17 @@ static void many_sheet(void) {
                               scratch, scratch_len, &count, &detail);
 }
 
-static void (*const calls[])(void) = {decode,   clusters, fresh,      add,       add_class, drop,
-                                      contains, class_of, lengths,    words,     plain,     safe,
-                                      sheet,    judge,    many_plain, many_safe, many_sheet};
+static void breaks(void) { fetlockice_break_map(text_len, claim, claim_len, map, map_len, &count, &detail); }
+static void up_to(void) { fetlockice_breaks_up_to(text_len, map, map_len, position, &count, &detail); }
+static void next(void) { fetlockice_next_break(text_len, map, map_len, position, &count, &edges, &detail); }
+
+static void (*const calls[])(void) = {decode,     clusters,  fresh,      add,    add_class, drop,  contains,
+                                      class_of,   lengths,   words,      plain,  safe,      sheet, judge,
+                                      many_plain, many_safe, many_sheet, breaks, up_to,     next};
 static const char *const names[] = {
-    "decode",    "clusters",       "fresh",          "add",           "add_class",     "remove",
-    "contains",  "contains_class", "prefix_lengths", "word_count",    "cut_plain",     "cut_safe",
-    "cut_sheet", "check_claim",    "cut_many_plain", "cut_many_safe", "cut_many_sheet"};
+    "decode",         "clusters",       "fresh",          "add",       "add_class",    "remove",    "contains",
+    "contains_class", "prefix_lengths", "word_count",     "cut_plain", "cut_safe",     "cut_sheet", "check_claim",
+    "cut_many_plain", "cut_many_safe",  "cut_many_sheet", "break_map", "breaks_up_to", "next_break"};
 enum {
     DECODE,
     CLUSTERS,
@@ -86,6 +92,9 @@ enum {
     CUT_MANY_PLAIN,
     CUT_MANY_SAFE,
     CUT_MANY_SHEET,
+    BREAK_MAP,
+    BREAKS_UP_TO,
+    NEXT_BREAK,
     ALL
 };
 
@@ -142,13 +151,25 @@ static void dictionary(void) {
     make(CONTAINS), make(CONTAINS_CLASS), make(WORD_COUNT);
 }
 
+/* The map of the claimed ends, and one with a bit too many, asked at some position. */
+static void maps(void) {
+    map_len = FETLOCKICE_MAP_CELLS(text_len < LONG ? text_len : LONG) - (draw(4) == 0);
+    make(BREAK_MAP);
+    position = draw(4) ? draw((uint32_t)text_len + 1) : draw(0xFFFFFFFF);
+    make(BREAKS_UP_TO), make(NEXT_BREAK);
+    map[draw(FETLOCKICE_MAP_CELLS(LONG))] |= (uint64_t)1 << draw(64);
+    make(BREAKS_UP_TO), make(NEXT_BREAK);
+}
+
 /* The ends of the plain cut that was made last, as they are and with one of them changed. */
 static void claims(void) {
     claim_len = count;
     memcpy(claim, out, count * sizeof *claim);
     make(CHECK_CLAIM);
+    maps();
     if (claim_len > 0) claim[draw((uint32_t)claim_len)] = draw(0xFFFFFFFF);
     make(CHECK_CLAIM);
+    make(BREAK_MAP);
 }
 
 /* The text in parts, one of them nearly all of it, and now and then with ends that are wrong. */

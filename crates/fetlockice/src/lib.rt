@@ -3,6 +3,7 @@
 mod claims;
 mod cuts;
 mod many;
+mod maps;
 mod texts;
 mod words;
 
@@ -13,6 +14,9 @@ pub use cuts::fetlockice_cut_sheet;
 pub use many::fetlockice_cut_many_plain;
 pub use many::fetlockice_cut_many_safe;
 pub use many::fetlockice_cut_many_sheet;
+pub use maps::fetlockice_break_map;
+pub use maps::fetlockice_breaks_up_to;
+pub use maps::fetlockice_next_break;
 pub use texts::fetlockice_clusters;
 pub use texts::fetlockice_decode;
 pub use words::fetlockice_add;

@@ -3,7 +3,7 @@ use Prim.Native.Nat.{ℕ}
 use Rattle.refusal.specs.declared.Refusal.{Refusal}
 use Rattle.refusal.specs.declared.Refusal.the-variants.{IllFormed, TooManyScalars, NotAScalar, NotADictionary}
 use Rattle.refusal.specs.declared.Refusal.the-variants.{ScratchTooShort, OutputTooShort, WordTooLong, TooFewNodes}
-use Rattle.refusal.specs.declared.Refusal.the-variants.{WrongPosition}
+use Rattle.refusal.specs.declared.Refusal.the-variants.{WrongPosition, BitAboveEnd}
 
 abbrev pub numberOf : Refusal → ℕ
 numberOf (IllFormed d) = 1
@@ -15,6 +15,7 @@ numberOf (OutputTooShort d) = 6
 numberOf (WordTooLong d) = 7
 numberOf (TooFewNodes d) = 8
 numberOf (WrongPosition d) = 10
+numberOf (BitAboveEnd d) = 11
 
 abbrev pub detailOf : Refusal → ℕ
 detailOf (IllFormed d) = d
@@ -26,3 +27,4 @@ detailOf (OutputTooShort d) = d
 detailOf (WordTooLong d) = d
 detailOf (TooFewNodes d) = d
 detailOf (WrongPosition d) = d
+detailOf (BitAboveEnd d) = d

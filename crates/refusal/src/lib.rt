@@ -25,6 +25,8 @@ pub enum Refusal {
     TooFewNodes(usize),
     // 10: a position is wrong. The position, or its index where it is one of a list.
     WrongPosition(usize),
+    // 11: a map of breaks has a bit set above n in its last used cell. The lowest such position.
+    BitAboveEnd(usize),
 }
 
 // What an operation answers whose accepted answer is one number.
@@ -47,6 +49,7 @@ pub fn number(r: Refusal) -> u8
         Refusal::WordTooLong(_) => 7,
         Refusal::TooFewNodes(_) => 8,
         Refusal::WrongPosition(_) => 10,
+        Refusal::BitAboveEnd(_) => 11,
     }
 }
 
@@ -64,5 +67,6 @@ pub fn detail(r: Refusal) -> usize
         Refusal::WordTooLong(d) => d,
         Refusal::TooFewNodes(d) => d,
         Refusal::WrongPosition(d) => d,
+        Refusal::BitAboveEnd(d) => d,
     }
 }

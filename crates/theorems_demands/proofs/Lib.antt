@@ -15,3 +15,4 @@ pub mod Claims
 pub mod ManyTurns
 pub mod ManyTexts
 pub mod ManyAlone
+pub mod Maps

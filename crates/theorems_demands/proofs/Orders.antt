@@ -19,6 +19,7 @@ use Rattle.newmm_rules.specs.declared.Mode.{Mode}
 use Rattle.newmm_answers.specs.Answers.{cutCauses}
 use Rattle.newmm_claim.specs.Answers.{claimCauses}
 use Rattle.newmm_many_answers.specs.Calls.{manyCauses}
+use Rattle.break_map_rules.specs.Answers.{mapCauses, readCauses as mapReadCauses}
 
 -- Decoding: 1, 2, 6.
 pub decode-order : (bytes : List ℕ) (room : ℕ) → numbers (decodeCauses bytes room) ≡ 1 ∷ 2 ∷ 6 ∷ []
@@ -44,6 +45,13 @@ claim-order text pool cells = refl
 -- Many texts, the whole call: 10, 6. Each text has the order of cutting.
 pub many-order : (size : ℕ) (ends : List ℕ) (room : ℕ) → numbers (manyCauses size ends room) ≡ 10 ∷ 6 ∷ []
 many-order size ends room = refl
+
+-- Maps of breaks (02, ticket 9). Writing one: 2, 6, 10. Asking one: 2, 6, 10, 11.
+pub map-order : (n : ℕ) (ends : List ℕ) (room : ℕ) → numbers (mapCauses n ends room) ≡ 2 ∷ 6 ∷ 10 ∷ []
+map-order n ends room = refl
+
+pub map-read-order : (n : ℕ) (map : List ℕ) (position : ℕ) → numbers (mapReadCauses n map position) ≡ 2 ∷ 6 ∷ 10 ∷ 11 ∷ []
+map-read-order n map position = refl
 
 -- Add: 2, 3, 4, 7, 8.
 pub add-order : (word pool : List ℕ) → numbers (addCauses word pool) ≡ 2 ∷ 3 ∷ 4 ∷ 7 ∷ 8 ∷ []
@@ -82,6 +90,12 @@ cut-rises = ((omega arith, (omega arith, (omega arith, (omega arith, tt)))), ((o
 
 pub claim-rises : Rising (2 ∷ 3 ∷ 4 ∷ 5 ∷ [])
 claim-rises = ((omega arith, (omega arith, (omega arith, tt))), ((omega arith, (omega arith, tt)), ((omega arith, tt), (tt, tt))))
+
+pub map-rises : Rising (2 ∷ 6 ∷ 10 ∷ [])
+map-rises = ((omega arith, (omega arith, tt)), ((omega arith, tt), (tt, tt)))
+
+pub map-read-rises : Rising (2 ∷ 6 ∷ 10 ∷ 11 ∷ [])
+map-read-rises = ((omega arith, (omega arith, (omega arith, tt))), ((omega arith, (omega arith, tt)), ((omega arith, tt), (tt, tt))))
 
 pub add-rises : Rising (2 ∷ 3 ∷ 4 ∷ 7 ∷ 8 ∷ [])
 add-rises = ((omega arith, (omega arith, (omega arith, (omega arith, tt)))), ((omega arith, (omega arith, (omega arith, tt))), ((omega arith, (omega arith, tt)), ((omega arith, tt), (tt, tt)))))

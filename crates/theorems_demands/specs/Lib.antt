@@ -9,3 +9,4 @@ pub mod FewestWords
 pub mod Sheet
 pub mod Claims
 pub mod ManyTexts
+pub mod Maps

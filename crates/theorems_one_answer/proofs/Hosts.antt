@@ -36,11 +36,18 @@ use Rattle.fetlockice.proofs.fetlockice_cut_many_safe.Kinds as many-safe-kinds
 use Rattle.fetlockice.proofs.fetlockice_cut_many_safe.Reads as many-safe-contract
 use Rattle.fetlockice.proofs.fetlockice_cut_many_sheet.Kinds as many-sheet-kinds
 use Rattle.fetlockice.proofs.fetlockice_cut_many_sheet.Reads as many-sheet-contract
+use Rattle.fetlockice.proofs.fetlockice_break_map.Kinds as break-map-kinds
+use Rattle.fetlockice.proofs.fetlockice_break_map.Reads as break-map-contract
+use Rattle.fetlockice.proofs.fetlockice_breaks_up_to.Kinds as breaks-up-to-kinds
+use Rattle.fetlockice.proofs.fetlockice_breaks_up_to.Reads as breaks-up-to-contract
+use Rattle.fetlockice.proofs.fetlockice_next_break.Kinds as next-break-kinds
+use Rattle.fetlockice.proofs.fetlockice_next_break.Reads as next-break-contract
 use Rattle.trie_pool.specs.Meaning.{noTerm}
 use Rattle.trie_char.proofs.One.{one-after}
 use Rattle.trie_char.specs.Answers.{freshAnswer, addAnswer, removeAnswer, added, removed}
 use Rattle.host_telling.specs.Told.{Told, told, toldCut}
 use Rattle.host_claims.specs.Calls.{ToldClaim, toldClaim}
+use Rattle.host_maps.specs.Calls.{ToldNext, toldNext}
 use Rattle.theorems_one_answer.specs.OneAnswer.{OneAnswer}
 use Rattle.theorems_one_answer.proofs.Shapes.{answer, both, answer-and-two-rows}
 
@@ -133,3 +140,18 @@ pub cut-many-sheet-one :
     (λ κs number s. let answers = s .1 .1 .1 .0 .now in let out = s .1 .1 .1 .1 .0 .now in let scratch = s .1 .1 .1 .1 .1 .0 .now in let count = s .1 .1 .1 .1 .1 .1 .0 .now in let detail = s .1 .1 .1 .1 .1 .1 .1 .0 .now in ((told number count detail, answers, out), scratch))
 cut-many-sheet-one κs a x y s t p q =
     both (answer-and-two-rows (p .0) (p .1 .0) (p .1 .1 .0) (q .0) (q .1 .0) (q .1 .1 .0)) (answer (p .1 .1 .1) (q .1 .1 .1))
+
+pub break-map-one :
+    OneAnswer {A = Told × List ℕ} 4 break-map-kinds.ps break-map-kinds.r break-map-contract.Post
+    (λ κs number s. let map = s .1 .1 .0 .now in let count = s .1 .1 .1 .0 .now in let detail = s .1 .1 .1 .1 .0 .now in (told number count detail, map))
+break-map-one κs a x y s t p q = both (answer (p .0) (q .0)) (answer (p .1) (q .1))
+
+pub breaks-up-to-one :
+    OneAnswer {A = Told} 3 breaks-up-to-kinds.ps breaks-up-to-kinds.r breaks-up-to-contract.Post
+    (λ κs number s. let count = s .1 .1 .1 .0 .now in let detail = s .1 .1 .1 .1 .0 .now in told number count detail)
+breaks-up-to-one κs a x y s t p q = answer p q
+
+pub next-break-one :
+    OneAnswer {A = ToldNext} 4 next-break-kinds.ps next-break-kinds.r next-break-contract.Post
+    (λ κs number s. let found = s .1 .1 .1 .0 .now in let place = s .1 .1 .1 .1 .0 .now in let detail = s .1 .1 .1 .1 .1 .0 .now in toldNext number found place detail)
+next-break-one κs a x y s t p q = answer p q

@@ -10,3 +10,4 @@ pub mod Hosts
 pub mod Views
 pub mod Sheets
 pub mod Many
+pub mod Maps

@@ -2,3 +2,4 @@ pub mod OneAnswer
 pub mod Runs
 pub mod ClaimRuns
 pub mod ManyRuns
+pub mod MapRuns

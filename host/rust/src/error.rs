@@ -20,8 +20,10 @@ pub enum Error {
     WordTooLong(usize),
     /// 8: the dictionary would pass 1,048,576 nodes. The nodes missing.
     TooFewNodes(usize),
-    /// 10: a position is wrong. Its index where it is one of a list. The positions of this crate never are.
+    /// 10: a position is wrong. It, or its index where it is one of a list.
     WrongPosition(usize),
+    /// 11: a map has a bit set above n in its last used cell. The lowest such position. The maps of this crate have none.
+    BitAboveEnd(usize),
 }
 
 impl Error {
@@ -37,6 +39,7 @@ impl Error {
             Error::WordTooLong(_) => 7,
             Error::TooFewNodes(_) => 8,
             Error::WrongPosition(_) => 10,
+            Error::BitAboveEnd(_) => 11,
         }
     }
 }
@@ -52,7 +55,8 @@ impl fmt::Display for Error {
             Error::OutputTooShort(n) => write!(f, "the output needs {n} cells"),
             Error::WordTooLong(n) => write!(f, "a word of {n} characters is longer than 255"),
             Error::TooFewNodes(n) => write!(f, "the dictionary has {n} nodes too few"),
-            Error::WrongPosition(n) => write!(f, "the position at {n} is wrong"),
+            Error::WrongPosition(n) => write!(f, "the position {n}, or the one with that index, is wrong"),
+            Error::BitAboveEnd(n) => write!(f, "the map has a bit above its end, at {n}"),
         }
     }
 }
@@ -72,6 +76,7 @@ pub(crate) fn accepted<T>(number: u32, detail: usize, answer: T) -> Result<T, Er
         7 => Error::WordTooLong(detail),
         8 => Error::TooFewNodes(detail),
         10 => Error::WrongPosition(detail),
+        11 => Error::BitAboveEnd(detail),
         other => unreachable!("the library has no refusal {other}"),
     })
 }

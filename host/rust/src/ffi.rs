@@ -174,6 +174,32 @@ extern "C" {
         token: &mut usize,
         detail: &mut usize,
     ) -> u32;
+    fn fetlockice_break_map(
+        n: usize,
+        ends: *const u32,
+        ends_len: usize,
+        map: *mut u64,
+        map_len: usize,
+        count: &mut usize,
+        detail: &mut usize,
+    ) -> u32;
+    fn fetlockice_breaks_up_to(
+        n: usize,
+        map: *const u64,
+        map_len: usize,
+        position: usize,
+        count: &mut usize,
+        detail: &mut usize,
+    ) -> u32;
+    fn fetlockice_next_break(
+        n: usize,
+        map: *const u64,
+        map_len: usize,
+        position: usize,
+        found: &mut usize,
+        at: &mut usize,
+        detail: &mut usize,
+    ) -> u32;
 }
 
 pub fn decode(bytes: &[u8], out: &mut [u32]) -> Result<usize, Error> {
@@ -355,4 +381,26 @@ pub fn cut_many(mode: Mode, rows: Texts) -> Result<usize, Error> {
         )
     };
     accepted(number, detail, count)
+}
+
+/// The cells that the map takes.
+pub fn break_map(n: usize, ends: &[u32], map: &mut [u64]) -> Result<usize, Error> {
+    let (mut count, mut detail) = (0, 0);
+    let number = unsafe {
+        fetlockice_break_map(n, ends.as_ptr(), ends.len(), map.as_mut_ptr(), map.len(), &mut count, &mut detail)
+    };
+    accepted(number, detail, count)
+}
+
+pub fn breaks_up_to(n: usize, map: &[u64], position: usize) -> Result<usize, Error> {
+    let (mut count, mut detail) = (0, 0);
+    let number = unsafe { fetlockice_breaks_up_to(n, map.as_ptr(), map.len(), position, &mut count, &mut detail) };
+    accepted(number, detail, count)
+}
+
+pub fn next_break(n: usize, map: &[u64], position: usize) -> Result<Option<usize>, Error> {
+    let (mut found, mut at, mut detail) = (0, 0, 0);
+    let number =
+        unsafe { fetlockice_next_break(n, map.as_ptr(), map.len(), position, &mut found, &mut at, &mut detail) };
+    accepted(number, detail, (found == 1).then_some(at))
 }

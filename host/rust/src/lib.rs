@@ -8,6 +8,12 @@
 //! let tokens: Vec<&str> = cut.tokens.iter().map(|token| token.text).collect();
 //! assert_eq!(tokens, ["กข", "คง"]);
 //!
+//! // where lines may be broken, one bit for each position
+//! let map = cut.break_map();
+//! assert!(map.is_break(2) && !map.is_break(3));
+//! assert_eq!((map.up_to(3)?, map.next(2)?, map.next(4)?), (1, Some(4), None));
+//! assert_eq!(map.iter().collect::<Vec<_>>(), [2, 4]);
+//!
 //! // many short texts: the dictionary is checked once for all of them
 //! let cuts = Cutter::new().cut_lines(&words, ["กขคง", "", "งกข"], Mode::Safe);
 //! let counts: Vec<usize> = cuts.iter().map(|cut| cut.as_ref().map_or(0, |cut| cut.tokens.len())).collect();
@@ -18,10 +24,12 @@ mod cutter;
 mod dictionary;
 mod error;
 mod ffi;
+mod map;
 
 pub use cutter::{Cut, Cutter, Mode, Token, Verdict};
 pub use dictionary::{Dictionary, MAX_NODES};
 pub use error::Error;
+pub use map::{BreakMap, Breaks};
 
 /// The most scalars of a text.
 pub const MAX_SCALARS: usize = 65_535;

@@ -181,6 +181,27 @@ fn mode(field: &str) -> Mode {
     }
 }
 
+/// The map of a cut says what its ends say, at each position and above the last one.
+fn check_map(cut: &Cut, ends: &[usize]) {
+    let (map, last) = (cut.break_map(), ends.last().copied().unwrap_or(0));
+    assert_eq!((map.end(), map.cells().len()), (last, last / 64 + 1));
+    assert_eq!(map.iter().collect::<Vec<_>>(), ends);
+    assert_eq!(map.iter().len(), ends.len());
+    let mut seen = 0;
+    for position in 0..=last {
+        let here = ends.get(seen) == Some(&position);
+        seen += usize::from(here);
+        assert_eq!(map.is_break(position), here, "{position}");
+        assert_eq!(map.up_to(position), Ok(seen), "{position}");
+        assert_eq!(map.next(position), Ok(ends.get(seen).copied()), "{position}");
+    }
+    for position in [last + 1, last + 64, usize::MAX] {
+        assert!(!map.is_break(position));
+        assert_eq!(map.up_to(position), Err(Error::WrongPosition(position)));
+        assert_eq!(map.next(position), Err(Error::WrongPosition(position)));
+    }
+}
+
 /// The ends and the edges of a text's cut, whose tokens are the text.
 fn told_cut(text: &str, cut: Result<Cut, Error>) -> String {
     told(cut, |cut| {
@@ -190,6 +211,7 @@ fn told_cut(text: &str, cut: Result<Cut, Error>) -> String {
             assert!(front.ends_with(token.text) && front.chars().count() == token.end);
         }
         let ends: Vec<usize> = cut.tokens.iter().map(|token| token.end).collect();
+        check_map(&cut, &ends);
         format!("{} {}", row(&ends, ","), cut.edges)
     })
 }
