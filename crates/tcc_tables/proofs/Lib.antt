@@ -1,10 +1,1 @@
-pub mod Classes
-pub mod Items
-pub mod Groups
-pub mod Reading
-pub mod Finding
-pub mod Telling
 pub mod Putting
-pub mod Never
-pub mod Shortened
-pub mod Winners

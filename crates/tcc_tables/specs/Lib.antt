@@ -1,4 +1,1 @@
-pub mod Tables
 pub mod Answers
-pub mod Winning
-pub mod inner

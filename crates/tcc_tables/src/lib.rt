@@ -1,18 +1,17 @@
 // A second matcher of Thai character clusters, slow and plain: it keeps the alternatives as tables
 // and tries them in order. It gives the ends that `tcc` gives, and tells which alternative won.
-mod engine;
 mod tables;
 
 use char_string::check_text;
-use engine::next_cluster;
 use refusal::Answer;
 use refusal::Refusal;
 use tables::CLASSES;
-use tables::Classes;
 use tables::ITEMS;
-use tables::Items;
 use tables::STARTS;
-use tables::Starts;
+use tcc_engine::Classes;
+use tcc_engine::Items;
+use tcc_engine::Starts;
+use tcc_engine::next_cluster;
 ghost use mathlib.Core.Path.{_≡_};
 ghost use mathlib.Core.List.{_++_};
 ghost use Prim.Native.Nat.{_≤_};
@@ -22,7 +21,7 @@ ghost use Rattle.refusal.specs.Limits.{maxText};
 ghost use Rattle.char_string.specs.Scalars.{checked};
 ghost use Rattle.tcc_rules.specs.Clusters.{clusterEnds};
 ghost use Rattle.tcc_tables.specs.Answers.{winnersOf, Wins};
-ghost use Rattle.tcc_tables.specs.inner.Trying.{Tables};
+ghost use Rattle.tcc_engine.specs.inner.Trying.{Tables};
 
 fn count_clusters(classes: &Classes, items: &Items, starts: &Starts, text: &[u32]) -> usize
     requires { ⌜ Tables (now classes) (now items) (now starts) ⌝ }

@@ -1,21 +1,9 @@
 // The alternatives of a cluster as three tables of numbers. docs/ASSESSMENT.md has them beside the
 // Rust's patterns.
 
-// The classes of characters, numbered from 00 to 1C, with three ranges each: lo and hi, four
-// hexadecimal digits each, lo above hi for no range.
-pub type Classes = [u32; 87];
-
-// The items: the class, then 1 if the item is optional, then 1 if it stands in the group, which is
-// optional as a whole; two, one and one hexadecimal digits.
-pub type Items = [u32; 195];
-
-// Where the items of alternatives 1 to 29 start, and where the last ones end.
-pub type Starts = [u32; 30];
-
-// How many alternatives there are, and how many stand before the two that look ahead.
-pub const ALTERNATIVES: usize = 29;
-
-pub const AHEAD: usize = 27;
+use tcc_engine::Classes;
+use tcc_engine::Items;
+use tcc_engine::Starts;
 
 pub const CLASSES: Classes = [
     // 00: c

@@ -3,13 +3,13 @@ use Prim.Native.Nat.{_-_}
 use native.Mathlib.Omega.{arith}
 use lib.ListN.{length}
 use Rattle.tcc.proofs.Passes.{Counted, matched, counted-none, counted-next, counted-all}
-use Rattle.tcc_tables.proofs.Telling.{told-end}
+use Rattle.tcc_engine.proofs.Telling.{told-end}
 use borrow.Author.Needs.{needs}
 use Rattle.tcc_tables.proofs.count_clusters.Statement.{statement}
 use Rattle.tcc_tables.proofs.count_clusters.Tie as tie
 use Rattle.tcc_tables.proofs.count_clusters.Reads as reads
 use Rattle.tcc_tables.proofs.count_clusters.Lts as lts
-use Rattle.tcc_tables.proofs.engine.next_cluster.Reads as next-cluster-reads
+use Rattle.tcc_engine.proofs.next_cluster.Reads as next-cluster-reads
 
 abbrev Inv-loop : tie.InvT-loop
 Inv-loop classes items starts text p₀ n₀ p n = Counted text p n

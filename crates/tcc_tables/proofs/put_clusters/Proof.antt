@@ -3,14 +3,14 @@ use Prim.Native.Nat.{_-_}
 use native.Mathlib.Omega.{arith}
 use lib.ListN.{length}
 use Rattle.tcc.proofs.Passes.{matched, written-all}
-use Rattle.tcc_tables.proofs.Telling.{told-end, told-number}
+use Rattle.tcc_engine.proofs.Telling.{told-end, told-number}
 use Rattle.tcc_tables.proofs.Putting.{Putting, putting-none, room-left, putting-next, putting-all}
 use borrow.Author.Needs.{needs}
 use Rattle.tcc_tables.proofs.put_clusters.Statement.{statement}
 use Rattle.tcc_tables.proofs.put_clusters.Tie as tie
 use Rattle.tcc_tables.proofs.put_clusters.Reads as reads
 use Rattle.tcc_tables.proofs.put_clusters.Lts as lts
-use Rattle.tcc_tables.proofs.engine.next_cluster.Reads as next-cluster-reads
+use Rattle.tcc_engine.proofs.next_cluster.Reads as next-cluster-reads
 
 abbrev Inv-loop : tie.InvT-loop
 Inv-loop classes items starts text ends₀ winners₀ p₀ n₀ ends winners p n = Putting text ends₀ winners₀ ends winners p n

@@ -4,7 +4,7 @@ use mathlib.Core.Path.{refl}
 use lib.ListN.{length}
 use Rattle.refusal.proofs.Causes.{no-output}
 use Rattle.tcc.proofs.Deciding.{refused}
-use Rattle.tcc_tables.specs.inner.Trying.{part, ungrouped, triedAt}
+use Rattle.tcc_engine.specs.inner.Trying.{part, ungrouped, triedAt}
 use Rattle.tcc_tables.proofs.Putting.{passed}
 use borrow.Author.Needs.{needs}
 use Rattle.tcc_tables.proofs.tcc_winners.Statement.{statement}
