@@ -1,6 +1,5 @@
-// The alternatives of a cluster as three tables of numbers. docs/ASSESSMENT.md has them beside the
-// Rust's patterns.
-
+// The alternatives of a cluster as three tables of numbers; tcc_engine says how each is read.
+// docs/ASSESSMENT.md has them beside the Rust's patterns.
 use tcc_engine::Classes;
 use tcc_engine::Items;
 use tcc_engine::Starts;
