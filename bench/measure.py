@@ -141,6 +141,7 @@ def measure_rows():
     wanted += [("ours", ("plain", JOINED, words)) for words in ("small", "all")]
     wanted += [("ours", (op, LONG, words)) for words in ("small", "all") for op in ("check", "read", "read-wide")]
     wanted += [("ours", ("check", texts, words)) for texts, words in FIRSTS]
+    wanted += [("ours", ("winners", texts, "small")) for texts in (LINES, LONG)]
     wanted += [("ours", ("sheet", texts, words)) for words in ("small", "all") for texts in (LINES, LONG)]
     wanted += [("ours", (op, LONG, words)) for words in ("small", "all") for op in ("cut", "claim", "map", "next", "next-bare")]
     if os.path.exists(DRIVERS["before"]):
@@ -194,6 +195,9 @@ def main():
         print("comparing", *what, flush=True)
         if not hold(what):
             raise SystemExit("the Rust gives no answers: %s %s %s" % what)
+    for texts in (LINES, LONG):
+        if not filecmp.cmp(answers("ours", "winners", texts, "small"), answers("rust", "clusters", texts, "small"), shallow=False):
+            raise SystemExit("the two matchers differ: %s" % texts)
     results = {"sizes": sizes(), "breaks": breaks(), "loads": loads, "rows": measure_rows(), "growth": growth()}
     with open(os.path.join(WORK, "results.json"), "w", encoding="utf-8") as file:
         json.dump(results, file, indent=1)

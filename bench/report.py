@@ -126,6 +126,19 @@ def modes(r):
     return table(head, rows)
 
 
+def matchers(r):
+    """The second matcher, which also tells the winners, beside the first."""
+    head = ["text", "clusters, ns", "instr.", "with winners, ns", "instr.", "times slower", "by instr."]
+    rows = []
+    for texts in (LINES, LONG):
+        row = [where(r, texts)]
+        for op in ("clusters", "winners"):
+            cells = r.cells("ours", op, texts, "small")
+            row += [cells[0], cells[2]]
+        rows.append(row + ["%.1f" % (of("ours", "winners", texts, "small") / of("ours", "clusters", texts, "small")) for of in (r.time, r.count)])
+    return table(head, rows)
+
+
 def others(r):
     sides, ops = {"libthai": "libthai", "icu": "ICU"}, {"plain": "word breaks", "batch": "word breaks", "decode": "decoding to UTF-16"}
 
@@ -339,6 +352,7 @@ def sections(r):
     head = ["target, at least: the speed of the library before", "asked", "by time", "by instructions", ""]
     yield "## Targets", [*least, "", *most] + (["", *table(head, before)] if before else [])
     yield "## Ours and the Rust", both(r)
+    yield "## The two matchers of clusters", matchers(r)
     yield "## The three modes", modes(r)
     yield "## libthai and ICU", others(r)
     yield "## The check of the pool", ["Refusal 4 costs one check in every call that is lent a pool.", "", *pools(r)]

@@ -11,6 +11,7 @@ RUST = os.path.join(ROOT, "target", "differential", "cargo", "release", "nlpo3-a
 # The proved programs that can answer a kind of line, the best first.
 PROGRAMS = {
     "clusters": ["test_tcc"],
+    "alts": ["test_winners"],
     "prefix": ["test_trie_char"],
     "dict": ["test_trie_char"],
     "cut plain": ["test_cut"],
@@ -33,13 +34,13 @@ def standing():
     return {kind: programs[0] for kind, programs in found.items() if programs}
 
 
-def run(program, lines):
+def run(path, lines):
     """The program's answer for each line."""
     given = "".join(line + "\n" for line in lines)
-    done = subprocess.run([program], input=given, capture_output=True, encoding="utf-8", check=True)
+    done = subprocess.run([path], input=given, capture_output=True, encoding="utf-8", check=True)
     answers = done.stdout.split("\n")[:-1]
     if len(answers) != len(lines):
-        raise SystemExit("%s gave %d answers to %d lines" % (program, len(answers), len(lines)))
+        raise SystemExit("%s gave %d answers to %d lines" % (path, len(answers), len(lines)))
     return answers
 
 
@@ -51,6 +52,19 @@ def rust(lines):
     return [next(joined if kind(line) == "cut sheet" else own) for line in lines]
 
 
+def program(kind):
+    return os.path.join(ROOT, "target", "bin", standing()[kind])
+
+
+def both_matchers(lines):
+    """The cluster ends that both of our matchers give; where they differ, those of the second, with its winners."""
+    first = run(program("clusters"), lines)
+    second = run(program("alts"), ["alts\t%s\t*\t*" % line.split("\t")[1] for line in lines])
+    return [a if b.startswith(a + " ") else "the second matcher: " + b for a, b in zip(first, second)]
+
+
 def ours(lines):
     """The answers of the program for the lines' kind, which is the same for all."""
-    return run(os.path.join(ROOT, "target", "bin", standing()[kind(lines[0])]), lines)
+    if kind(lines[0]) == "clusters" and "alts" in standing():
+        return both_matchers(lines)
+    return run(program(kind(lines[0])), lines)

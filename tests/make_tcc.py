@@ -70,16 +70,16 @@ def match(text, alternatives):
 
 
 def clusters(text, rules):
-    """The ends of the text's clusters, and which alternatives won."""
+    """The ends of the text's clusters, and the alternative that won each, 0 for none."""
     alternatives, ahead = rules
-    ends, won, p = [], set(), 0
+    ends, won, p = [], [], 0
     while p < len(text):
         n, size = match(text[p:p + 20], alternatives)
         if any(a.match(text[p:p + size]) for a in ahead):
             size -= 1
         p += size
         ends.append(p)
-        won.add(n)
+        won.append(n)
     return ends, won
 
 
@@ -140,14 +140,9 @@ def winning(written, rules, draw):
     return found
 
 
-def lines(written):
-    """All vectors, as (fields, expected)."""
+def texts_for(written, rules):
+    """01's texts, one for each alternative that can win, and drawn ones; every winner is among them."""
     draw = random.Random(1)
-    rules = tables(written)
-    made = []
-    for fields, expected in vectors.model("clusters"):
-        assert answer(parsed(fields[1]), fields[2], rules) == expected, fields
-        made.append((fields, expected))
     for text, ends in SHEET:
         assert clusters(text, rules)[0] == ends, text
     texts = [text for text, _ in SHEET] + winning(written, rules, draw)
@@ -156,6 +151,17 @@ def lines(written):
     texts += ["".join(draw.choice(CHARACTERS) for _ in range(3000)) for _ in range(4)]
     won = set().union(*(clusters(text, rules)[1] for text in texts))
     assert won == {0, *WINNERS}, sorted(won)
+    return texts
+
+
+def lines(written):
+    """All vectors, as (fields, expected)."""
+    rules = tables(written)
+    made = []
+    for fields, expected in vectors.model("clusters"):
+        assert answer(parsed(fields[1]), fields[2], rules) == expected, fields
+        made.append((fields, expected))
+    texts = texts_for(written, rules)
     for text in texts:
         row = [ord(x) for x in text]
         made.append((["clusters", vectors.cells(row), "*"], answer(row, "*", rules)))

@@ -11,6 +11,7 @@
 size_t search_places(const uint32_t *pool, size_t pool_len, const uint32_t *text, size_t text_len, uint32_t *out, size_t out_len);
 
 /* An earlier library, linked as the side "before", may lack these. */
+#pragma weak fetlockice_winners
 #pragma weak fetlockice_cut_sheet
 #pragma weak fetlockice_check_claim
 #pragma weak fetlockice_cut_many_plain
@@ -20,6 +21,7 @@ size_t search_places(const uint32_t *pool, size_t pool_len, const uint32_t *text
 enum op {
     DECODE,
     CLUSTERS,
+    WINNERS,
     PREFIX,
     PLACES,
     PLAIN,
@@ -36,12 +38,12 @@ enum op {
     READ,
     READ_WIDE
 };
-static const char *const names[] = {"decode",    "clusters", "prefix", "places", "plain",    "safe",
-                                    "sheet",     "batch",    "cut",    "claim",  "map",      "next",
-                                    "next-bare", "check",    "edit",   "read",   "read-wide"};
+static const char *const names[] = {"decode", "clusters",  "winners", "prefix", "places", "plain",
+                                    "safe",   "sheet",     "batch",   "cut",    "claim",  "map",
+                                    "next",   "next-bare", "check",   "edit",   "read",   "read-wide"};
 
 static enum op op;
-static uint32_t *pool, *out, *scratch, *cells, *text_ends, *told, **scalars, **ends;
+static uint32_t *pool, *out, *won, *scratch, *cells, *text_ends, *told, **scalars, **ends;
 static uint64_t **maps;
 static size_t pool_len, scratch_len, *lengths, *end_counts;
 static volatile uint32_t kept;
@@ -163,6 +165,9 @@ static size_t answer(size_t i) {
     switch (op) {
     case DECODE: return decode(i, out);
     case CLUSTERS: accepted(fetlockice_clusters(scalars[i], lengths[i], out, lengths[i], &count, &detail)); return count;
+    case WINNERS:
+        accepted(fetlockice_winners(scalars[i], lengths[i], out, lengths[i], won, lengths[i], &count, &detail));
+        return count;
     case PREFIX:
         accepted(fetlockice_prefix_lengths(pool, pool_len, scalars[i], lengths[i], out, 255, &count, &detail));
         return count;
@@ -260,6 +265,7 @@ static void prepare(const char *path) {
     scratch_len = FETLOCKICE_SCRATCH_CELLS(longest);
     cells = room(4 * all);
     out = room(4 * (all + 255));
+    won = room(4 * longest);
     scratch = room(4 * scratch_len);
     text_ends = room(4 * text_count);
     told = room(4 * FETLOCKICE_ANSWER_CELLS * text_count);

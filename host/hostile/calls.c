@@ -10,6 +10,7 @@ unsigned long calls_of[OPS];
 static const unsigned refusals[OPS] = {
     [DECODE] = 1 << 1 | 1 << 2 | 1 << 6,
     [CLUSTERS] = 1 << 2 | 1 << 3 | 1 << 6,
+    [WINNERS] = 1 << 2 | 1 << 3 | 1 << 6,
     [FRESH] = 1 << 8,
     [ADD] = 1 << 2 | 1 << 3 | 1 << 4 | 1 << 7 | 1 << 8,
     [ADD_CLASS] = 1 << 2 | 1 << 3 | 1 << 4 | 1 << 7 | 1 << 8,
@@ -24,7 +25,9 @@ static const unsigned refusals[OPS] = {
     [CHECK_CLAIM] = 1 << 2 | 1 << 3 | 1 << 4 | 1 << 5,
 };
 
-int writes_output(enum op op) { return op == DECODE || op == CLUSTERS || op == PREFIX_LENGTHS || cuts(op); }
+int writes_output(enum op op) {
+    return op == DECODE || op == CLUSTERS || op == WINNERS || op == PREFIX_LENGTHS || cuts(op);
+}
 int writes_pool(enum op op) { return op == FRESH || adds(op) || op == REMOVE; }
 int adds(enum op op) { return op == ADD || op == ADD_CLASS; }
 int cuts(enum op op) { return op == CUT_PLAIN || op == CUT_SAFE || op == CUT_SHEET; }
@@ -32,7 +35,7 @@ int uses_scratch(enum op op) { return cuts(op) || op == CHECK_CLAIM; }
 
 /* The rows of one call. */
 struct rows {
-    struct row text, pool, claim, out, scratch;
+    struct row text, pool, claim, out, more, scratch;
 };
 
 /* The numbers that a call sets, with guards between them. */
@@ -50,10 +53,11 @@ static uint32_t add_class(const struct call *c, uint32_t *pool, const void *word
 }
 
 static uint32_t exported(const struct call *c, const void *text, uint32_t *pool, const uint32_t *claim, uint32_t *out,
-                         uint32_t *scratch, struct numbers *to) {
+                         uint32_t *more, uint32_t *scratch, struct numbers *to) {
     switch (c->op) {
     case DECODE: return fetlockice_decode(text, c->n, out, c->room, &to->count, &to->detail);
     case CLUSTERS: return fetlockice_clusters(text, c->n, out, c->room, &to->count, &to->detail);
+    case WINNERS: return fetlockice_winners(text, c->n, out, c->room, more, c->more, &to->count, &to->detail);
     case FRESH: return fetlockice_fresh(pool, c->cells, &to->count, &to->detail);
     case ADD: return fetlockice_add(pool, c->cells, text, c->n, &to->count, &to->detail);
     case ADD_CLASS: return add_class(c, pool, text, to);
@@ -92,7 +96,9 @@ static void check_rows(const struct call *c, const struct rows *rows, const stru
     size_t pool_kept = writes_pool(c->op) && a->number == 0 ? 32 * nodes_of(c->cells) : 0;
     check_kept(&rows->pool, pool_kept, "a pool was written that must be kept");
     must(a->count <= c->room || !writes_output(c->op), "more was told of than the output has cells");
+    must(a->count <= c->more || c->op != WINNERS, "more was told of than the second output has cells");
     check_kept(&rows->out, writes_output(c->op) ? 4 * a->count : 0, "an output was written that must be kept");
+    check_kept(&rows->more, c->op == WINNERS ? 4 * a->count : 0, "a second output was written that must be kept");
     int untouched = !uses_scratch(c->op) || (a->number >= 2 && a->number <= 5);
     check_kept(&rows->scratch, untouched ? 0 : rows->scratch.size, "scratch was written that must be kept");
     must(untouched || all_zero(&rows->scratch), "scratch isn't all zero");
@@ -117,11 +123,13 @@ static struct answer call_once(const struct call *c, struct rows *rows) {
     uint32_t *pool = lend(&rows->pool, c->op == FRESH ? NULL : c->pool, 4 * c->cells);
     uint32_t *claim = lend(&rows->claim, c->claim, 4 * c->ends);
     uint32_t *out = lend(&rows->out, NULL, 4 * c->room);
+    uint32_t *more = lend(&rows->more, NULL, 4 * c->more);
     uint32_t *scratch = lend(&rows->scratch, NULL, 4 * c->scratch);
     struct numbers before = {draw(), draw(), draw(), draw(), draw(), draw(), draw(), draw(), draw()}, after = before;
     calls++;
     calls_of[c->op]++;
-    struct answer a = {.number = exported(c, text, pool, claim, out, scratch, &after), .out = out, .pool = pool};
+    struct answer a = {.out = out, .more = more, .pool = pool};
+    a.number = exported(c, text, pool, claim, out, more, scratch, &after);
     a.count = after.count;
     a.word_class = c->op == CONTAINS_CLASS ? after.word_class : 0;
     a.edges = uses_scratch(c->op) ? after.edges : 0;
@@ -140,6 +148,7 @@ struct answer call_twice(const struct call *c) {
              a.detail == b.detail,
          "two calls told different numbers");
     must(!writes_output(c->op) || memcmp(a.out, b.out, 4 * a.count) == 0, "two calls wrote different outputs");
+    must(c->op != WINNERS || memcmp(a.more, b.more, 4 * a.count) == 0, "two calls told of different winners");
     size_t same = c->op == FRESH ? (a.number == 0 ? 32 * nodes_of(c->cells) : 0) : 4 * c->cells;
     must(memcmp(a.pool, b.pool, same) == 0, "two calls left different pools");
     return a;

@@ -8,6 +8,7 @@
 enum op {
     DECODE,
     CLUSTERS,
+    WINNERS,
     FRESH,
     ADD,
     ADD_CLASS,
@@ -31,6 +32,7 @@ struct call {
     const uint32_t *pool;
     size_t cells;
     size_t room;    /* output cells */
+    size_t more;    /* cells of the second output */
     size_t scratch; /* scratch cells */
     const uint32_t *claim;
     size_t ends; /* its length */
@@ -39,7 +41,8 @@ struct call {
 struct answer {
     uint32_t number;
     size_t count, word_class, edges, detail; /* of a claim: right, 0, token, detail */
-    const uint32_t *out;                     /* the output and the pool, for as long as four more pairs of calls */
+    const uint32_t *out;                     /* the outputs and the pool, for as long as four more pairs of calls */
+    const uint32_t *more;
     const uint32_t *pool;
 };
 

@@ -17,6 +17,8 @@
 
 uint32_t __real_fetlockice_decode(const uint8_t *, size_t, uint32_t *, size_t, size_t *, size_t *);
 uint32_t __real_fetlockice_clusters(const uint32_t *, size_t, uint32_t *, size_t, size_t *, size_t *);
+uint32_t __real_fetlockice_winners(const uint32_t *, size_t, uint32_t *, size_t, uint32_t *, size_t, size_t *,
+                                   size_t *);
 uint32_t __real_fetlockice_fresh(uint32_t *, size_t, size_t *, size_t *);
 uint32_t __real_fetlockice_add(uint32_t *, size_t, const uint32_t *, size_t, size_t *, size_t *);
 uint32_t __real_fetlockice_add_class(uint32_t *, size_t, const uint32_t *, size_t, uint16_t, size_t *, size_t *);
@@ -51,6 +53,20 @@ uint32_t __wrap_fetlockice_clusters(const uint32_t *text, size_t n, uint32_t *ou
                                     size_t *detail) {
     uint32_t number = __real_fetlockice_clusters(text, n, out, room, count, detail);
     if (FAULT == 2 && number != 0 && room > 0) out[room - 1] ^= 1;
+    return number;
+}
+
+/* 37: a shortened cluster is told as won by none; 38: the ends are written where the second row is too short; 39: a call
+ * that is refused for the second row tells of one cell more */
+uint32_t __wrap_fetlockice_winners(const uint32_t *text, size_t n, uint32_t *ends, size_t ends_len, uint32_t *winners,
+                                   size_t winners_len, size_t *count, size_t *detail) {
+    uint32_t number = __real_fetlockice_winners(text, n, ends, ends_len, winners, winners_len, count, detail);
+    if (FAULT == 37 && number == 0)
+        for (size_t i = 0; i + 1 < *count; i++)
+            if ((winners[i] == 6 || winners[i] == 7) && winners[i + 1] == 0) winners[i] = 0;
+    int second = number == FETLOCKICE_OUTPUT_TOO_SHORT && ends_len >= *detail;
+    if (FAULT == 38 && second) ends[0] ^= 1;
+    if (FAULT == 39 && second) *detail += 1;
     return number;
 }
 

@@ -1,6 +1,7 @@
 /* hostile CALLS SEED: calls every exported function with hostile inputs until CALLS calls were made, and holds each
  * answer to the rules. The first thing that isn't as it must be ends the run. */
 #include "calls.h"
+#include "clusters.h"
 #include "inputs.h"
 #include "many.h"
 #include "maps.h"
@@ -24,7 +25,7 @@ static struct refusal due(const struct call *c, int is_dict) {
     if (c->op == DECODE) return utf8_refusal(c->text, c->n, scalars, TEXT_ROOM * 4, &count);
     if (c->op == FRESH) return (struct refusal){c->cells < 8 ? 8 : 0, c->cells < 8};
     struct refusal r = c->op == WORD_COUNT ? (struct refusal){0, 0} : text_refusal(c->text, c->n);
-    if (r.number != 0 || c->op == CLUSTERS) return r;
+    if (r.number != 0 || c->op == CLUSTERS || c->op == WINNERS) return r;
     if (!is_dict) return (struct refusal){4, 0};
     if (uses_scratch(c->op) && c->scratch < 9 * c->n + 128) return (struct refusal){5, 9 * c->n + 128};
     if (!adds(c->op) && c->op != REMOVE) return r;
@@ -35,12 +36,13 @@ static struct refusal due(const struct call *c, int is_dict) {
     return r;
 }
 
-/* Refusal 6 is given exactly where the output is a cell too short. */
+/* Refusal 6 is given exactly where the output, or the second one, is a cell too short. */
 static void check_fit(const struct call *c, const struct answer *a) {
     struct call fit = *c;
     size_t needed = a->number == 6 ? a->detail : a->count;
-    must(a->number != 6 || a->detail > c->room, "6 where the output has the room");
-    fit.room = needed;
+    size_t room = c->op == WINNERS && c->more < c->room ? c->more : c->room;
+    must(a->number != 6 || a->detail > room, "6 where the output has the room");
+    fit.room = fit.more = needed;
     struct answer b = call_twice(&fit);
     must(b.number == 0 && b.count == needed && (a->number == 6 || b.edges == a->edges),
          "an output with just the room is refused");
@@ -49,6 +51,10 @@ static void check_fit(const struct call *c, const struct answer *a) {
     fit.room = needed - 1;
     b = call_twice(&fit);
     must(b.number == 6 && b.detail == needed, "an output a cell too short is not refused");
+    if (c->op != WINNERS) return;
+    fit.room = needed, fit.more = needed - 1;
+    b = call_twice(&fit);
+    must(b.number == 6 && b.detail == needed, "a second output a cell too short is not refused");
 }
 
 static void check_ends(const struct call *c, const struct answer *a) {
@@ -68,6 +74,15 @@ static void check_classes(const struct call *c, const struct answer *a) {
     struct answer b = call_twice(&other);
     must(b.number == 0 && b.count == a->count && b.edges == a->edges && memcmp(a->out, b.out, 4 * a->count) == 0,
          "classes change a cut");
+}
+
+/* The clusters are the model's, and so are the winners where they are told. */
+static void check_clusters(const struct call *c, const struct answer *a) {
+    static uint32_t model[TEXT_ROOM], winners[TEXT_ROOM];
+    size_t count = clusters_of(c->text, c->n, model, winners);
+    check_ends(c, a);
+    must(a->count == count && memcmp(a->out, model, 4 * count) == 0, "other clusters than the patterns have");
+    must(c->op != WINNERS || memcmp(a->more, winners, 4 * count) == 0, "another alternative won");
 }
 
 static void check_cut(const struct call *c, const struct answer *a) {
@@ -156,7 +171,8 @@ static void check_accepted(const struct call *c, const struct answer *a) {
         utf8_refusal(c->text, c->n, scalars, TEXT_ROOM * 4, &count);
         must(a->count == count && memcmp(a->out, scalars, 4 * count) == 0, "other scalars than the bytes have");
         break;
-    case CLUSTERS: check_ends(c, a); break;
+    case CLUSTERS:
+    case WINNERS: check_clusters(c, a); break;
     case FRESH:
         must(a->count == 0 && is_dictionary(a->pool, c->cells) && a->pool[0] == 1, "a fresh pool isn't the root alone");
         break;
@@ -189,7 +205,7 @@ static void claim_for(struct call *c) {
 
 static struct call make_call(enum op op, int *is_dict) {
     struct call c = {.op = op, .text = text, .pool = pool};
-    if (op != DECODE && op != CLUSTERS) c.cells = make_pool(pool);
+    if (op != DECODE && op != CLUSTERS && op != WINNERS) c.cells = make_pool(pool);
     *is_dict = is_dictionary(pool, c.cells);
     if (op == DECODE)
         c.text = bytes, c.n = make_bytes(bytes);
@@ -199,6 +215,7 @@ static struct call make_call(enum op op, int *is_dict) {
         c.n = make_sheet(text, pool, *is_dict);
     if (op == ADD_CLASS) c.word_class = make_class();
     if (writes_output(op)) c.room = make_room(op == PREFIX_LENGTHS ? below(4) : c.n);
+    if (op == WINNERS) c.more = make_room(c.n);
     if (uses_scratch(op)) c.scratch = below(4) == 0 ? make_room(9 * c.n + 128) : 9 * c.n + 128 + below(4);
     if (op == CHECK_CLAIM) claim_for(&c);
     return c;

@@ -55,7 +55,8 @@ extern "C" {
 #define FETLOCKICE_MAX_NODES 1048576
 
 /* The bytes of stack that a call takes at most. Measured on x86-64, over hostile and deepest inputs: fetlockice_remove
- * 32,840, as it goes down a word of 255 scalars by recursion; fetlockice_decode 1,448, the others under 1,100. */
+ * 32,840, as it goes down a word of 255 scalars by recursion; fetlockice_winners 3,648, fetlockice_decode 1,448, the
+ * others under 1,100. */
 #define FETLOCKICE_MAX_STACK 98304
 
 /* The scratch cells that a call on a text of n scalars asks for. */
@@ -90,6 +91,13 @@ uint32_t fetlockice_decode(const uint8_t *bytes, size_t bytes_len, uint32_t *out
  * an empty text. An output as long as the text is always enough. Refusals 2, 3, 6. */
 uint32_t fetlockice_clusters(const uint32_t *text, size_t text_len, uint32_t *out, size_t out_len, size_t *count,
                              size_t *detail);
+
+/* The same by a second matcher, which goes through the patterns one after the other, and is slow. It writes the ends of
+ * the clusters to ends, the same as fetlockice_clusters, and to winners for each cluster the number of the pattern that
+ * won it, 1 to 24, 0 for a character that none takes; 17 and 25 to 29 never win. *count: how many clusters. Neither row is
+ * written if either is too short: 6 tells the number of clusters. Refusals 2, 3, 6. */
+uint32_t fetlockice_winners(const uint32_t *text, size_t text_len, uint32_t *ends, size_t ends_len, uint32_t *winners,
+                            size_t winners_len, size_t *count, size_t *detail);
 
 /* Makes the pool a dictionary without words, whatever it held. *count: 0. Refusal 8, one node missing, for a pool under
  * eight cells. */

@@ -16,7 +16,7 @@ static ucontext_t here, there;
 static void (*call)(void);
 
 static uint8_t bytes[4 * LONG];
-static uint32_t pool[CELLS], text[LONG + 1], word[1024], out[LONG + 1], claim[LONG + 1];
+static uint32_t pool[CELLS], text[LONG + 1], word[1024], out[LONG + 1], won[LONG + 1], claim[LONG + 1];
 static uint32_t scratch[FETLOCKICE_SCRATCH_CELLS(LONG)];
 static uint32_t text_ends[TEXTS], answers[FETLOCKICE_ANSWER_CELLS * TEXTS];
 static uint64_t map[FETLOCKICE_MAP_CELLS(LONG)];
@@ -26,6 +26,7 @@ static size_t count, word_class, edges, detail;
 
 static void decode(void) { fetlockice_decode(bytes, bytes_len, out, out_len, &count, &detail); }
 static void clusters(void) { fetlockice_clusters(text, text_len, out, out_len, &count, &detail); }
+static void winners(void) { fetlockice_winners(text, text_len, out, out_len, won, out_len, &count, &detail); }
 static void fresh(void) { fetlockice_fresh(pool, pool_len, &count, &detail); }
 static void add(void) { fetlockice_add(pool, pool_len, word, word_len, &count, &detail); }
 static void add_class(void) { fetlockice_add_class(pool, pool_len, word, word_len, 65535, &count, &detail); }
@@ -67,16 +68,17 @@ static void breaks(void) { fetlockice_break_map(text_len, claim, claim_len, map,
 static void up_to(void) { fetlockice_breaks_up_to(text_len, map, map_len, position, &count, &detail); }
 static void next(void) { fetlockice_next_break(text_len, map, map_len, position, &count, &edges, &detail); }
 
-static void (*const calls[])(void) = {decode,     clusters,  fresh,      add,    add_class, drop,  contains,
-                                      class_of,   lengths,   words,      plain,  safe,      sheet, judge,
-                                      many_plain, many_safe, many_sheet, breaks, up_to,     next};
+static void (*const calls[])(void) = {decode,   clusters,   winners,   fresh,      add,    add_class, drop,
+                                      contains, class_of,   lengths,   words,      plain,  safe,      sheet,
+                                      judge,    many_plain, many_safe, many_sheet, breaks, up_to,     next};
 static const char *const names[] = {
-    "decode",         "clusters",       "fresh",          "add",       "add_class",    "remove",    "contains",
-    "contains_class", "prefix_lengths", "word_count",     "cut_plain", "cut_safe",     "cut_sheet", "check_claim",
-    "cut_many_plain", "cut_many_safe",  "cut_many_sheet", "break_map", "breaks_up_to", "next_break"};
+    "decode",      "clusters",       "winners",        "fresh",          "add",       "add_class",    "remove",
+    "contains",    "contains_class", "prefix_lengths", "word_count",     "cut_plain", "cut_safe",     "cut_sheet",
+    "check_claim", "cut_many_plain", "cut_many_safe",  "cut_many_sheet", "break_map", "breaks_up_to", "next_break"};
 enum {
     DECODE,
     CLUSTERS,
+    WINNERS,
     FRESH,
     ADD,
     ADD_CLASS,
@@ -191,11 +193,19 @@ static void on_texts(size_t len) {
         out_len = room ? len : draw((uint32_t)len + 1);
         scratch_len = room < 2 ? FETLOCKICE_SCRATCH_CELLS(len < LONG ? len : LONG) : draw(9 * (uint32_t)len + 128);
         if (scratch_len > FETLOCKICE_SCRATCH_CELLS(LONG)) scratch_len = FETLOCKICE_SCRATCH_CELLS(LONG);
-        make(CLUSTERS), make(PREFIX_LENGTHS), make(CUT_SAFE), make(CUT_SHEET), make(CUT_PLAIN);
+        make(CLUSTERS), make(WINNERS), make(PREFIX_LENGTHS), make(CUT_SAFE), make(CUT_SHEET), make(CUT_PLAIN);
         claims();
         part(len);
         make(CUT_MANY_PLAIN), make(CUT_MANY_SAFE), make(CUT_MANY_SHEET);
     }
+}
+
+/* The cluster with the most characters, so that the second matcher goes as deep as an alternative has items. */
+static void on_clusters(void) {
+    static const uint32_t deepest[] = {0xE40, 0xE01, 0xE01, 0xE35, 0xE48, 0xE22, 0xE30, 0xE01, 0xE01, 0xE34, 0xE4C};
+    text_len = out_len = sizeof deepest / sizeof *deepest;
+    memcpy(text, deepest, sizeof deepest);
+    make(CLUSTERS), make(WINNERS);
 }
 
 /* Words of every length, added and removed: removal goes as deep as the word is long. */
@@ -232,6 +242,7 @@ int main(int argc, char **argv) {
         dictionary();
         on_words();
         on_texts(round == 0 ? LONG : round == 1 ? LONG + 1 : draw(2000));
+        on_clusters();
         on_bytes();
         hostile_pool();
     }

@@ -1,6 +1,7 @@
-// Bytes, scalars and clusters.
+// Bytes, scalars, clusters and who won them.
 ghost use Rattle.host_telling.specs.Told.{told};
 ghost use Rattle.host_texts.specs.Calls.{DecodeTold, ClustersTold};
+ghost use Rattle.host_winners.specs.Calls.{WinnersTold};
 
 // The scalars of UTF-8 bytes, at the front of out; accepted with their number. Refusals 1, 2, 6.
 #[no_mangle]
@@ -29,4 +30,20 @@ pub extern "C" fn fetlockice_clusters(
         (told r (now (count .exit)) (now (detail .exit))) (now (out .exit)) ⌝ }
 {
     host_texts::clusters(text, out, count, detail)
+}
+
+// The ends of a text's clusters, in characters, at the front of ends, and the numbers of the
+// alternatives that won them at the front of winners; accepted with their number. Refusals 2, 3, 6.
+#[no_mangle]
+pub extern "C" fn fetlockice_winners(
+    text: &[u32],
+    ends: &mut [u32],
+    winners: &mut [u32],
+    count: &mut usize,
+    detail: &mut usize,
+) -> u32
+    ensures { λ r. ⌜ WinnersTold (now (text .entry)) (now (ends .entry)) (now (winners .entry))
+        (told r (now (count .exit)) (now (detail .exit))) (now (ends .exit)) (now (winners .exit)) ⌝ }
+{
+    host_winners::winners(text, ends, winners, count, detail)
 }

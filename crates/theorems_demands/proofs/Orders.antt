@@ -2,7 +2,7 @@
 -- causes, in order. Which of them is given, and that none is exactly if the call is accepted:
 -- crates/refusal/proofs/Firsts.antt (`first-that-holds`, `accepted-exactly-if-none`). Assumes
 -- nothing.
-use Prim.Native.Nat.{ℕ}
+use Prim.Native.Nat.{ℕ, min}
 use native.Mathlib.Omega.{arith}
 use mathlib.Core.Path.{_≡_, refl}
 use mathlib.Core.List.{List, [], _∷_}
@@ -12,6 +12,7 @@ use Rattle.utf8.specs.Decoding.{decodeCauses}
 use Rattle.utf8.proofs.Decoded.{decoding}
 use Rattle.tcc.specs.Answers.{clusterCauses}
 use Rattle.tcc.proofs.Deciding.{order}
+use Rattle.tcc_tables.specs.Answers.{winnersCauses}
 use Rattle.trie_pool.specs.Meaning.{meaning}
 use Rattle.trie_check.specs.Refusals.{poolCauses, readCauses}
 use Rattle.trie_char.specs.Refusals.{prefixCauses, removeCauses, addCauses, freshCauses}
@@ -28,6 +29,10 @@ decode-order bytes room = decoding bytes room
 -- Clusters: 2, 3, 6.
 pub clusters-order : (text : List ℕ) (room : ℕ) → numbers (clusterCauses text room) ≡ 2 ∷ 3 ∷ 6 ∷ []
 clusters-order text room = order text room
+
+-- Clusters and their winners (02, ticket 5), as clusters: 2, 3, 6.
+pub winners-order : (text : List ℕ) (room more : ℕ) → numbers (winnersCauses text room more) ≡ 2 ∷ 3 ∷ 6 ∷ []
+winners-order text room more = order text (min room more)
 
 -- Prefix lengths: 2, 3, 4, 6.
 pub prefix-order : (text pool out : List ℕ) → numbers (prefixCauses text (meaning pool) out) ≡ 2 ∷ 3 ∷ 4 ∷ 6 ∷ []

@@ -6,6 +6,8 @@ use Rattle.fetlockice.proofs.fetlockice_decode.Kinds as decode-kinds
 use Rattle.fetlockice.proofs.fetlockice_decode.Reads as decode-contract
 use Rattle.fetlockice.proofs.fetlockice_clusters.Kinds as clusters-kinds
 use Rattle.fetlockice.proofs.fetlockice_clusters.Reads as clusters-contract
+use Rattle.fetlockice.proofs.fetlockice_winners.Kinds as winners-kinds
+use Rattle.fetlockice.proofs.fetlockice_winners.Reads as winners-contract
 use Rattle.fetlockice.proofs.fetlockice_fresh.Kinds as fresh-kinds
 use Rattle.fetlockice.proofs.fetlockice_fresh.Reads as fresh-contract
 use Rattle.fetlockice.proofs.fetlockice_add.Kinds as add-kinds
@@ -60,6 +62,11 @@ pub clusters-one :
     OneAnswer {A = Told × List ℕ} 4 clusters-kinds.ps clusters-kinds.r clusters-contract.Post
     (λ κs number s. let out = s .1 .0 .now in let count = s .1 .1 .0 .now in let detail = s .1 .1 .1 .0 .now in (told number count detail, out))
 clusters-one κs a x y s t p q = both (answer (p .0) (q .0)) (answer (p .1) (q .1))
+
+pub winners-one :
+    OneAnswer {A = Told × List ℕ × List ℕ} 5 winners-kinds.ps winners-kinds.r winners-contract.Post
+    (λ κs number s. let ends = s .1 .0 .now in let winners = s .1 .1 .0 .now in let count = s .1 .1 .1 .0 .now in let detail = s .1 .1 .1 .1 .0 .now in (told number count detail, ends, winners))
+winners-one κs a x y s t p q = answer-and-two-rows (p .0) (p .1 .0) (p .1 .1) (q .0) (q .1 .0) (q .1 .1)
 
 pub fresh-one :
     OneAnswer {A = Told × List ℕ} 3 fresh-kinds.ps fresh-kinds.r fresh-contract.Post

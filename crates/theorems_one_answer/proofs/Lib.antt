@@ -2,6 +2,7 @@ pub mod Shapes
 pub mod Decoding
 pub mod Texts
 pub mod Clusters
+pub mod Winners
 pub mod Dictionary
 pub mod Cut
 pub mod Demand3

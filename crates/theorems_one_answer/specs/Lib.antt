@@ -3,3 +3,4 @@ pub mod Runs
 pub mod ClaimRuns
 pub mod ManyRuns
 pub mod MapRuns
+pub mod WinnerRuns

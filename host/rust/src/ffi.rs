@@ -20,6 +20,16 @@ extern "C" {
         count: &mut usize,
         detail: &mut usize,
     ) -> u32;
+    fn fetlockice_winners(
+        text: *const u32,
+        text_len: usize,
+        ends: *mut u32,
+        ends_len: usize,
+        winners: *mut u32,
+        winners_len: usize,
+        count: &mut usize,
+        detail: &mut usize,
+    ) -> u32;
     fn fetlockice_fresh(pool: *mut u32, pool_len: usize, count: &mut usize, detail: &mut usize) -> u32;
     fn fetlockice_add(
         pool: *mut u32,
@@ -213,6 +223,23 @@ pub fn clusters(text: &[u32], out: &mut [u32]) -> Result<usize, Error> {
     let (mut count, mut detail) = (0, 0);
     let number =
         unsafe { fetlockice_clusters(text.as_ptr(), text.len(), out.as_mut_ptr(), out.len(), &mut count, &mut detail) };
+    accepted(number, detail, count)
+}
+
+pub fn winners(text: &[u32], ends: &mut [u32], winners: &mut [u32]) -> Result<usize, Error> {
+    let (mut count, mut detail) = (0, 0);
+    let number = unsafe {
+        fetlockice_winners(
+            text.as_ptr(),
+            text.len(),
+            ends.as_mut_ptr(),
+            ends.len(),
+            winners.as_mut_ptr(),
+            winners.len(),
+            &mut count,
+            &mut detail,
+        )
+    };
     accepted(number, detail, count)
 }
 

@@ -50,6 +50,24 @@ pub fn clusters(text: &str) -> Result<Vec<usize>, Error> {
     Ok(out[..count].iter().map(|&end| end as usize).collect())
 }
 
+/// A cluster, as the second matcher tells it.
+#[derive(Clone, Copy, Debug, PartialEq, Eq)]
+pub struct Cluster {
+    /// Its end in characters.
+    pub end: usize,
+    /// The number of the alternative that won it, 1 to 24; 0 for a character that none takes.
+    pub winner: u32,
+}
+
+/// The clusters of a text by the second matcher, which is slow, with the alternative that won each. Refused with 2.
+pub fn clusters_with_winners(text: &str) -> Result<Vec<Cluster>, Error> {
+    let text = scalars(text)?;
+    let (mut ends, mut winners) = (vec![0; text.len()], vec![0; text.len()]);
+    let count = ffi::winners(&text, &mut ends, &mut winners)?;
+    let told = ends[..count].iter().zip(&winners);
+    Ok(told.map(|(&end, &winner)| Cluster { end: end as usize, winner }).collect())
+}
+
 fn scalars(text: &str) -> Result<Vec<u32>, Error> {
     decode(text.as_bytes())
 }

@@ -1,6 +1,6 @@
 //! The answers of this crate against those that the test programs of crates/ are held to: an independent model's and the
 //! Rust's. Lines that a `str`, a growing pool or rows of one's own can't bring about are left out.
-use fetlockice::{clusters, decode, Cut, Cutter, Dictionary, Error, Mode, Verdict};
+use fetlockice::{clusters, clusters_with_winners, decode, Cut, Cutter, Dictionary, Error, Mode, Verdict};
 use std::{collections::BTreeMap, fs};
 
 /// The lines of a test program with that operation, in fields, each with its answer.
@@ -121,6 +121,19 @@ fn cluster_ends() {
     hold(lines("test_tcc", "clusters"), 1000, |line| {
         roomy(&line[2])?;
         Some(told(clusters(&text(&line[1])?), |ends| row(&ends, ",")))
+    });
+}
+
+#[test]
+fn winners() {
+    hold(lines("test_winners", "alts"), 1000, |line| {
+        roomy(&line[2])?;
+        roomy(&line[3])?;
+        Some(told(clusters_with_winners(&text(&line[1])?), |clusters| {
+            let ends: Vec<usize> = clusters.iter().map(|cluster| cluster.end).collect();
+            let winners: Vec<usize> = clusters.iter().map(|cluster| cluster.winner as usize).collect();
+            format!("{} {}", row(&ends, ","), row(&winners, ","))
+        }))
     });
 }
 

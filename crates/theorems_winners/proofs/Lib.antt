@@ -1,0 +1,3 @@
+pub mod Never
+pub mod Shortened
+pub mod Winners
