@@ -58,7 +58,7 @@ module _ (bytes line : List ℕ) (used : ℕ) {end n : ℕ} {line₁ : List ℕ}
   size-is = size ∙ ap length with-is
 
   module _ (h : end ≡ length bytes) where
-    goes-on : hasEnd bytes ≡ false
+    pub goes-on : hasEnd bytes ≡ false
     goes-on = le-ltb (lineEnd bytes) (length bytes) (omega (arith, e))
 
     pub open-fed : (k : ℕ) → fedWith false end n 0 ≡ fedWith (hasEnd bytes) (lineEnd bytes) (length (lineWith bytes line used)) k
@@ -74,10 +74,10 @@ module _ (bytes line : List ℕ) (used : ℕ) {end n : ℕ} {line₁ : List ℕ}
         (untouched (textOf (lineWith bytes line used)) pool scalars positions ends scratch)
 
   module _ (h : end ≡ length bytes → ⊥) {whole : List ℕ} (w : whole ≡ take n line₁) where
-    ends-here : hasEnd bytes ≡ true
+    pub ends-here : hasEnd bytes ≡ true
     ends-here = lt-ltb (lineEnd bytes) (length bytes) (subst (λ (k : ℕ). k < length bytes) e (end-below bytes e h))
 
-    whole-is : whole ≡ lineWith bytes line used
+    pub whole-is : whole ≡ lineWith bytes line used
     whole-is =
         w ∙ ap (take n) line-is ∙ ap (λ (k : ℕ). take k (laid (lineWith bytes line used) line)) size-is
         ∙ take-append-seam (lineWith bytes line used) (drop (length (lineWith bytes line used)) line)
