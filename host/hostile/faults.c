@@ -201,7 +201,7 @@ uint32_t __wrap_fetlockice_cut_many_sheet(MANY) {
     return __real_fetlockice_cut_many_sheet(MANY_WITH);
 }
 
-/* 22: the cell behind the map is cleared; 23: an end that equals the one before it is taken for it */
+/* 31: the cell behind the map is cleared; 32: an end that equals the one before it is taken for it */
 uint32_t __wrap_fetlockice_break_map(size_t n, const uint32_t *ends, size_t ends_len, uint64_t *map, size_t map_len,
                                      size_t *count, size_t *detail) {
     uint32_t number = __real_fetlockice_break_map(n, ends, ends_len, map, map_len, count, detail);
@@ -211,7 +211,7 @@ uint32_t __wrap_fetlockice_break_map(size_t n, const uint32_t *ends, size_t ends
     return number;
 }
 
-/* 24: the position itself is left out; 25: the lowest bit above n is named by its place in the cell */
+/* 33: the position itself is left out; 34: the lowest bit above n is named by its place in the cell */
 uint32_t __wrap_fetlockice_breaks_up_to(size_t n, const uint64_t *map, size_t map_len, size_t position, size_t *count,
                                         size_t *detail) {
     uint32_t number = __real_fetlockice_breaks_up_to(n, map, map_len, position, count, detail);
@@ -220,7 +220,7 @@ uint32_t __wrap_fetlockice_breaks_up_to(size_t n, const uint64_t *map, size_t ma
     return number;
 }
 
-/* 26: a break at the position itself is found; 27: a cell behind the map is read */
+/* 35: a break at the position itself is found; 36: a cell behind the map is read */
 uint32_t __wrap_fetlockice_next_break(size_t n, const uint64_t *map, size_t map_len, size_t position, size_t *found,
                                       size_t *at, size_t *detail) {
     if (FAULT == 36) (void)*(const volatile uint64_t *)(map + map_len);

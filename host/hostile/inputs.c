@@ -5,7 +5,7 @@
 struct living living[LIVING];
 struct living *drawn;
 
-static const uint32_t letters[] = {0xE01, 0xE02, 0xE04, 0xE07, 0xE23, 0xE2D};
+static const uint32_t letters[] = {0xE01, 0xE02, 0xE04, 0xE07, 0xE22, 0xE23, 0xE2D};
 static const uint32_t signs[] = {0xE30, 0xE31, 0xE32, 0xE34, 0xE35, 0xE38, 0xE40, 0xE44, 0xE47, 0xE48, 0xE49, 0xE4C};
 static const uint32_t others[] = {' ', '\t', '\r', '\n', '1',    '2',     0xE52,    'a', 'Z',
                                   '-', ',',  '.',  0xA0, 0xFEFF, 0x1F600, 0x10FFFF, 0};
@@ -38,9 +38,17 @@ static void spoil(uint32_t *text, size_t n) {
     for (size_t k = below(3) + 1; k > 0; k--) text[below(n)] = below(4) == 0 ? (uint32_t)draw() : ONE_OF(wrong);
 }
 
+/* A cluster that the look-ahead makes shorter: drawn characters hardly ever give one. */
+static void put_shortened(uint32_t *text, size_t n) {
+    static const uint32_t cluster[] = {0xE40, 0xE14, 0xE34, 0xE22, 0xE01, 0xE4C};
+    const size_t size = sizeof cluster / sizeof *cluster;
+    if (n >= size && below(8) == 0) memcpy(text + below(n - size + 1), cluster, sizeof cluster);
+}
+
 size_t make_text(uint32_t *text) {
     size_t n = length(), same = below(6) == 0;
     for (size_t i = 0; i < n; i++) text[i] = same && i > 0 ? text[0] : character();
+    put_shortened(text, n);
     spoil(text, n);
     return n;
 }
