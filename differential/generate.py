@@ -329,6 +329,33 @@ class EachBlank:
         return lines.dict_script(steps + [("-", y + word + x), ("#", ""), ("n", ""), ("-", inside + x), ("-", y), ("?", inside), ("n", "")])
 
 
+def mixed(rng, a, b):
+    """The edits of two files, mixed; each file keeps its order."""
+    places, whole = set(rng.sample(range(len(a) + len(b)), len(a))), len(a) + len(b)
+    a, b = iter(a), iter(b)
+    return [next(a if k in places else b) for k in range(whole)]
+
+
+class EditFiles:
+    """Two files of edits whose words differ after trimming: one behind the other, turned round and mixed, each from a fresh pool, all words looked at after each."""
+    op, weight, size = "dict", 3, None
+
+    def line(self, rng, i):
+        alphabet = rng.choice(ALPHABETS)
+        known = sorted({drawn(rng, alphabet, rng.randint(0, 4)).strip(lines.BLANKS) for _ in range(rng.randint(2, 8))})
+        rng.shuffle(known)
+        half = rng.randint(0, len(known))
+        a, b = self.file(rng, known[:half]), self.file(rng, known[half:])
+        looked = [("?", word) for word in known] + [("#", ""), ("n", ""), ("p", max(known, key=len) + "\u0e01")]
+        return lines.dict_script([step for order in (a + b, b + a, mixed(rng, a, b)) for step in [("f", "")] + order + looked])
+
+    def file(self, rng, known):
+        def blanks():
+            return drawn(rng, lines.BLANKS, rng.choice([0, 0, 1, 2]))
+
+        return [(rng.choice("++-"), blanks() + rng.choice(known) + blanks()) for _ in range(rng.randint(0, 8) if known else 0)]
+
+
 def spaced(rng, alphabet, n):
     """A text of n characters, of a few letters and a few of these."""
     return drawn(rng, "\u0e01\u0e02\u0e32a" + "".join(rng.choices(alphabet, k=3)), n)
@@ -502,7 +529,7 @@ class RealCuts:
         return lines.cut(rng.choice(["plain", "safe", "sheet"]), real.words_in(text[:3000]), text[:3000])
 
 
-MADE = [ShortClusters, LookaheadClusters, AllThaiClusters, RandomClusters, ShortScripts, RandomScripts, Prefixes, CrowdedScripts, CrowdedPrefixes, EachBlank, SpacedScripts, SpacedPrefixes, SpacedCuts, ShortCuts, ShortNonThai, ShortClassCuts, BoundaryCuts, RandomCuts, SafeCuts, SheetBoundaries, SheetCuts, DenseCuts, LongWords]
+MADE = [ShortClusters, LookaheadClusters, AllThaiClusters, RandomClusters, ShortScripts, RandomScripts, Prefixes, CrowdedScripts, CrowdedPrefixes, EachBlank, EditFiles, SpacedScripts, SpacedPrefixes, SpacedCuts, ShortCuts, ShortNonThai, ShortClassCuts, BoundaryCuts, RandomCuts, SafeCuts, SheetBoundaries, SheetCuts, DenseCuts, LongWords]
 REAL = [RealClusters, RealCuts]
 
 

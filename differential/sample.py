@@ -26,6 +26,7 @@ KEPT = {
     generate.CrowdedScripts: (16, 1200),
     generate.CrowdedPrefixes: (12, 1200),
     generate.EachBlank: (64, 400),
+    generate.EditFiles: (20, 300),
     generate.SpacedScripts: (60, 400),
     generate.SpacedPrefixes: (40, 300),
     generate.SpacedCuts: (24, 250),

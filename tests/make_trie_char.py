@@ -5,7 +5,7 @@
 The independent model's lines for dict and prefix are taken, and the Rust's stand behind all others.
 
 The other lines are made here, with trie_model's answers: a pool is its words with their classes, and its cells are
-written down level by level. classes.py has more scripts, and pools.py cells that break a rule. A step of a script that
+written down level by level. classes.py and edits.py have more scripts, and pools.py cells that break a rule. A step of a script that
 only these lines have: c, all cells of the pool. A line `pool` gives the cells themselves: ok with the number of words,
 or refusal 4.
 """
@@ -13,6 +13,7 @@ import itertools
 import random
 
 import classes
+import edits
 import vectors
 from pools import pools
 from trie_model import A, B, C, NEVER, TRIMMED, script, text
@@ -129,7 +130,7 @@ def crowded():
 def main():
     lines = [("prefix\tE01.E02:0,E01.E02.E04:0\tE01.E02.E04.E07.E08\t%s" % out, answer)
              for out, answer in (("*", "ok 2,3"), ("0", "! 6 2"), ("1", "! 6 2"), ("2", "ok 2,3"), ("3", "ok 2,3"))]
-    lines += itertools.chain(scripts(), spaced(), crowded(), classes.scripts(), pools())
+    lines += itertools.chain(scripts(), spaced(), crowded(), classes.scripts(), edits.scripts(), pools())
     made = [(line.split("\t"), answer) for line, answer in lines]
     vectors.write("test_trie_char", made + vectors.model("dict", "prefix") + vectors.classes("dict", "prefix") + vectors.rust("dict", "prefix"))
 

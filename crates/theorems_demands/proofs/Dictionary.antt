@@ -16,7 +16,7 @@ use Rattle.newmm_rules.specs.Positions.{Rises, none, next}
 use Rattle.newmm_rules.proofs.Positions.{lower}
 use Rattle.theorems_demands.specs.Dictionary.{Reports, changed, unchanged, ReportsChange, ReplacesClass, BlankReportsNone, PrefixesRise}
 
-none-some : {P : Type 0} {c : ℕ} → option.none ≡ some c → P
+pub none-some : {P : Type 0} {c : ℕ} → option.none ≡ some c → P
 none-some e = absurd (let z : _≡_ {A = ℕ} 0 1 = cc in omega arith)
 
 some-one : {a c : ℕ} → some a ≡ some c → a ≡ c
@@ -26,7 +26,7 @@ kept : (w : List ℕ) (before after : Terms) → ((v : List ℕ) → before v �
 kept w before after h = subst (Reports before after) (no-change w before after h) (unchanged h)
 
 -- the word itself
-with-self : (w : List ℕ) (c : ℕ) (held : Terms) → 1 ≤ length w → withTerm w c held w ≡ some c
+pub with-self : (w : List ℕ) (c : ℕ) (held : Terms) → 1 ≤ length w → withTerm w c held w ≡ some c
 with-self [] c held l = absurd (omega arith)
 with-self (x ∷ w) c held l = ap (λ (b : Bool). cond b (some c) (held (x ∷ w))) (same-self (x ∷ w))
 

@@ -48,7 +48,7 @@ pub answered : (r : Run) → (r .answer ≡ call.answerOf (callOf r)) × (outLef
 answered r = (r .promise .0, r .promise .1 .0)
 
 -- two calls that are told the same are two runs that are told the same
-runs : (a b : Run) → demand.SameAnswer (callOf a) (callOf b) → SameAnswers a b
+pub runs : (a b : Run) → demand.SameAnswer (callOf a) (callOf b) → SameAnswers a b
 runs a b d text mode n edges h scratch out =
     let p = answered a in
     let q = answered b in

@@ -12,3 +12,4 @@ pub mod Views
 pub mod Sheets
 pub mod Many
 pub mod Maps
+pub mod Order

@@ -4,3 +4,4 @@ pub mod ClaimRuns
 pub mod ManyRuns
 pub mod MapRuns
 pub mod WinnerRuns
+pub mod OrderRuns
