@@ -18,8 +18,8 @@ use Rattle.refusal.specs.declared.Answer.the-variants as answers
 use Rattle.refusal.specs.Answers.{output}
 use Rattle.utf8.specs.Utf8.{Utf8, empty, next}
 use Rattle.utf8.specs.Decoding.{runAll, scalarsOf, decoded}
-use Rattle.char_string.specs.Scalars.{firstNonScalar}
-use Rattle.char_string.specs.Blanks.{trimmedOf}
+use Rattle.char_string_scalars.specs.Scalars.{firstNonScalar}
+use Rattle.char_string_trim.specs.Trimming.{trimmedOf}
 use Rattle.theorems_unicode.proofs.Standard.{accepted, sequence-size}
 use Rattle.theorems_unicode.proofs.Encoding.{all-scalars}
 use Rattle.trie_pool.specs.Rules.{capacity}

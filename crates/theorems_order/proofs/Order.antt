@@ -11,7 +11,7 @@ use lib.ListN.{length, drop}
 use Rattle.refusal.specs.declared.Answer.{Answer}
 use Rattle.refusal.specs.declared.Answer.the-variants.{Accepted}
 use Rattle.refusal.proofs.Causes.{none-of}
-use Rattle.char_string.specs.Blanks.{trimmedOf}
+use Rattle.char_string_trim.specs.Trimming.{trimmedOf}
 use Rattle.trie_pool.specs.Cells.{used, markAt}
 use Rattle.trie_pool.specs.Words.{Place, none, at, on-place, child, walk, term, termAt, lacking}
 use Rattle.trie_pool.specs.Rules.{capacity, cellsOf, isDictionary}

@@ -10,7 +10,7 @@ use mathlib.Core.Logic.{_⊎_}
 use lib.ListN.{length}
 use Rattle.refusal.specs.declared.Answer.{Answer}
 use Rattle.refusal.specs.declared.Answer.the-variants.{Accepted}
-use Rattle.char_string.specs.Blanks.{trimmedOf}
+use Rattle.char_string_trim.specs.Trimming.{trimmedOf}
 use Rattle.trie_pool.specs.Rules.{isDictionary}
 use Rattle.trie_pool.specs.Listing.{Member}
 use Rattle.trie_pool.specs.Meaning.{Terms, terms}

@@ -15,8 +15,8 @@ use Rattle.refusal.specs.declared.Refusal.the-variants.{TooFewNodes}
 use Rattle.refusal.specs.declared.Answer.{Answer}
 use Rattle.refusal.specs.declared.Answer.the-variants.{Accepted, Refused}
 use Rattle.refusal.specs.Answers.{Cause, answer}
-use Rattle.char_string.specs.Scalars.{isScalar}
-use Rattle.char_string.specs.Blanks.{trimmedOf}
+use Rattle.char_string_scalars.specs.Scalars.{isScalar}
+use Rattle.char_string_trim.specs.Trimming.{trimmedOf}
 use Rattle.trie_pool.specs.Cells.{used}
 use Rattle.trie_pool.specs.Words.{at, term, termAt, lacking}
 use Rattle.trie_pool.specs.inner.Paths.{reach}

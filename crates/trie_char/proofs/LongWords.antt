@@ -14,8 +14,8 @@ use Rattle.refusal.specs.declared.Answer.{Answer}
 use Rattle.refusal.specs.declared.Answer.the-variants.{Accepted, Refused}
 use Rattle.refusal.specs.Answers.{Cause, answer}
 use Rattle.refusal.proofs.Causes.{none-of, handed, cause-yes, cause-kept}
-use Rattle.char_string.specs.Scalars.{firstNonScalar}
-use Rattle.char_string.specs.Blanks.{trimmedOf}
+use Rattle.char_string_scalars.specs.Scalars.{firstNonScalar}
+use Rattle.char_string_trim.specs.Trimming.{trimmedOf}
 use Rattle.trie_pool.specs.Meaning.{Words}
 use Rattle.trie_check.specs.Refusals.{isNone, readCauses}
 use Rattle.trie_char.specs.Refusals.{lengthCauses, removeCauses}

@@ -7,7 +7,7 @@ use lib.ListN.{length}
 use Rattle.refusal.specs.declared.Answer.{Answer}
 use Rattle.refusal.specs.declared.Answer.the-variants.{Accepted, Refused}
 use Rattle.refusal.specs.Answers.{answer}
-use Rattle.char_string.specs.Blanks.{trimmedOf}
+use Rattle.char_string_trim.specs.Trimming.{trimmedOf}
 use Rattle.trie_pool.specs.Rules.{cellsOf}
 use Rattle.trie_pool.specs.Meaning.{Words, Terms, meaning, terms, withTerm, withoutTerm, reportTerm}
 use Rattle.trie_pool.specs.Meaning.{prefixLengths, amount}

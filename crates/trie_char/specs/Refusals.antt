@@ -7,7 +7,7 @@ use lib.ListN.{length}
 use Rattle.refusal.specs.Answers.{Cause, outCause}
 use Rattle.refusal.specs.Limits.{maxWord}
 use Rattle.refusal.specs.declared.Refusal.the-variants.{WordTooLong, TooFewNodes}
-use Rattle.char_string.specs.Blanks.{trimmedOf}
+use Rattle.char_string_trim.specs.Trimming.{trimmedOf}
 use Rattle.trie_pool.specs.Cells.{nodeCells, used}
 use Rattle.trie_pool.specs.Words.{lacking}
 use Rattle.trie_pool.specs.Rules.{capacity, cellsOf}

@@ -1,6 +1,6 @@
 // Changing a dictionary.
 use crate::words::check_word;
-use char_string::trimmed;
+use char_string_trim::trimmed;
 use refusal::Answer;
 use refusal::Refusal;
 use trie_change::add_word;

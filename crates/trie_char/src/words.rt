@@ -1,5 +1,5 @@
 // The refusals that add and remove share.
-use char_string::trim;
+use char_string_trim::trim;
 use refusal::Answer;
 use refusal::Refusal;
 use trie_check::check;

@@ -8,7 +8,7 @@ use Rattle.trie_char.proofs.change.add_class.Statement.{statement}
 use Rattle.trie_char.proofs.change.add_class.Tie as tie
 use Rattle.trie_char.proofs.change.add_class.Reads as reads
 use Rattle.trie_char.proofs.change.add_class.Lts as lts
-use Rattle.char_string.proofs.trimmed.Reads as trimmed-reads
+use Rattle.char_string_trim.proofs.trimmed.Reads as trimmed-reads
 use Rattle.trie_change.proofs.add_word.Reads as add-word-reads
 use Rattle.trie_char.proofs.words.check_word.Reads as check-word-reads
 use Rattle.trie_check.proofs.capacity.Reads as capacity-reads

@@ -7,7 +7,7 @@ use Rattle.trie_char.proofs.change.remove.Statement.{statement}
 use Rattle.trie_char.proofs.change.remove.Tie as tie
 use Rattle.trie_char.proofs.change.remove.Reads as reads
 use Rattle.trie_char.proofs.change.remove.Lts as lts
-use Rattle.char_string.proofs.trimmed.Reads as trimmed-reads
+use Rattle.char_string_trim.proofs.trimmed.Reads as trimmed-reads
 use Rattle.trie_change.proofs.remove_word.Reads as remove-word-reads
 use Rattle.trie_char.proofs.words.check_word.Reads as check-word-reads
 use Rattle.trie_check.proofs.capacity.Reads as capacity-reads

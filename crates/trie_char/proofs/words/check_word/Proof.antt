@@ -1,7 +1,7 @@
 -- Assumes nothing.
 use native.Mathlib.Omega.{arith}
 use Rattle.trie_pool.specs.Meaning.{meaning}
-use Rattle.char_string.proofs.Trimming.{fits, length-is}
+use Rattle.char_string_trim.proofs.Trimming.{fits, length-is}
 use Rattle.trie_char.proofs.LongWords.{word-read, word-long, word-short}
 use borrow.Author.Needs.{needs}
 use Rattle.trie_char.proofs.words.check_word.Statement.{statement}
