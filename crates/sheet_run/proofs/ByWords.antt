@@ -27,9 +27,9 @@ use Rattle.trie_pool.specs.Meaning.{Words, meaning, terms, same, withTerm, with
 use Rattle.trie_pool.proofs.Rules.{clash}
 use Rattle.trie_pool.proofs.Sets.{same-true, same-self, same-false}
 use Rattle.trie_check.specs.Refusals.{isNone, held}
-use Rattle.trie_char.specs.Refusals.{nodesWith}
-use Rattle.trie_char.specs.Answers.{added, removed, addAnswer, removeAnswer, wordsOf, termsOf}
-use Rattle.trie_char.specs.Changes.{Became, After}
+use Rattle.trie_char_answers.specs.Refusals.{nodesWith}
+use Rattle.trie_char_answers.specs.Answers.{added, removed, addAnswer, removeAnswer, wordsOf, termsOf}
+use Rattle.trie_char_answers.specs.Changes.{Became, After}
 use Rattle.newmm_rules.specs.declared.Mode.{Mode}
 use Rattle.newmm_rules.specs.inner.Climbing.{Climbs}
 use Rattle.newmm_rules.proofs.Climbing.{few}
