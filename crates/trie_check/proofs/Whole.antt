@@ -8,9 +8,9 @@ use native.Mathlib.Decide.{decLt}
 use borrow.Author.Tests.{lt-ltb, le-ltb, eqb-true, eqb-false, not-true, not-false, leb-true, leb-false}
 use lib.Dec.{eqb, leb}
 use lib.ListN.{length, getD}
-use Rattle.char_string.specs.Scalars.{isScalar}
-use Rattle.char_string.specs.Blanks.{isTrimmed}
-use Rattle.char_string.proofs.WhiteSpace.{stays-between}
+use Rattle.char_string_scalars.specs.Scalars.{isScalar}
+use Rattle.char_string_white_space.specs.Trimmed.{isTrimmed}
+use Rattle.char_string_white_space.proofs.WhiteSpace.{stays-between}
 use Rattle.trie_pool.specs.Cells.{scalarAt, firstAt, countAt, markAt, used}
 use Rattle.trie_pool.specs.inner.Sound.{Shaped, Rising, Plain, Sound}
 use Rattle.trie_pool.specs.Levels.{hop, levelEnd}

@@ -3,7 +3,7 @@
 mod rules;
 
 use crate::rules::well_formed;
-use char_string::check_text;
+use char_string_scalars::check_text;
 use refusal::Answer;
 use refusal::Refusal;
 use trie_pool::MAX_NODES;

@@ -1,8 +1,8 @@
 // Whether a pool is well-formed: the rules, decided by a few walks over its cells, without
 // recursion.
 use cells::wide;
-use char_string::is_scalar;
-use char_string::is_trimmed;
+use char_string_scalars::is_scalar;
+use char_string_white_space::is_trimmed;
 use trie_pool::COUNT;
 use trie_pool::FIRST;
 use trie_pool::HALF;
@@ -17,7 +17,7 @@ ghost use mathlib.Core.Bool.{false};
 ghost use Prim.Native.Nat.{ℕ, _+_, _*_, _≤_, _<_};
 ghost use lib.ListN.{length, getD};
 ghost use Rattle.refusal.specs.Limits.{maxWord};
-ghost use Rattle.char_string.specs.Blanks.{isTrimmed};
+ghost use Rattle.char_string_white_space.specs.Trimmed.{isTrimmed};
 ghost use Rattle.trie_pool.specs.Cells.{nodeCells, scalarAt};
 ghost use Rattle.trie_pool.specs.inner.Sound.{Shaped, Rising};
 ghost use Rattle.trie_pool.specs.Levels.{levelEnd};

@@ -10,8 +10,8 @@ use Rattle.trie_check.proofs.rules.inner_ok.Tie as tie
 use Rattle.trie_check.proofs.rules.inner_ok.Reads as reads
 use Rattle.trie_check.proofs.rules.inner_ok.Lts as lts
 use Rattle.cells.proofs.wide.Reads as wide-reads
-use Rattle.char_string.proofs.is_trimmed.Reads as is-trimmed-reads
-use Rattle.char_string.proofs.is_scalar.Reads as is-scalar-reads
+use Rattle.char_string_white_space.proofs.is_trimmed.Reads as is-trimmed-reads
+use Rattle.char_string_scalars.proofs.is_scalar.Reads as is-scalar-reads
 use Rattle.trie_check.proofs.rules.is_thai.Reads as is-thai-reads
 
 returns : tie.Need-returns

@@ -3,7 +3,7 @@ use mathlib.Core.Path.{_≡_, sym, _∙_}
 use mathlib.Core.Bool.{false}
 use Prim.Native.Nat.{ℕ, _+_, _-_, _<_}
 use native.Mathlib.Omega.{arith}
-use Rattle.char_string.specs.Blanks.{isTrimmed}
+use Rattle.char_string_white_space.specs.Trimmed.{isTrimmed}
 use Rattle.trie_pool.specs.Cells.{scalarAt}
 use Rattle.trie_check.proofs.Decide.{denied, granted}
 use Rattle.trie_check.proofs.Whole.{starts-more, starts-not}
