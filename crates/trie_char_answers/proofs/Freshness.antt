@@ -15,7 +15,7 @@ use Rattle.trie_pool.specs.inner.Sound.{Shaped, Plain, Sound}
 use Rattle.trie_pool.specs.Meaning.{noTerm}
 use mathlib.Core.Option as option
 use Rattle.trie_pool.proofs.Held.{root-mark}
-use Rattle.trie_check.proofs.Whole.{stay, ends-start}
+use Rattle.trie_well_formed.proofs.Whole.{stay, ends-start}
 use Rattle.trie_char_answers.specs.Refusals.{freshCauses}
 use Rattle.trie_change.specs.inner.Resetting.{RootAlone}
 use Rattle.trie_char_answers.specs.Changes.{Became}
