@@ -159,3 +159,12 @@ module _ (s : List ℕ) (at : ℕ) (h : 0 < sizeOf (drop at s)) where
 
         pub is-4 : 0xF0 ≤ a → (d : ℕ) → d ≡ getD s (at + 3) 0 → _≡_ {A = Piece} (record { scalar = a % 8 * 262144 + b % 64 * 4096 + c % 64 * 64 + d % 64; size = 4 }) (pieceOf (drop at s))
         is-4 k d ed = (λ i. record { scalar = a-is i % 8 * 262144 + b-is i % 64 * 4096 + c-is i % 64 * 64 + behind 3 ed i % 64; size = 4 }) ∙ at-4 k .is
+
+-- behind the first byte of all of Thai
+pub is-e0 : (s : List ℕ) (at : ℕ) → 0 < sizeOf (drop at s) → getD s at 0 ≡ 0xE0 → (b : ℕ) → b ≡ getD s (at + 1) 0 → (c : ℕ) → c ≡ getD s (at + 2) 0 → _≡_ {A = Piece} (record { scalar = b % 64 * 64 + c % 64; size = 3 }) (pieceOf (drop at s))
+is-e0 s at h e b eb c ec =
+    let z : b % 64 * 64 + c % 64 ≡ 0xE0 % 16 * 4096 + b % 64 * 64 + c % 64 = omega arith in
+    (λ i. record { scalar = z i; size = 3 }) ∙ is-3 s at h 0xE0 (sym e) (omega arith) b eb (omega arith) c ec (omega arith)
+
+pub room-e0 : (s : List ℕ) (at : ℕ) → 0 < sizeOf (drop at s) → getD s at 0 ≡ 0xE0 → at + 2 < length s
+room-e0 s at h e = room-3 s at h 0xE0 (sym e) (omega arith) (omega arith)

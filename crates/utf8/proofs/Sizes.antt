@@ -3,7 +3,7 @@
 use Prim.Native.Nat.{ℕ, suc, _+_, _-_, _*_, _/_, _%_, _≤_, _<_}
 use native.Mathlib.Omega.{arith}
 use native.Mathlib.Nat.{add-zero}
-use mathlib.Core.Path.{_≡_, refl, sym, _∙_, ap}
+use mathlib.Core.Path.{_≡_, refl, sym, _∙_, ap, subst}
 use mathlib.Core.Bool.{Bool, true, false, cond, _&&_}
 use mathlib.Core.List.{List, [], _∷_}
 use lib.ListN.{length, getD, drop, length-drop}
@@ -13,7 +13,7 @@ use borrow.Author.Tests.{lt-ltb, le-ltb, leb-true, leb-false}
 use Rattle.lists.specs.Scans.{within}
 use Rattle.utf8.specs.Utf8.{Range, _‥_, table37}
 use Rattle.utf8.specs.Decoding.{leadOf, starts, sizeIn, sizeOf}
-use Rattle.utf8.proofs.FirstBytes.{Third, e0, e1, ed, ee, Fourth, f0, f1, f4, trail, Kind, shut, one, two, three, four, kind-of}
+use Rattle.utf8.proofs.FirstBytes.{Opens, Third, e0, e1, ed, ee, Fourth, f0, f1, f4, trail, Kind, shut, one, two, three, four, kind-of}
 
 -- the decoder's tests, one after the other: the size that the first byte asks, its second byte's
 -- range, n bytes in all
@@ -199,3 +199,22 @@ size-in (row ∷ rows) s = go (size-in rows s) (starts row s) refl
 pub size-inside : (s : List ℕ) → sizeOf s ≤ length s
 unfolding sizeOf
 size-inside s = size-in table37 s
+
+-- and is four bytes long at most
+open-most : {b : ℕ} {row : List Range} (s : List ℕ) → Opens b row → sizeOf (b ∷ s) ≤ suc (length row)
+open-most {b} {row} s o = subst (λ (k : ℕ). k ≤ suc (length row)) (sym (o .size s)) (go (starts row s))
+  where
+    go : (t : Bool) → cond t (suc (length row)) 0 ≤ suc (length row)
+    go true = omega arith
+    go false = omega arith
+
+kind-most : (b : ℕ) (s : List ℕ) → Kind b → sizeOf (b ∷ s) ≤ 4
+kind-most b s (shut x c) = omega (arith, c .size s)
+kind-most b s (one x o) = let z : sizeOf (b ∷ s) ≤ 1 = open-most s o in omega arith
+kind-most b s (two x y o) = let z : sizeOf (b ∷ s) ≤ 2 = open-most s o in omega arith
+kind-most b s (three r o) = let z : sizeOf (b ∷ s) ≤ 3 = open-most s o in omega arith
+kind-most b s (four r o) = open-most s o
+
+pub size-most : (s : List ℕ) → sizeOf s ≤ 4
+size-most [] = omega (arith, size-inside [])
+size-most (b ∷ s) = kind-most b s (kind-of b)

@@ -47,18 +47,25 @@ sizeIn (row ∷ rows) s = cond (starts row s) (length row) (sizeIn rows s)
 unfoldable pub sizeOf : List ℕ → ℕ
 sizeOf s = sizeIn table37 s
 
--- What reading sequence after sequence finds: the scalars, the bytes that they take, and whether
--- these are all.
+-- What reading sequence after sequence finds: the scalars, the length of each one's sequence, the
+-- bytes that they take, and whether these are all.
 pub record Run : Type 0 where
   pub scalars : List ℕ
+  pub sizes : List ℕ
   pub taken : ℕ
   pub whole : Bool
 
 abbrev pub stop : Bool → Run
-stop whole = record { scalars = []; taken = 0; whole = whole }
+stop whole = record { scalars = []; sizes = []; taken = 0; whole = whole }
 
 abbrev pub more : ℕ → List ℕ → Run → Run
-more k s r = record { scalars = scalarOf (take k s) ∷ r .scalars; taken = k + r .taken; whole = r .whole }
+more k s r =
+    record {
+      scalars = scalarOf (take k s) ∷ r .scalars;
+      sizes = k ∷ r .sizes;
+      taken = k + r .taken;
+      whole = r .whole;
+    }
 
 -- At most `fuel` sequences. A sequence is a byte or more, so the number of bytes is enough.
 unfoldable pub run : ℕ → List ℕ → Run
@@ -80,10 +87,23 @@ bytesCauses bytes =
     ∷ longCause (length (scalarsOf bytes))
     ∷ []
 
--- Decoding: 1, 2, 6. `room` is the number of output cells.
-abbrev pub decodeCauses : List ℕ → ℕ → List Cause
-decodeCauses bytes room = bytesCauses bytes ++ (outCause (length (scalarsOf bytes)) room ∷ [])
+-- How many cells are lent for the scalars, and how many for the positions.
+pub record Room : Type 0 where
+  pub scalars : ℕ
+  pub positions : ℕ
+
+abbrev pub roomIn : (scalars positions : List ℕ) → Room
+roomIn scalars positions = record { scalars = length scalars; positions = length positions }
+
+-- Decoding: 1, 2, 6. 02, ticket 3: 6 also if the position row is under n+1 cells; the scalar row is
+-- looked at first.
+abbrev pub decodeCauses : List ℕ → Room → List Cause
+decodeCauses bytes room =
+    bytesCauses bytes
+    ++ (outCause (length (scalarsOf bytes)) (room .scalars)
+    ∷ outCause (length (scalarsOf bytes) + 1) (room .positions)
+    ∷ [])
 
 -- accepted with the number of scalars
-abbrev pub decoded : List ℕ → ℕ → Answer
+abbrev pub decoded : List ℕ → Room → Answer
 decoded bytes room = answer (decodeCauses bytes room) (length (scalarsOf bytes))

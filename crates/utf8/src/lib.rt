@@ -1,6 +1,8 @@
-// UTF-8 to scalars: one pass that checks and counts, and one that writes.
+// UTF-8 to scalars and their byte positions: one pass that checks and counts, and one that writes;
+// ends in bytes.
 mod leads;
 
+use cells::narrow;
 use leads::lead;
 use leads::lead_table;
 use refusal::Answer;
@@ -9,11 +11,12 @@ use refusal::Refusal;
 ghost use mathlib.Core.Path.{_≡_};
 ghost use mathlib.Core.Bool.{true};
 ghost use Prim.Native.Nat.{_<_, _≤_};
-ghost use lib.ListN.{length, drop};
+ghost use lib.ListN.{length, getD, drop};
 ghost use mathlib.Core.List.{_++_};
 ghost use Rattle.lists.specs.Scans.{within};
 ghost use Rattle.refusal.specs.Answers.{output};
-ghost use Rattle.utf8.specs.Decoding.{Leads, sizeOf, runAll, scalarsOf, decoded};
+ghost use Rattle.utf8.specs.Decoding.{Leads, sizeOf, runAll, scalarsOf, roomIn, decoded};
+ghost use Rattle.utf8.specs.Positions.{positionsOf, endInBytes};
 ghost use Rattle.utf8.specs.inner.Passes.{pieceOf, countedOf};
 
 // The scalar at a place, and the number of bytes of its sequence.
@@ -81,14 +84,53 @@ fn size_at(table: &[u32; 256], s: &[u8], at: usize) -> usize
     4
 }
 
-fn count(s: &[u8]) -> Counted
+// The length of the sequence at a place where ASCII or a character of the Thai block stands. 0 says
+// nothing of what stands there.
+fn quick_size(s: &[u8], at: usize) -> usize
+    requires { ⌜ at < length (now s) ⌝ }
+    ensures { λ r. ⌜ (0 < r → r ≡ sizeOf (drop at (now (s .entry)))) ⌝ }
+{
+    let a = wide(s[at]);
+    if a < 0x80 {
+        return 1;
+    }
+    if a != 0xE0 {
+        return 0;
+    }
+    if s.len() - at < 3 {
+        return 0;
+    }
+    if wide(s[at + 1]) / 2 != 0x5C {
+        return 0;
+    }
+    if !is_trail(s[at + 2]) {
+        return 0;
+    }
+    3
+}
+
+// The same as `size_at`, which is asked only where the quick way doesn't tell.
+fn next_size(table: &[u32; 256], s: &[u8], at: usize) -> usize
+    requires { ⌜ Leads (now table) ⌝ }
+    requires { ⌜ at < length (now s) ⌝ }
+    ensures { λ r. ⌜ r ≡ sizeOf (drop at (now (s .entry))) ⌝ }
+{
+    let quick = quick_size(s, at);
+    if 0 < quick {
+        return quick;
+    }
+    size_at(table, s, at)
+}
+
+// The first pass, with the table.
+fn count_by_table(s: &[u8]) -> Counted
     ensures { λ r. ⌜ r ≡ countedOf (runAll (now (s .entry))) ⌝ }
 {
     let table = lead_table();
     let mut at = 0;
     let mut n = 0;
     while at < s.len() {
-        let size = size_at(&table, s, at);
+        let size = next_size(&table, s, at);
         if size == 0 {
             return Counted {
                 scalars: n,
@@ -103,6 +145,46 @@ fn count(s: &[u8]) -> Counted
         scalars: n,
         taken: at,
         whole: true,
+    }
+}
+
+// The first pass. The table is made only where a byte asks for it.
+fn count(s: &[u8]) -> Counted
+    ensures { λ r. ⌜ r ≡ countedOf (runAll (now (s .entry))) ⌝ }
+{
+    let mut at = 0;
+    let mut n = 0;
+    while at < s.len() {
+        let size = quick_size(s, at);
+        if size == 0 {
+            let rest = count_by_table(&s[at..]);
+            return Counted {
+                scalars: n + rest.scalars,
+                taken: at + rest.taken,
+                whole: rest.whole,
+            };
+        }
+        at += size;
+        n += 1;
+    }
+    Counted {
+        scalars: n,
+        taken: at,
+        whole: true,
+    }
+}
+
+// The scalar at a place where a well-formed sequence stands that starts as all of Thai do.
+fn piece_of_e0(s: &[u8], at: usize) -> Piece
+    requires { ⌜ 0 < sizeOf (drop at (now s)) ⌝ }
+    requires { ⌜ getD (now s) at 0 ≡ 0xE0 ⌝ }
+    ensures { λ r. ⌜ r ≡ pieceOf (drop at (now (s .entry))) ⌝ }
+{
+    let b = wide(s[at + 1]) % 64;
+    let c = wide(s[at + 2]) % 64;
+    Piece {
+        scalar: b * 64 + c,
+        size: 3,
     }
 }
 
@@ -136,28 +218,42 @@ fn piece_at(s: &[u8], at: usize) -> Piece
     }
 }
 
-// The second pass, over well-formed bytes, into room that is enough.
-fn fill(s: &[u8], out: &mut [u32])
+// The second pass, over well-formed bytes of a text that is not too long, into room that is enough.
+fn fill(s: &[u8], out: &mut [u32], positions: &mut [u32])
     requires { ⌜ runAll (now s) .whole ≡ true ⌝ }
+    requires { ⌜ length (scalarsOf (now s)) ≤ 65535 ⌝ }
     requires { ⌜ length (scalarsOf (now s)) ≤ length (now out) ⌝ }
+    requires { ⌜ length (scalarsOf (now s)) < length (now positions) ⌝ }
     ensures { λ _. ⌜ now (out .exit) ≡
         scalarsOf (now (s .entry)) ++ drop (length (scalarsOf (now (s .entry)))) (now (out .entry)) ⌝ }
+    ensures { λ _. ⌜ now (positions .exit) ≡
+        positionsOf (now (s .entry)) ++ drop (length (positionsOf (now (s .entry)))) (now (positions .entry)) ⌝ }
 {
     let mut at = 0;
     let mut n = 0;
     while at < s.len() {
+        positions[n] = narrow(at);
+        if s[at] == 0xE0 {
+            let q = piece_of_e0(s, at);
+            out[n] = q.scalar;
+            at += q.size;
+            n += 1;
+            continue;
+        }
         let p = piece_at(s, at);
         out[n] = p.scalar;
         at += p.size;
         n += 1;
     }
+    positions[n] = narrow(s.len());
 }
 
-// Writes the scalars of the bytes to the front of `out`, and answers how many there are. Refusals
-// 1, 2, 6.
-pub fn decode(bytes: &[u8], out: &mut [u32]) -> Answer
-    ensures { λ r. ⌜ r ≡ decoded (now (bytes .entry)) (length (now (out .entry))) ⌝ }
+// Writes the scalars of the bytes to the front of `out`, the byte position of each and of the end
+// to the front of `positions`, and answers how many scalars there are. Refusals 1, 2, 6.
+pub fn decode(bytes: &[u8], out: &mut [u32], positions: &mut [u32]) -> Answer
+    ensures { λ r. ⌜ r ≡ decoded (now (bytes .entry)) (roomIn (now (out .entry)) (now (positions .entry))) ⌝ }
     ensures { λ r. ⌜ now (out .exit) ≡ output r (scalarsOf (now (bytes .entry))) (now (out .entry)) ⌝ }
+    ensures { λ r. ⌜ now (positions .exit) ≡ output r (positionsOf (now (bytes .entry))) (now (positions .entry)) ⌝ }
 {
     let c = count(bytes);
     if !c.whole {
@@ -169,6 +265,30 @@ pub fn decode(bytes: &[u8], out: &mut [u32]) -> Answer
     if out.len() < c.scalars {
         return Answer::Refused(Refusal::OutputTooShort(c.scalars));
     }
-    fill(bytes, out);
+    let places = c.scalars + 1;
+    if positions.len() < places {
+        return Answer::Refused(Refusal::OutputTooShort(places));
+    }
+    fill(bytes, out, positions);
     Answer::Accepted(c.scalars)
+}
+
+// An end in bytes.
+pub enum InBytes {
+    At(usize),
+    Nothing,
+}
+
+// An end of a text of n characters in bytes: the cell of its position row at that end. An end over
+// n has none, nor has one that the row has no cell for.
+pub fn end_in_bytes(positions: &[u32], n: usize, end: usize) -> InBytes
+    ensures { λ r. ⌜ r ≡ endInBytes (now (positions .entry)) n end ⌝ }
+{
+    if n < end {
+        return InBytes::Nothing;
+    }
+    if positions.len() <= end {
+        return InBytes::Nothing;
+    }
+    InBytes::At(cells::wide(positions[end]))
 }
