@@ -16,7 +16,7 @@ use Rattle.refusal.specs.declared.Refusal.the-variants.{IllFormed, TooManyScala
 use Rattle.refusal.specs.declared.Answer.{Answer}
 use Rattle.refusal.specs.declared.Answer.the-variants as answers
 use Rattle.refusal.specs.Answers.{output}
-use Rattle.utf8.specs.Utf8.{Utf8, empty, next}
+use Rattle.utf8_sequences.specs.Utf8.{Utf8, empty, next}
 use Rattle.utf8.specs.Decoding.{runAll, scalarsOf, Room, decoded}
 use Rattle.char_string.specs.Scalars.{firstNonScalar}
 use Rattle.char_string.specs.Blanks.{trimmedOf}

@@ -6,10 +6,11 @@ use mathlib.Core.List.{List, [], _∷_, _++_}
 use lib.ListN.{length, getD, take, drop, length-append}
 use lib.Seq.{take-add, drop-drop, take-append-seam, drop-append-seam}
 use lib.Dec.{T}
-use Rattle.utf8.specs.Utf8.{isSequence, scalarOf, encode, Utf8, empty, next}
-use Rattle.utf8.specs.Decoding.{sizeOf, Run, runAll, scalarsOf, more}
+use Rattle.utf8_sequences.specs.Utf8.{isSequence, scalarOf, encode, Utf8, empty, next}
+use Rattle.utf8_sequences.specs.Sequences.{sizeOf}
+use Rattle.utf8.specs.Decoding.{Run, runAll, scalarsOf, more}
 use Rattle.utf8.specs.Positions.{placesFrom, positionsOf}
-use Rattle.utf8.proofs.Sizes.{size-most}
+use Rattle.utf8_sequences.proofs.Sizes.{size-most}
 use Rattle.utf8.proofs.Runs.{run-empty, run-more}
 use Rattle.theorems_unicode.specs.Positions.{Positions, PositionsRight, PartsEncoded}
 use Rattle.theorems_unicode.proofs.Standard.{sequence-size, accepted}

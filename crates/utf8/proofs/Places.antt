@@ -11,9 +11,10 @@ use borrow.Author.Tests.{lt-ltb, le-ltb, le-leb, lt-leb}
 use Rattle.lists.proofs.Rows.{store}
 use Rattle.utf8.specs.declared.InBytes.{InBytes}
 use Rattle.utf8.specs.declared.InBytes.the-variants.{At, Nothing}
-use Rattle.utf8.specs.Decoding.{sizeOf, Run, runAll}
+use Rattle.utf8_sequences.specs.Sequences.{sizeOf}
+use Rattle.utf8.specs.Decoding.{Run, runAll}
 use Rattle.utf8.specs.Positions.{placesFrom, positionsOf, endInBytes}
-use Rattle.utf8.proofs.Sizes.{size-most}
+use Rattle.utf8_sequences.proofs.Sizes.{size-most}
 use Rattle.utf8.proofs.Runs.{run-empty, onward}
 
 -- the places behind the first

@@ -11,12 +11,14 @@ use lib.Dec.{eqb}
 use borrow.Author.Tests.{eqb-true, eqb-false, eq-eqb, ne-eqb}
 use Rattle.lists.proofs.Parts.{tail-drop}
 use Rattle.lists.proofs.Rows.{store}
-use Rattle.utf8.specs.declared.Piece.{Piece}
+use Rattle.utf8_sequences.specs.declared.Piece.{Piece}
 use Rattle.utf8.specs.declared.Counted.{Counted}
-use Rattle.utf8.specs.Utf8.{scalarOf}
-use Rattle.utf8.specs.Decoding.{sizeOf, Run, run, runAll, scalarsOf, more, stop}
-use Rattle.utf8.specs.inner.Passes.{pieceOf, countedOf}
-use Rattle.utf8.proofs.Sizes.{size-inside}
+use Rattle.utf8_sequences.specs.Utf8.{scalarOf}
+use Rattle.utf8_sequences.specs.Sequences.{sizeOf}
+use Rattle.utf8.specs.Decoding.{Run, run, runAll, scalarsOf, more, stop}
+use Rattle.utf8_sequences.specs.inner.Pieces.{pieceOf}
+use Rattle.utf8.specs.inner.Passes.{countedOf}
+use Rattle.utf8_sequences.proofs.Sizes.{size-inside}
 
 run-empty-at : (f : ℕ) (s : List ℕ) → length s ≡ 0 → run f s ≡ stop true
 unfolding run

@@ -10,12 +10,12 @@ use lib.ListN.{length, getD, take, drop, length-drop}
 use lib.Seq.{getD-drop}
 use lib.Dec.{ltb}
 use borrow.Author.Tests.{ltb-true, ltb-false}
-use Rattle.utf8.specs.declared.Piece.{Piece}
-use Rattle.utf8.specs.Utf8.{Range, scalarOf}
-use Rattle.utf8.specs.Decoding.{starts, sizeOf}
-use Rattle.utf8.specs.inner.Passes.{pieceOf}
-use Rattle.utf8.proofs.FirstBytes.{Opens, Kind, shut, one, two, three, four, kind-of}
-use Rattle.utf8.proofs.Sizes.{third-range, fourth-range, size-inside}
+use Rattle.utf8_sequences.specs.declared.Piece.{Piece}
+use Rattle.utf8_sequences.specs.Utf8.{Range, scalarOf}
+use Rattle.utf8_sequences.specs.Sequences.{starts, sizeOf}
+use Rattle.utf8_sequences.specs.inner.Pieces.{pieceOf}
+use Rattle.utf8_sequences.proofs.FirstBytes.{Opens, Kind, shut, one, two, three, four, kind-of}
+use Rattle.utf8_sequences.proofs.Sizes.{third-range, fourth-range, size-inside}
 
 some : (t : Bool) (k : ℕ) → 0 < cond t k 0 → cond t k 0 ≡ k
 some true k h = refl

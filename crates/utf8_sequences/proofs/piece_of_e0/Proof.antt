@@ -1,8 +1,8 @@
 -- Assumes nothing.
-use Rattle.utf8.proofs.Pieces.{is-e0, room-e0}
+use Rattle.utf8_sequences.proofs.Pieces.{is-e0, room-e0}
 use borrow.Author.Needs.{needs}
-use Rattle.utf8.proofs.piece_of_e0.Statement.{statement}
-use Rattle.utf8.proofs.piece_of_e0.Tie as tie
+use Rattle.utf8_sequences.proofs.piece_of_e0.Statement.{statement}
+use Rattle.utf8_sequences.proofs.piece_of_e0.Tie as tie
 
 add-wide : tie.Need-add-wide
 add-wide c = let h = room-e0 (c .before .args .s .now) (c .before .args .at) (c .before .pre .0) (c .before .pre .1) in search needs

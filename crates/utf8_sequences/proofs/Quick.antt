@@ -9,9 +9,9 @@ use lib.ListN.{length, getD, drop, length-drop}
 use lib.Seq.{getD-drop}
 use Rattle.lists.specs.Scans.{within}
 use Rattle.lists.proofs.Ranges.{within-yes}
-use Rattle.utf8.specs.Decoding.{sizeOf}
-use Rattle.utf8.proofs.FirstBytes.{low, high, e0, e1, ed, ee, Kind, shut, one, two, three, four, kind-of}
-use Rattle.utf8.proofs.Sizes.{fourth-range, third-range}
+use Rattle.utf8_sequences.specs.Sequences.{sizeOf}
+use Rattle.utf8_sequences.proofs.FirstBytes.{low, high, e0, e1, ed, ee, Kind, shut, one, two, three, four, kind-of}
+use Rattle.utf8_sequences.proofs.Sizes.{fourth-range, third-range}
 
 -- a byte below 0x80 is a sequence
 ascii-kind : (b : ℕ) (s : List ℕ) → Kind b → b < 0x80 → sizeOf (b ∷ s) ≡ 1

@@ -1,7 +1,7 @@
 -- Assumes nothing.
 use borrow.Author.Needs.{needs}
-use Rattle.utf8.proofs.next_size.Statement.{statement}
-use Rattle.utf8.proofs.next_size.Tie as tie
+use Rattle.utf8_sequences.proofs.next_size.Statement.{statement}
+use Rattle.utf8_sequences.proofs.next_size.Tie as tie
 
 quick-size-requires : tie.Need-quick-size-requires
 quick-size-requires c κs = search needs

@@ -8,8 +8,8 @@ use lib.ListN.{length}
 use lib.Dec.{ltb}
 use borrow.Author.Tests.{ltb-true, ltb-false}
 use Rattle.lists.proofs.Ranges.{within-yes, within-no}
-use Rattle.utf8.specs.Utf8.{Range, _‥_, table37, fits, fitsAny, isSequence}
-use Rattle.utf8.specs.Decoding.{packed, leadIn, leadOf, starts, sizeIn, sizeOf}
+use Rattle.utf8_sequences.specs.Utf8.{Range, _‥_, table37, fits, fitsAny, isSequence}
+use Rattle.utf8_sequences.specs.Sequences.{packed, leadIn, leadOf, starts, sizeIn, sizeOf}
 
 -- what the table says of the byte is what these rows of it say
 record Seen (rows : List (List Range)) (b : ℕ) : Type 0 where

@@ -5,9 +5,9 @@ use Prim.Native.Nat.{ℕ}
 use lib.Dec.{eqb, eqb→eq}
 use lib.ListN.{getD}
 use Rattle.lists.proofs.Table.{at}
-use Rattle.utf8.specs.Decoding.{leadOf}
-use Rattle.utf8.proofs.leads.lead_table.Statement.{statement}
-use Rattle.utf8.proofs.leads.lead_table.Tie as tie
+use Rattle.utf8_sequences.specs.Sequences.{leadOf}
+use Rattle.utf8_sequences.proofs.leads.lead_table.Statement.{statement}
+use Rattle.utf8_sequences.proofs.leads.lead_table.Tie as tie
 
 entries : List ℕ
 entries =

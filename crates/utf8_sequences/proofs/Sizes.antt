@@ -11,9 +11,9 @@ use lib.Seq.{getD-drop}
 use lib.Dec.{leb, ltb, eqb}
 use borrow.Author.Tests.{lt-ltb, le-ltb, leb-true, leb-false}
 use Rattle.lists.specs.Scans.{within}
-use Rattle.utf8.specs.Utf8.{Range, _‥_, table37}
-use Rattle.utf8.specs.Decoding.{leadOf, starts, sizeIn, sizeOf}
-use Rattle.utf8.proofs.FirstBytes.{Opens, Third, e0, e1, ed, ee, Fourth, f0, f1, f4, trail, Kind, shut, one, two, three, four, kind-of}
+use Rattle.utf8_sequences.specs.Utf8.{Range, _‥_, table37}
+use Rattle.utf8_sequences.specs.Sequences.{leadOf, starts, sizeIn, sizeOf}
+use Rattle.utf8_sequences.proofs.FirstBytes.{Opens, Third, e0, e1, ed, ee, Fourth, f0, f1, f4, trail, Kind, shut, one, two, three, four, kind-of}
 
 -- the decoder's tests, one after the other: the size that the first byte asks, its second byte's
 -- range, n bytes in all

@@ -1,7 +1,7 @@
 -- Assumes nothing.
 use borrow.Author.Needs.{needs}
-use Rattle.utf8.proofs.leads.lead.Statement.{statement}
-use Rattle.utf8.proofs.leads.lead.Tie as tie
+use Rattle.utf8_sequences.proofs.leads.lead.Statement.{statement}
+use Rattle.utf8_sequences.proofs.leads.lead.Tie as tie
 
 mul-result : tie.Need-mul-result
 mul-result c = search needs

@@ -1,11 +1,11 @@
 -- Assumes nothing.
 use native.Mathlib.Omega.{arith}
-use Rattle.utf8.proofs.Quick.{ascii-at, thai-at}
+use Rattle.utf8_sequences.proofs.Quick.{ascii-at, thai-at}
 use borrow.Author.Tests.{not-false}
 use mathlib.Core.Path.{sym, _∙_}
 use borrow.Author.Needs.{needs}
-use Rattle.utf8.proofs.quick_size.Statement.{statement}
-use Rattle.utf8.proofs.quick_size.Tie as tie
+use Rattle.utf8_sequences.proofs.quick_size.Statement.{statement}
+use Rattle.utf8_sequences.proofs.quick_size.Tie as tie
 
 shared-slice-read-wide : tie.Need-shared-slice-read-wide
 shared-slice-read-wide c = search needs

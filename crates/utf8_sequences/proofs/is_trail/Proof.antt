@@ -1,7 +1,7 @@
 -- Assumes nothing.
 use borrow.Author.Tests.{le-leb, lt-leb}
-use Rattle.utf8.proofs.is_trail.Statement.{statement}
-use Rattle.utf8.proofs.is_trail.Tie as tie
+use Rattle.utf8_sequences.proofs.is_trail.Statement.{statement}
+use Rattle.utf8_sequences.proofs.is_trail.Tie as tie
 
 returns : tie.Need-returns
 returns c = simp (lt-leb _ _ (c .if1 .taken))

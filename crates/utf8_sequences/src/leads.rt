@@ -1,6 +1,6 @@
 // The decoder's table: an entry for each first byte.
 ghost use mathlib.Core.Path.{_≡_};
-ghost use Rattle.utf8.specs.Decoding.{leadOf, Leads};
+ghost use Rattle.utf8_sequences.specs.Sequences.{leadOf, Leads};
 
 // The length of the sequence that the byte starts (0 for none), and the range of its second byte, a
 // byte each.

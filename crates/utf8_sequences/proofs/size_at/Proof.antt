@@ -1,10 +1,10 @@
 -- Assumes nothing.
 use mathlib.Core.Path.{refl, sym, _∙_}
 use borrow.Author.Tests.{lt-ltb, le-ltb, eq-eqb, ne-eqb, not-true, not-false}
-use Rattle.utf8.proofs.Sizes.{read, too-short, few, low, high, is-two, no-third, is-three, last}
+use Rattle.utf8_sequences.proofs.Sizes.{read, too-short, few, low, high, is-two, no-third, is-three, last}
 use borrow.Author.Needs.{needs}
-use Rattle.utf8.proofs.size_at.Statement.{statement}
-use Rattle.utf8.proofs.size_at.Tie as tie
+use Rattle.utf8_sequences.proofs.size_at.Statement.{statement}
+use Rattle.utf8_sequences.proofs.size_at.Tie as tie
 
 shared-slice-read-lead : tie.Need-shared-slice-read-lead
 shared-slice-read-lead c = search needs

@@ -1,8 +1,8 @@
 -- Assumes nothing.
-use Rattle.utf8.proofs.Pieces.{room-1, room-2, room-3, room-4, is-1, is-2, is-3, is-4}
+use Rattle.utf8_sequences.proofs.Pieces.{room-1, room-2, room-3, room-4, is-1, is-2, is-3, is-4}
 use borrow.Author.Needs.{needs}
-use Rattle.utf8.proofs.piece_at.Statement.{statement}
-use Rattle.utf8.proofs.piece_at.Tie as tie
+use Rattle.utf8_sequences.proofs.piece_at.Statement.{statement}
+use Rattle.utf8_sequences.proofs.piece_at.Tie as tie
 
 shared-slice-read-wide : tie.Need-shared-slice-read-wide
 shared-slice-read-wide c = room-1 (c .before .before .args .s .now) (c .before .before .args .at) (c .before .before .pre)
