@@ -15,7 +15,7 @@ MARKS = "<!-- written by tools/map.py -->", "<!-- end of what tools/map.py write
 
 # From what a host lends to what it is told. Names between square brackets are crates.
 FLOW = """
-    bytes ──[utf8]──▶ scalars ──┬─[char_string]──▶ trimmed words ──[trie_char]──▶ pool
+    bytes ──[utf8]──▶ scalars ──┬─[char_string_trim]─▶ trimmed words ─[trie_char]─▶ pool
                                 │                                                  │
                                 │                                                  ▼
                                 ├─[tcc]──▶ cluster ends ──▶[newmm_word_step]◀──[trie_search]

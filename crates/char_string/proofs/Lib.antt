@@ -1,5 +1,2 @@
-pub mod Texts
 pub mod Pairs
-pub mod Trimming
-pub mod WhiteSpace
 pub mod Views

@@ -8,8 +8,8 @@ use lib.ListN.{length, getD, drop, length-drop}
 use lib.Seq.{length-take-le}
 use lib.Dec.{leb}
 use borrow.Author.Tests.{lt-leb, leb-true, lt-ltb, le-ltb}
-use Rattle.char_string.specs.declared.parts.Span.{Span}
-use Rattle.char_string.specs.declared.parts.CharAt.the-variants.{Scalar, Nothing}
+use Rattle.char_string.specs.declared.Span.{Span}
+use Rattle.char_string.specs.declared.CharAt.the-variants.{Scalar, Nothing}
 use Rattle.char_string.specs.Parts.{Within, rightPair, fitted, between, partOf, charAt, shifted, subView}
 
 pub crossed : (n : ℕ) {a e : ℕ} → e < a → rightPair n a e ≡ false

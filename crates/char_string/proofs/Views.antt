@@ -4,7 +4,7 @@ use mathlib.Core.Path.{_≡_, sym, _∙_, ap}
 use mathlib.Core.List.{List}
 use lib.ListN.{length}
 use Rattle.lists.proofs.Parts.{part-of-part}
-use Rattle.char_string.specs.declared.parts.Span.{Span}
+use Rattle.char_string.specs.declared.Span.{Span}
 use Rattle.char_string.specs.Parts.{Within, fitted, between, partOf, subView}
 use Rattle.char_string.proofs.Pairs.{within-fitted, length-between}
 

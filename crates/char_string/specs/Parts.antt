@@ -4,9 +4,9 @@ use mathlib.Core.Bool.{Bool, cond, _&&_}
 use mathlib.Core.List.{List}
 use lib.ListN.{length, getD, take, drop}
 use lib.Dec.{leb, ltb}
-use Rattle.char_string.specs.declared.parts.Span.{Span}
-use Rattle.char_string.specs.declared.parts.CharAt.{CharAt}
-use Rattle.char_string.specs.declared.parts.CharAt.the-variants.{Scalar, Nothing}
+use Rattle.char_string.specs.declared.Span.{Span}
+use Rattle.char_string.specs.declared.CharAt.{CharAt}
+use Rattle.char_string.specs.declared.CharAt.the-variants.{Scalar, Nothing}
 
 -- A right pair of positions has start ≤ end ≤ n.
 abbrev pub rightPair : ℕ → ℕ → ℕ → Bool

@@ -7,7 +7,7 @@ use mathlib.Core.Bool.{true}
 use lib.ListN.{length}
 use borrow.Author.Tests.{le-leb}
 use denote.Ref.{now, ptr}
-use Rattle.char_string.specs.declared.parts.Span.{Span}
+use Rattle.char_string.specs.declared.Span.{Span}
 use Rattle.char_string.specs.Parts.{Within, rightPair, fitted, between, partOf, cellAt, subView}
 use Rattle.char_string.proofs.Pairs.{fit-right, within-fitted}
 use Rattle.char_string.proofs.Views.{sub-view-shows}

@@ -3,7 +3,7 @@ use Prim.Native.Nat.{ℕ}
 use mathlib.Core.List.{List}
 use lib.ListN.{length}
 use denote.Ref.{RefT, now, ptr}
-use Rattle.char_string.specs.declared.parts.Span.{Span}
+use Rattle.char_string.specs.declared.Span.{Span}
 use Rattle.char_string.specs.Parts.{fitted, partOf, cellAt, subView}
 use Rattle.char_string_view.specs.declared.CharView.{CharView}
 

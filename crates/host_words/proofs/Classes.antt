@@ -3,9 +3,9 @@ use Prim.Native.Nat.{ℕ}
 use mathlib.Core.Path.{_≡_, sym, ap, _∙_}
 use Rattle.refusal.specs.declared.Refusal.{Refusal}
 use Rattle.refusal.specs.declared.Answer.the-variants.{Accepted, Refused}
-use Rattle.trie_char.specs.declared.WordAnswer.{WordAnswer}
-use Rattle.trie_char.specs.declared.WordAnswer.the-variants.{Held}
-use Rattle.trie_char.specs.declared.WordAnswer.the-variants as words
+use Rattle.trie_char_answers.specs.declared.WordAnswer.{WordAnswer}
+use Rattle.trie_char_answers.specs.declared.WordAnswer.the-variants.{Held}
+use Rattle.trie_char_answers.specs.declared.WordAnswer.the-variants as words
 use Rattle.host_telling.specs.Told.{Told, tells}
 use Rattle.host_words.specs.Calls.{heldAnswer, classTold}
 

@@ -4,7 +4,7 @@ use mathlib.Core.Path.{_≡_, subst}
 use mathlib.Core.List.{List}
 use Rattle.refusal.specs.declared.Answer.{Answer}
 use Rattle.trie_pool.specs.Meaning.{Terms}
-use Rattle.trie_char.specs.Changes.{After}
+use Rattle.trie_char_answers.specs.Changes.{After}
 use Rattle.host_telling.specs.Told.{Told, tells}
 use Rattle.host_telling.proofs.Answers.{telling}
 

@@ -7,12 +7,12 @@ use Rattle.refusal.specs.declared.Answer.{Answer}
 use Rattle.refusal.specs.declared.Answer.the-variants.{Accepted, Refused}
 use Rattle.refusal.specs.Answers.{output}
 use Rattle.trie_pool.specs.Meaning.{noTerm}
-use Rattle.trie_char.specs.declared.WordAnswer.{WordAnswer}
-use Rattle.trie_char.specs.declared.WordAnswer.the-variants.{Held}
-use Rattle.trie_char.specs.declared.WordAnswer.the-variants as words
-use Rattle.trie_char.specs.Changes.{After}
-use Rattle.trie_char.specs.Answers.{freshAnswer, added, addAnswer, removed, removeAnswer}
-use Rattle.trie_char.specs.Answers.{containsAnswer, prefixes, prefixesAnswer, wordCountAnswer}
+use Rattle.trie_char_answers.specs.declared.WordAnswer.{WordAnswer}
+use Rattle.trie_char_answers.specs.declared.WordAnswer.the-variants.{Held}
+use Rattle.trie_char_answers.specs.declared.WordAnswer.the-variants as words
+use Rattle.trie_char_answers.specs.Changes.{After}
+use Rattle.trie_char_answers.specs.Answers.{freshAnswer, added, addAnswer, removed, removeAnswer}
+use Rattle.trie_char_answers.specs.Answers.{containsAnswer, prefixes, prefixesAnswer, wordCountAnswer}
 use Rattle.host_telling.specs.Told.{Told, tells}
 
 -- A DICTIONARY WITHOUT WORDS: what is told, and the pool.

@@ -1,9 +1,9 @@
 // The dictionary, as hosts are told it.
 use host_telling::tell;
 use refusal::Answer;
-use trie_char::WordAnswer;
-use trie_char::amount_of_words;
-use trie_char::contain;
+use trie_char_answers::WordAnswer;
+use trie_char_read::amount_of_words;
+use trie_char_read::contain;
 ghost use mathlib.Core.Path.{_≡_};
 ghost use Rattle.host_telling.specs.Told.{told};
 ghost use Rattle.host_words.specs.Calls.{FreshTold, AddTold, RemoveTold, heldAnswer, ContainsTold};
@@ -108,7 +108,7 @@ pub fn prefix_lengths(
     ensures { λ r. ⌜ PrefixesTold (now (text .entry)) (now (pool .entry)) (now (out .entry))
         (told r (now (count .exit)) (now (detail .exit))) (now (out .exit)) ⌝ }
 {
-    let lengths = trie_char::prefix_lengths(pool, text, out);
+    let lengths = trie_char_read::prefix_lengths(pool, text, out);
     tell(lengths, count, detail)
 }
 

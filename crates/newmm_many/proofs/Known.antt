@@ -8,7 +8,7 @@ use lib.ListN.{length, replicate, length-replicate}
 use Rattle.refusal.specs.declared.Refusal.the-variants.{NotADictionary}
 use Rattle.refusal.specs.declared.Answer.{Answer}
 use Rattle.refusal.specs.Answers.{Cause, answer}
-use Rattle.char_string.specs.Scalars.{textCauses}
+use Rattle.char_string_scalars.specs.Scalars.{textCauses}
 use Rattle.trie_pool.specs.Rules.{isDictionary}
 use Rattle.trie_pool.specs.Meaning.{Words, meaning}
 use Rattle.trie_check.specs.Refusals.{isNone}

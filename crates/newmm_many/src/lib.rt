@@ -1,7 +1,7 @@
 // Cutting many texts in one call, with one check of the pool: for each text what a single call would
 // answer and leave.
 use cells::clear_first;
-use char_string::check_text;
+use char_string_scalars::check_text;
 use newmm::cut_ready;
 use newmm_answers::CutAnswer;
 use newmm_answers::scratch_for;

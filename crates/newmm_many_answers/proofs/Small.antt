@@ -13,7 +13,7 @@ use Rattle.refusal.specs.Numbers.{detailOf}
 use Rattle.refusal.specs.Answers.{Cause, answer}
 use Rattle.refusal.proofs.Order.{not-both}
 use Rattle.refusal.proofs.Causes.{none-of}
-use Rattle.char_string.specs.Scalars.{firstNonScalar}
+use Rattle.char_string_scalars.specs.Scalars.{firstNonScalar}
 use Rattle.trie_pool.specs.Meaning.{Words, meaning}
 use Rattle.trie_check.specs.Refusals.{held}
 use Rattle.newmm_answers.specs.Answers.{cutOf, cutCauses, accepts}

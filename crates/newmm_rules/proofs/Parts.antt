@@ -8,7 +8,7 @@ use lib.ListN.{length, take, drop, length-append, length-drop, take-append-drop}
 use lib.Seq.{length-take-le}
 use lib.Dec.{ltb}
 use borrow.Author.Tests.{ltb-false}
-use Rattle.char_string.specs.Blanks.{lastSpace}
+use Rattle.char_string_last_space.specs.Spaces.{lastSpace}
 use Rattle.newmm_rules.specs.Parts.{Cutter, sampleOf, cutAt, sampled, Runs, lastPart, onePart, first, runsOf}
 use Rattle.newmm_rules.specs.Modes.{shifted, partEnds}
 use Rattle.newmm_rules.specs.inner.Climbing.{Climbs, there}

@@ -8,9 +8,9 @@ use lib.ListN.{length, take, drop, length-take, length-drop}
 use lib.Seq.{length-take-le}
 use lib.Dec.{ltb}
 use borrow.Author.Tests.{ltb-false}
-use Rattle.char_string.specs.declared.blanks.Found.{Found}
-use Rattle.char_string.specs.declared.blanks.Found.the-variants.{At, Nothing}
-use Rattle.char_string.specs.Blanks.{lastSpace}
+use Rattle.char_string_last_space.specs.declared.Found.{Found}
+use Rattle.char_string_last_space.specs.declared.Found.the-variants.{At, Nothing}
+use Rattle.char_string_last_space.specs.Spaces.{lastSpace}
 use Rattle.newmm_rules.specs.declared.Mode.{Mode}
 use Rattle.newmm_rules.specs.declared.Mode.the-variants.{Plain, Safe, Sheet}
 use Rattle.newmm_rules.specs.Parts.{Cutter, sampleOf, cutAt, sampled, Runs, lastPart, onePart, first, runsOf}

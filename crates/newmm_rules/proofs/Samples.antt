@@ -10,9 +10,9 @@ use lib.Dec.{leb}
 use borrow.Author.Tests.{leb-true}
 use Rattle.lists.specs.Scans.{behindLast}
 use Rattle.lists.proofs.Scans.{last-inside}
-use Rattle.char_string.specs.declared.blanks.Found.{Found}
-use Rattle.char_string.specs.declared.blanks.Found.the-variants.{At, Nothing}
-use Rattle.char_string.specs.Blanks.{isSpace, before, lastSpace}
+use Rattle.char_string_last_space.specs.declared.Found.{Found}
+use Rattle.char_string_last_space.specs.declared.Found.the-variants.{At, Nothing}
+use Rattle.char_string_last_space.specs.Spaces.{isSpace, before, lastSpace}
 use Rattle.newmm_rules.specs.Longest.{lengths, longest, beforeLongest}
 use Rattle.newmm_rules.specs.Parts.{Cutter, sampleOf, cutFor, cutAt}
 use Rattle.newmm_rules.specs.inner.Climbing.{Climbs, there, up}

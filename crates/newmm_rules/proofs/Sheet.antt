@@ -10,9 +10,9 @@ use lib.Dec.{ltb}
 use borrow.Author.Tests.{ltb-true, ltb-false, lt-ltb, le-ltb, eq-eqb}
 use Rattle.lists.specs.Scans.{behindLast}
 use Rattle.lists.proofs.Scans.{last-inside}
-use Rattle.char_string.specs.declared.blanks.Found.{Found}
-use Rattle.char_string.specs.declared.blanks.Found.the-variants.{At, Nothing}
-use Rattle.char_string.specs.Blanks.{isSpace, before, lastSpace}
+use Rattle.char_string_last_space.specs.declared.Found.{Found}
+use Rattle.char_string_last_space.specs.declared.Found.the-variants.{At, Nothing}
+use Rattle.char_string_last_space.specs.Spaces.{isSpace, before, lastSpace}
 use Rattle.newmm_rules.specs.declared.Mode.the-variants.{Sheet}
 use Rattle.newmm_rules.specs.Parts.{Cutter, sampleOf, cutFor, cutAt, sampled, Runs, lastPart, onePart, first, runsOf}
 use Rattle.newmm_rules.specs.Modes.{shifted, partEnds, edgesOf, joined, inParts, unshifted, behindSpace, segmented}

@@ -10,8 +10,8 @@ use lib.Seq.{getD-take, getD-drop}
 use lib.Dec.{eqb}
 use borrow.Author.Tests.{eqb-true, eqb-false, eq-eqb}
 use Rattle.lists.specs.Scans.{behindLast}
-use Rattle.char_string.specs.declared.blanks.Found.the-variants.{At, Nothing}
-use Rattle.char_string.specs.Blanks.{isSpace, before, lastSpace}
+use Rattle.char_string_last_space.specs.declared.Found.the-variants.{At, Nothing}
+use Rattle.char_string_last_space.specs.Spaces.{isSpace, before, lastSpace}
 use Rattle.newmm_rules.specs.Positions.{In}
 use Rattle.newmm_rules.specs.Parts.{sampleOf}
 use Rattle.newmm_rules.specs.Sheet.{space, HoldsSpace}

@@ -4,9 +4,9 @@ use mathlib.Core.Bool.{Bool, cond}
 use mathlib.Core.List.{List, [], _∷_, _++_}
 use lib.ListN.{length, take, drop}
 use lib.Dec.{ltb}
-use Rattle.char_string.specs.declared.blanks.Found.{Found}
-use Rattle.char_string.specs.declared.blanks.Found.the-variants.{At, Nothing}
-use Rattle.char_string.specs.Blanks.{lastSpace}
+use Rattle.char_string_last_space.specs.declared.Found.{Found}
+use Rattle.char_string_last_space.specs.declared.Found.the-variants.{At, Nothing}
+use Rattle.char_string_last_space.specs.Spaces.{lastSpace}
 use Rattle.newmm_rules.specs.Limits.{textScanBegin, textScanEnd}
 use Rattle.newmm_rules.specs.Cutting.{Cut}
 use Rattle.newmm_rules.specs.Longest.{lengths, beforeLongest}

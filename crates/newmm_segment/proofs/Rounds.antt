@@ -9,9 +9,9 @@ use lib.Seq.{length-take-le, drop-at, drop-drop, getD-drop}
 use lib.Dec.{ltb}
 use borrow.Author.Tests.{lt-ltb, le-ltb}
 use Rattle.lists.proofs.Parts.{tail-drop}
-use Rattle.char_string.specs.declared.blanks.Found.{Found}
-use Rattle.char_string.specs.declared.blanks.Found.the-variants.{At, Nothing}
-use Rattle.char_string.specs.Blanks.{lastSpace}
+use Rattle.char_string_last_space.specs.declared.Found.{Found}
+use Rattle.char_string_last_space.specs.declared.Found.the-variants.{At, Nothing}
+use Rattle.char_string_last_space.specs.Spaces.{lastSpace}
 use Rattle.trie_pool.specs.Meaning.{Words}
 use Rattle.trie_pool.specs.Words.{holds}
 use Rattle.newmm_rules.specs.Cutting.{Cut}

@@ -5,9 +5,9 @@ use mathlib.Core.Path.{_≡_, refl, sym, _∙_, ap, subst}
 use mathlib.Core.List.{List, [], _∷_, _++_, map}
 use lib.ListN.{length, getD, take, drop, replicate, length-append, length-take, List·getD-append}
 use lib.Seq.{length-take-le, take-at, drop-at}
-use Rattle.char_string.specs.declared.blanks.Found.{Found}
-use Rattle.char_string.specs.declared.blanks.Found.the-variants.{At, Nothing}
-use Rattle.char_string.specs.Blanks.{lastSpace}
+use Rattle.char_string_last_space.specs.declared.Found.{Found}
+use Rattle.char_string_last_space.specs.declared.Found.the-variants.{At, Nothing}
+use Rattle.char_string_last_space.specs.Spaces.{lastSpace}
 use Rattle.trie_pool.specs.Words.{holds}
 use Rattle.newmm_rules.specs.Cutting.{Cut}
 use Rattle.newmm_one_cut.specs.declared.Ends.{Ends}

@@ -1,8 +1,8 @@
 // Cutting in parts, after `segment_single` of newmm.rs.
 use cells::shift;
 use cells::wide;
-use char_string::Found;
-use char_string::rfind_space_char_index;
+use char_string_last_space::Found;
+use char_string_last_space::rfind_space_char_index;
 use newmm_one_cut::Ends;
 use newmm_one_cut::one_cut;
 use newmm_rules::Mode;

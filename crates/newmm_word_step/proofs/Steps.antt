@@ -15,9 +15,9 @@ use Rattle.trie_pool.specs.Words.{Place, none, at, on-place, child, walk, marke
 use Rattle.trie_pool.specs.inner.Sound.{Readable}
 use Rattle.trie_pool.proofs.Shape.{walk-more, walk-append}
 use Rattle.trie_pool.proofs.Walks.{child-past, readable-child}
-use Rattle.trie_search.specs.inner.Search.{toPlace}
-use Rattle.trie_search.specs.declared.search.Kid.{Kid}
-use Rattle.trie_search.specs.declared.search.Kid.the-variants.{Nothing, Is}
+use Rattle.trie_child.specs.inner.Search.{toPlace}
+use Rattle.trie_child.specs.declared.Kid.{Kid}
+use Rattle.trie_child.specs.declared.Kid.the-variants.{Nothing, Is}
 use Rattle.newmm_word_step.specs.inner.Walks.{givenBy, Walked, Asks, Next}
 
 pub start-walk : (text pool : List ℕ) (b : ℕ) → Walked text pool b b 0

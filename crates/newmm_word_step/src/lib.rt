@@ -1,8 +1,8 @@
 // The words that start at a place of a text and end at a cluster end, one character at a time.
+use trie_child::Kid;
+use trie_child::find_child;
 use trie_pool::MAX_WORD;
-use trie_search::Kid;
 use trie_search::ends_word;
-use trie_search::find_child;
 ghost use mathlib.Core.Path.{_≡_};
 ghost use Prim.Native.Nat.{ℕ, _≤_, _+_, _-_, min};
 ghost use Rattle.newmm_rules.specs.Limits.{maxWord};

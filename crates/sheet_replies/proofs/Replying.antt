@@ -14,7 +14,7 @@ use Rattle.utf8.specs.Positions.{positionsOf}
 use Rattle.trie_pool.specs.Meaning.{Terms, meaning}
 use Rattle.trie_check.specs.Refusals.{held}
 use Rattle.refusal.proofs.Causes.{again}
-use Rattle.trie_char.specs.Changes.{After}
+use Rattle.trie_char_answers.specs.Changes.{After}
 use Rattle.newmm_rules.specs.declared.Mode.{Mode}
 use Rattle.newmm_answers.specs.declared.CutAnswer.{CutAnswer}
 use Rattle.newmm_answers.specs.Answers as cut-answers

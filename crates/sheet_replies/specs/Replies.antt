@@ -12,8 +12,8 @@ use Rattle.utf8.specs.Decoding.{scalarsOf, Room, roomIn, decoded}
 use Rattle.utf8.specs.Positions.{positionsOf}
 use Rattle.trie_pool.specs.Meaning.{meaning}
 use Rattle.trie_check.specs.Refusals.{held}
-use Rattle.trie_char.specs.Answers.{addAnswer, added, removeAnswer, removed}
-use Rattle.trie_char.specs.Changes.{After}
+use Rattle.trie_char_answers.specs.Answers.{addAnswer, added, removeAnswer, removed}
+use Rattle.trie_char_answers.specs.Changes.{After}
 use Rattle.newmm_rules.specs.declared.Mode.{Mode}
 use Rattle.newmm_rules.specs.declared.Mode.the-variants.{Plain, Safe}
 use Rattle.newmm_answers.specs.declared.CutAnswer.{CutAnswer}

@@ -18,8 +18,8 @@ use Rattle.refusal.specs.declared.Answer.the-variants as answers
 use Rattle.refusal.specs.Answers.{output}
 use Rattle.utf8_sequences.specs.Utf8.{Utf8, empty, next}
 use Rattle.utf8.specs.Decoding.{runAll, scalarsOf, Room, decoded}
-use Rattle.char_string.specs.Scalars.{firstNonScalar}
-use Rattle.char_string.specs.Blanks.{trimmedOf}
+use Rattle.char_string_scalars.specs.Scalars.{firstNonScalar}
+use Rattle.char_string_trim.specs.Trimming.{trimmedOf}
 use Rattle.theorems_unicode.proofs.Standard.{accepted, sequence-size}
 use Rattle.theorems_unicode.proofs.Encoding.{all-scalars}
 use Rattle.trie_pool.specs.Rules.{capacity}
@@ -27,9 +27,9 @@ use Rattle.trie_pool.specs.Meaning.{Words, meaning, terms, same, withTerm, with
 use Rattle.trie_pool.proofs.Rules.{clash}
 use Rattle.trie_pool.proofs.Sets.{same-true, same-self, same-false}
 use Rattle.trie_check.specs.Refusals.{isNone, held}
-use Rattle.trie_char.specs.Refusals.{nodesWith}
-use Rattle.trie_char.specs.Answers.{added, removed, addAnswer, removeAnswer, wordsOf, termsOf}
-use Rattle.trie_char.specs.Changes.{Became, After}
+use Rattle.trie_char_answers.specs.Refusals.{nodesWith}
+use Rattle.trie_char_answers.specs.Answers.{added, removed, addAnswer, removeAnswer, wordsOf, termsOf}
+use Rattle.trie_char_answers.specs.Changes.{Became, After}
 use Rattle.newmm_rules.specs.declared.Mode.{Mode}
 use Rattle.newmm_rules.specs.inner.Climbing.{Climbs}
 use Rattle.newmm_rules.proofs.Climbing.{few}

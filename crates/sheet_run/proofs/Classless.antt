@@ -9,7 +9,7 @@ use Rattle.trie_pool.specs.Meaning.{Words, Terms, isSome, wordsIn, meaning, ter
 use Rattle.trie_pool.proofs.Sets.{classless-with, classless-without, classless-report}
 use Rattle.trie_pool.proofs.Terms.{means-of}
 use Rattle.trie_check.specs.Refusals.{heldTerms}
-use Rattle.trie_char.specs.Answers.{termsOf}
+use Rattle.trie_char_answers.specs.Answers.{termsOf}
 
 same-words : (f : Words) (v : List ℕ) → wordsIn (classless f) v ≡ f v
 same-words f v = go (f v)

@@ -19,7 +19,7 @@ use Rattle.trie_pool.proofs.With.{nodes-with}
 use Rattle.trie_pool.proofs.Number.{one-number}
 use Rattle.trie_check.specs.Refusals.{isNone, held}
 use Rattle.trie_check.proofs.Parts.{known-is, held-is}
-use Rattle.trie_char.specs.Refusals.{nodesWith}
+use Rattle.trie_char_answers.specs.Refusals.{nodesWith}
 use Rattle.sheet_run.specs.Program.{among, including, prefixesOf, orNew, allNew, prefixes, nodes}
 
 -- ---- a list's words, by test and by place

@@ -22,8 +22,8 @@ use Rattle.utf8.specs.Decoding.{runAll, scalarsOf}
 use Rattle.trie_pool.specs.Meaning.{Words, Terms, meaning, terms, report, classless}
 use Rattle.sheet_run.proofs.Classless.{more-are, less-are}
 use Rattle.trie_check.specs.Refusals.{held}
-use Rattle.trie_char.specs.Answers.{added, removed, wordsOf}
-use Rattle.trie_char.specs.Changes.{Became, After}
+use Rattle.trie_char_answers.specs.Answers.{added, removed, wordsOf}
+use Rattle.trie_char_answers.specs.Changes.{Became, After}
 use Rattle.newmm_rules.specs.declared.Mode.{Mode}
 use Rattle.newmm_rules.specs.inner.Climbing.{Climbs, there, up}
 use Rattle.newmm_rules.proofs.Climbing.{few, onward}

@@ -13,9 +13,9 @@ use Rattle.refusal.specs.declared.Answer.{Answer}
 use Rattle.refusal.specs.declared.Answer.the-variants as answers
 use Rattle.refusal.specs.Answers.{Cause, answer}
 use Rattle.utf8.specs.Decoding.{runAll, scalarsOf}
-use Rattle.char_string.specs.Blanks.{trimmedOf}
+use Rattle.char_string_trim.specs.Trimming.{trimmedOf}
 use Rattle.trie_pool.specs.Meaning.{Words, terms, same, report, classless}
-use Rattle.trie_char.specs.Refusals.{lengthCauses}
+use Rattle.trie_char_answers.specs.Refusals.{lengthCauses}
 use Rattle.newmm_rules.specs.declared.Mode.{Mode}
 use Rattle.newmm_answers.specs.Answers.{cutOf}
 use Rattle.sheet_replies.specs.declared.Asked.{Asked}

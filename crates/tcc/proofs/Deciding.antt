@@ -11,7 +11,7 @@ use Rattle.refusal.specs.declared.Answer.the-variants.{Accepted, Refused}
 use Rattle.refusal.specs.Answers.{answer, numbers, outCause}
 use Rattle.refusal.proofs.Causes.{none-of, handed, out-short, out-fits}
 use Rattle.refusal.proofs.Firsts.{accepted-exactly-if-none}
-use Rattle.char_string.specs.Scalars.{textCauses, checked}
+use Rattle.char_string_scalars.specs.Scalars.{textCauses, checked}
 use Rattle.tcc_rules.specs.Clusters.{clusterEnds}
 use Rattle.tcc.specs.Answers.{clusterCauses, clustersAnswer}
 

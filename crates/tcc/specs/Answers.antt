@@ -4,7 +4,7 @@ use mathlib.Core.List.{List, [], _∷_, _++_}
 use lib.ListN.{length}
 use Rattle.refusal.specs.declared.Answer.{Answer}
 use Rattle.refusal.specs.Answers.{Cause, answer, outCause}
-use Rattle.char_string.specs.Scalars.{textCauses}
+use Rattle.char_string_scalars.specs.Scalars.{textCauses}
 use Rattle.tcc_rules.specs.Clusters.{clusterEnds}
 
 -- Clusters: 2, 3, 6. `room` is the number of output cells.

@@ -1,6 +1,6 @@
 // Thai character clusters, after tcc_tokenizer.rs: where the clusters of a text end.
 use cells::clear_first;
-use char_string::check_text;
+use char_string_scalars::check_text;
 use refusal::Answer;
 use refusal::Refusal;
 use tcc_match::cluster_end;

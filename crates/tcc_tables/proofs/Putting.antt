@@ -9,7 +9,7 @@ use lib.Seq.{drop-cons, take-length}
 use Rattle.refusal.specs.declared.Refusal.the-variants.{OutputTooShort}
 use Rattle.refusal.specs.declared.Answer.{Answer}
 use Rattle.refusal.specs.declared.Answer.the-variants.{Accepted, Refused}
-use Rattle.char_string.specs.Scalars.{checked}
+use Rattle.char_string_scalars.specs.Scalars.{checked}
 use Rattle.lists.proofs.Rows.{store}
 use Rattle.tcc_rules.specs.Patterns.{winner}
 use Rattle.tcc_rules.specs.Rules.{alternatives}

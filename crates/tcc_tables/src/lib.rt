@@ -2,7 +2,7 @@
 // and tries them in order. It gives the ends that `tcc` gives, and tells which alternative won.
 mod tables;
 
-use char_string::check_text;
+use char_string_scalars::check_text;
 use refusal::Answer;
 use refusal::Refusal;
 use tables::CLASSES;
@@ -18,7 +18,7 @@ ghost use Prim.Native.Nat.{_≤_};
 ghost use lib.ListN.{length, drop};
 ghost use Rattle.refusal.specs.declared.Answer.the-variants.{Accepted};
 ghost use Rattle.refusal.specs.Limits.{maxText};
-ghost use Rattle.char_string.specs.Scalars.{checked};
+ghost use Rattle.char_string_scalars.specs.Scalars.{checked};
 ghost use Rattle.tcc_rules.specs.Clusters.{clusterEnds};
 ghost use Rattle.tcc_tables.specs.Answers.{winnersOf, Wins};
 ghost use Rattle.tcc_engine.specs.inner.Trying.{Tables};

@@ -7,7 +7,7 @@ mod places;
 mod views;
 
 use char_string::CharAt;
-use char_string::Found;
+use char_string_last_space::Found;
 use refusal::Answer;
 use test_lines::behind;
 use test_lines::field;
@@ -102,7 +102,7 @@ fn answer(line: &[u8], bytes: &mut [u8], cells: &mut [u32], positions: &mut [u32
 // trim scalars => ok start end
 fn trim(line: &[u8], cells: &mut [u32]) {
     let n = read_cells(field(line, 1), cells);
-    let s = char_string::trim(&cells[..n]);
+    let s = char_string_trim::trim(&cells[..n]);
     print(b"ok ");
     print_number(s.start);
     print(b" ");
@@ -113,7 +113,7 @@ fn trim(line: &[u8], cells: &mut [u32]) {
 fn rspace(line: &[u8], cells: &mut [u32]) {
     let n = read_cells(field(line, 1), cells);
     print(b"ok ");
-    match char_string::rfind_space_char_index(&cells[..n]) {
+    match char_string_last_space::rfind_space_char_index(&cells[..n]) {
         Found::At(i) => print_number(i),
         Found::Nothing => print(b"none"),
     }
@@ -122,7 +122,7 @@ fn rspace(line: &[u8], cells: &mut [u32]) {
 // scalars cells => ok index of the first cell that is no scalar value, or ok none
 fn scalars(line: &[u8], cells: &mut [u32]) {
     let n = read_cells(field(line, 1), cells);
-    let bad = char_string::first_non_scalar(&cells[..n]);
+    let bad = char_string_scalars::first_non_scalar(&cells[..n]);
     print(b"ok ");
     if bad < n {
         print_number(bad);
@@ -134,7 +134,7 @@ fn scalars(line: &[u8], cells: &mut [u32]) {
 // text cells => ok n
 fn text(line: &[u8], cells: &mut [u32]) {
     let n = read_cells(field(line, 1), cells);
-    match char_string::check_text(&cells[..n]) {
+    match char_string_scalars::check_text(&cells[..n]) {
         Answer::Accepted(count) => {
             print(b"ok ");
             print_number(count);
@@ -147,7 +147,7 @@ fn text(line: &[u8], cells: &mut [u32]) {
 fn word(line: &[u8], cells: &mut [u32]) {
     let n = read_cells(field(line, 1), cells);
     print(b"ok ");
-    print_cells(char_string::trimmed(&cells[..n]));
+    print_cells(char_string_trim::trimmed(&cells[..n]));
 }
 
 // view n, start, end, index, from, to => ok length, character at index or none, start and end of

@@ -21,7 +21,7 @@ use test_words::has_class;
 use test_words::hold;
 use test_words::read_class;
 use test_words::read_word;
-use trie_char::WordAnswer;
+use trie_char_answers::WordAnswer;
 
 const INPUT: usize = 393216;
 
@@ -102,7 +102,7 @@ fn step(text: &[u8], pool: &mut [u32], cells: &mut [u32], out: &mut [u32]) {
         return;
     }
     if op == b'#' {
-        let answer = trie_char::amount_of_words(pool);
+        let answer = trie_char_read::amount_of_words(pool);
         told(answer);
         return;
     }
@@ -172,7 +172,7 @@ fn refused(r: Refusal) {
 
 // Whether the word is held, and its class.
 fn held(pool: &[u32], word: &[u32]) {
-    let answer = trie_char::contain(pool, word);
+    let answer = trie_char_read::contain(pool, word);
     match answer {
         WordAnswer::Held(n, class) => {
             print_number(n);
@@ -184,7 +184,7 @@ fn held(pool: &[u32], word: &[u32]) {
 }
 
 fn lengths(pool: &[u32], text: &[u32], out: &mut [u32]) {
-    let answer = trie_char::prefix_lengths(pool, text, out);
+    let answer = trie_char_read::prefix_lengths(pool, text, out);
     match answer {
         Answer::Accepted(n) => print_numbers(first(out, n), b'.'),
         Answer::Refused(r) => refused(r),
@@ -193,7 +193,7 @@ fn lengths(pool: &[u32], text: &[u32], out: &mut [u32]) {
 
 // The nodes in use, a cell of the root.
 fn in_use(pool: &[u32]) {
-    let answer = trie_char::amount_of_words(pool);
+    let answer = trie_char_read::amount_of_words(pool);
     match answer {
         Answer::Accepted(_) => {
             if 0 < pool.len() {
@@ -214,7 +214,7 @@ fn prefix(line: &[u8], pool: &mut [u32], cells: &mut [u32], out: &mut [u32]) {
 }
 
 fn starts(pool: &[u32], text: &[u32], out: &mut [u32]) {
-    let answer = trie_char::prefix_lengths(pool, text, out);
+    let answer = trie_char_read::prefix_lengths(pool, text, out);
     match answer {
         Answer::Accepted(n) => {
             print(b"ok ");
@@ -227,7 +227,7 @@ fn starts(pool: &[u32], text: &[u32], out: &mut [u32]) {
 // pool cells => ok words, or a refusal
 fn given(line: &[u8], pool: &mut [u32]) {
     let n = read_cells(field(line, 1), pool);
-    let answer = trie_char::amount_of_words(first(pool, n));
+    let answer = trie_char_read::amount_of_words(first(pool, n));
     match answer {
         Answer::Accepted(words) => {
             print(b"ok ");

@@ -13,7 +13,7 @@ use Rattle.refusal.specs.declared.Answer.the-variants.{Accepted, Refused}
 use Rattle.refusal.specs.Answers.{answer}
 use Rattle.refusal.proofs.Causes.{none-of}
 use Rattle.lists.specs.Scans.{leading}
-use Rattle.char_string.specs.Scalars.{firstNonScalar}
+use Rattle.char_string_scalars.specs.Scalars.{firstNonScalar}
 use Rattle.tcc_rules.specs.Patterns.{holdsAt, match}
 use Rattle.tcc_rules.specs.Clusters.{clusterEnd, endsFrom, clusterEnds}
 use Rattle.tcc.specs.Flags.{isEnd}

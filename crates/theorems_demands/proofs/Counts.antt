@@ -15,8 +15,8 @@ use Rattle.trie_pool.proofs.Listing.{word-count}
 use Rattle.trie_pool.proofs.With.{nodes-with}
 use Rattle.trie_pool.proofs.Number.{one-number}
 use Rattle.trie_check.proofs.Parts.{held-is}
-use Rattle.trie_char.specs.Refusals.{nodesWith}
-use Rattle.trie_char.specs.Answers.{wordsOf}
+use Rattle.trie_char_answers.specs.Refusals.{nodesWith}
+use Rattle.trie_char_answers.specs.Answers.{wordsOf}
 
 -- The word count: the number that the contract of `amount_of_words` gives is the number of words
 -- held.

@@ -15,7 +15,7 @@ use Rattle.tcc.proofs.Deciding.{order}
 use Rattle.tcc_tables.specs.Answers.{winnersCauses}
 use Rattle.trie_pool.specs.Meaning.{meaning}
 use Rattle.trie_check.specs.Refusals.{poolCauses, readCauses}
-use Rattle.trie_char.specs.Refusals.{prefixCauses, removeCauses, addCauses, freshCauses}
+use Rattle.trie_char_answers.specs.Refusals.{prefixCauses, removeCauses, addCauses, freshCauses}
 use Rattle.newmm_rules.specs.declared.Mode.{Mode}
 use Rattle.newmm_answers.specs.Answers.{cutCauses}
 use Rattle.newmm_claim.specs.Answers.{claimCauses}

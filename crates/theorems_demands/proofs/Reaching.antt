@@ -5,7 +5,7 @@ use mathlib.Core.Path.{_≡_, refl, sym, _∙_, ap, subst}
 use mathlib.Core.Bool.{true}
 use mathlib.Core.List.{List}
 use mathlib.Core.Option.{Option, some}
-use Rattle.char_string.specs.Blanks.{trimmedOf}
+use Rattle.char_string_trim.specs.Trimming.{trimmedOf}
 use Rattle.trie_pool.specs.Cells.{used}
 use Rattle.trie_pool.specs.Words.{holds}
 use Rattle.trie_pool.specs.Rules.{cellsOf, isDictionary}

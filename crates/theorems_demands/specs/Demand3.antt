@@ -8,10 +8,10 @@ use mathlib.Core.Option.{some}
 use lib.ListN.{length, take}
 use Rattle.refusal.specs.declared.Answer.{Answer}
 use Rattle.refusal.specs.declared.Answer.the-variants.{Accepted}
-use Rattle.char_string.specs.Blanks.{trimmedOf}
+use Rattle.char_string_trim.specs.Trimming.{trimmedOf}
 use Rattle.trie_pool.specs.Meaning.{Words, Terms, wordsIn, meaning, noTerm, withTerm, withoutTerm}
-use Rattle.trie_char.specs.Answers.{freshAnswer, addAnswer, added, removeAnswer, removed}
-use Rattle.trie_char.specs.Changes.{After}
+use Rattle.trie_char_answers.specs.Answers.{freshAnswer, addAnswer, added, removeAnswer, removed}
+use Rattle.trie_char_answers.specs.Changes.{After}
 use Rattle.newmm_answers.specs.declared.CutAnswer.the-variants.{Ends}
 use Rattle.newmm_answers.specs.Answers.{scratchFor}
 use Rattle.newmm_answers.specs.Calls.{Call, answerOf, outOf}

@@ -12,13 +12,13 @@ use Rattle.trie_char.proofs.add_class.Kinds as add-class-kinds
 use Rattle.trie_char.proofs.add_class.Reads as add-class-contract
 use Rattle.trie_char.proofs.remove.Kinds as remove-kinds
 use Rattle.trie_char.proofs.remove.Reads as remove-contract
-use Rattle.trie_char.proofs.contain.Kinds as contain-kinds
-use Rattle.trie_char.proofs.contain.Reads as contain-contract
-use Rattle.trie_char.proofs.prefix_lengths.Kinds as prefix-lengths-kinds
-use Rattle.trie_char.proofs.prefix_lengths.Reads as prefix-lengths-contract
-use Rattle.trie_char.proofs.amount_of_words.Kinds as amount-of-words-kinds
-use Rattle.trie_char.proofs.amount_of_words.Reads as amount-of-words-contract
-use Rattle.trie_char.specs.declared.WordAnswer.{WordAnswer}
+use Rattle.trie_char_read.proofs.contain.Kinds as contain-kinds
+use Rattle.trie_char_read.proofs.contain.Reads as contain-contract
+use Rattle.trie_char_read.proofs.prefix_lengths.Kinds as prefix-lengths-kinds
+use Rattle.trie_char_read.proofs.prefix_lengths.Reads as prefix-lengths-contract
+use Rattle.trie_char_read.proofs.amount_of_words.Kinds as amount-of-words-kinds
+use Rattle.trie_char_read.proofs.amount_of_words.Reads as amount-of-words-contract
+use Rattle.trie_char_answers.specs.declared.WordAnswer.{WordAnswer}
 use Rattle.theorems_one_answer.specs.OneAnswer.{OneAnswer}
 use Rattle.theorems_one_answer.proofs.Shapes.{answer, answer-and-output, answer-and-pool}
 

@@ -47,8 +47,8 @@ use Rattle.fetlockice.proofs.fetlockice_breaks_up_to.Reads as breaks-up-to-cont
 use Rattle.fetlockice.proofs.fetlockice_next_break.Kinds as next-break-kinds
 use Rattle.fetlockice.proofs.fetlockice_next_break.Reads as next-break-contract
 use Rattle.trie_pool.specs.Meaning.{noTerm}
-use Rattle.trie_char.proofs.One.{one-after}
-use Rattle.trie_char.specs.Answers.{freshAnswer, addAnswer, removeAnswer, added, removed}
+use Rattle.trie_char_answers.proofs.One.{one-after}
+use Rattle.trie_char_answers.specs.Answers.{freshAnswer, addAnswer, removeAnswer, added, removed}
 use Rattle.host_telling.specs.Told.{Told, told, toldCut}
 use Rattle.host_texts.specs.Calls.{ToldEnd, toldEnd}
 use Rattle.host_claims.specs.Calls.{ToldClaim, toldClaim}

@@ -6,8 +6,8 @@ use lib.ListN.{length}
 use Rattle.refusal.specs.declared.Answer.{Answer}
 use Rattle.refusal.specs.Answers.{output}
 use Rattle.trie_pool.specs.Meaning.{Terms}
-use Rattle.trie_char.specs.Changes.{After}
-use Rattle.trie_char.proofs.One.{one-after}
+use Rattle.trie_char_answers.specs.Changes.{After}
+use Rattle.trie_char_answers.proofs.One.{one-after}
 
 -- an answer by an equation
 pub answer : {A : Type 0} {x y a : A} → x ≡ a → y ≡ a → x ≡ y

@@ -3,8 +3,8 @@ use Prim.Native.Nat.{ℕ}
 use mathlib.Core.Path.{_≡_, sym, _∙_}
 use mathlib.Core.List.{List}
 use Rattle.utf8.specs.Decoding.{scalarsOf, Room}
-use Rattle.trie_char.specs.Answers.{added, removed}
-use Rattle.trie_char.proofs.One.{one-after}
+use Rattle.trie_char_answers.specs.Answers.{added, removed}
+use Rattle.trie_char_answers.proofs.One.{one-after}
 use Rattle.sheet_input.specs.declared.Fed.{Fed}
 use Rattle.sheet_replies.specs.declared.Asked.{Asked}
 use Rattle.sheet_replies.specs.declared.Asked.the-variants.{Nothing, Add, Remove, Cut}

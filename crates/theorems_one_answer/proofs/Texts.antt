@@ -1,12 +1,12 @@
 -- Texts: which cells are scalars, parts of a text, trimming. Assumes nothing.
 use Prim.Native.Nat.{ℕ}
 use mathlib.Core.List.{List}
-use Rattle.char_string.proofs.is_scalar.Kinds as is-scalar-kinds
-use Rattle.char_string.proofs.is_scalar.Reads as is-scalar-contract
-use Rattle.char_string.proofs.first_non_scalar.Kinds as first-non-scalar-kinds
-use Rattle.char_string.proofs.first_non_scalar.Reads as first-non-scalar-contract
-use Rattle.char_string.proofs.check_text.Kinds as check-text-kinds
-use Rattle.char_string.proofs.check_text.Reads as check-text-contract
+use Rattle.char_string_scalars.proofs.is_scalar.Kinds as is-scalar-kinds
+use Rattle.char_string_scalars.proofs.is_scalar.Reads as is-scalar-contract
+use Rattle.char_string_scalars.proofs.first_non_scalar.Kinds as first-non-scalar-kinds
+use Rattle.char_string_scalars.proofs.first_non_scalar.Reads as first-non-scalar-contract
+use Rattle.char_string_scalars.proofs.check_text.Kinds as check-text-kinds
+use Rattle.char_string_scalars.proofs.check_text.Reads as check-text-contract
 use Rattle.char_string.proofs.is_substring.Kinds as is-substring-kinds
 use Rattle.char_string.proofs.is_substring.Reads as is-substring-contract
 use Rattle.char_string.proofs.fit.Kinds as fit-kinds
@@ -19,14 +19,14 @@ use Rattle.char_string.proofs.get_char_at.Kinds as get-char-at-kinds
 use Rattle.char_string.proofs.get_char_at.Reads as get-char-at-contract
 use Rattle.char_string.proofs.sub_view.Kinds as sub-view-kinds
 use Rattle.char_string.proofs.sub_view.Reads as sub-view-contract
-use Rattle.char_string.proofs.is_trimmed.Kinds as is-trimmed-kinds
-use Rattle.char_string.proofs.is_trimmed.Reads as is-trimmed-contract
-use Rattle.char_string.proofs.trim.Kinds as trim-kinds
-use Rattle.char_string.proofs.trim.Reads as trim-contract
-use Rattle.char_string.proofs.trimmed.Kinds as trimmed-kinds
-use Rattle.char_string.proofs.trimmed.Reads as trimmed-contract
-use Rattle.char_string.proofs.rfind_space_char_index.Kinds as rfind-space-char-index-kinds
-use Rattle.char_string.proofs.rfind_space_char_index.Reads as rfind-space-char-index-contract
+use Rattle.char_string_white_space.proofs.is_trimmed.Kinds as is-trimmed-kinds
+use Rattle.char_string_white_space.proofs.is_trimmed.Reads as is-trimmed-contract
+use Rattle.char_string_trim.proofs.trim.Kinds as trim-kinds
+use Rattle.char_string_trim.proofs.trim.Reads as trim-contract
+use Rattle.char_string_trim.proofs.trimmed.Kinds as trimmed-kinds
+use Rattle.char_string_trim.proofs.trimmed.Reads as trimmed-contract
+use Rattle.char_string_last_space.proofs.rfind_space_char_index.Kinds as rfind-space-char-index-kinds
+use Rattle.char_string_last_space.proofs.rfind_space_char_index.Reads as rfind-space-char-index-contract
 use Rattle.theorems_one_answer.specs.OneAnswer.{OneAnswer}
 use Rattle.theorems_one_answer.proofs.Shapes.{answer, both}
 

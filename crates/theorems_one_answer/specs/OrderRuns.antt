@@ -20,7 +20,7 @@ use Rattle.refusal.specs.declared.Answer.{Answer}
 use Rattle.refusal.specs.declared.Answer.the-variants.{Accepted}
 use Rattle.trie_pool.specs.Rules.{isDictionary}
 use Rattle.trie_pool.specs.Meaning.{Terms, terms}
-use Rattle.trie_char.specs.Answers.{termsOf}
+use Rattle.trie_char_answers.specs.Answers.{termsOf}
 use Rattle.theorems_order.specs.Order.{Edit, add, remove, wordOf, Apart, Joined, adds, HoldsUnion}
 use Rattle.theorems_one_answer.specs.Runs.{Run, callOf, SameAnswers}
 

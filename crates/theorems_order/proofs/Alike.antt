@@ -14,8 +14,8 @@ use Rattle.trie_pool.proofs.Terms.{means-of}
 use Rattle.trie_pool.proofs.Listing.{word-count}
 use Rattle.trie_check.specs.Refusals.{held, heldTerms, poolCauses, readCauses}
 use Rattle.trie_check.proofs.Parts.{held-is, terms-known}
-use Rattle.trie_char.specs.Refusals.{prefixCauses}
-use Rattle.trie_char.specs.Answers.{wordsOf, toldTerm}
+use Rattle.trie_char_answers.specs.Refusals.{prefixCauses}
+use Rattle.trie_char_answers.specs.Answers.{wordsOf, toldTerm}
 use Rattle.theorems_demands.proofs.Counts.{amount-is}
 use Rattle.theorems_demands.proofs.Demand3.{demand-3-any}
 use Rattle.theorems_order.specs.Order.{SameAnswers}

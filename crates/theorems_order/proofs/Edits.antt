@@ -8,7 +8,7 @@ use mathlib.Core.List.{List, [], _∷_}
 use mathlib.Core.Logic.{_⊎_, inl, inr}
 use mathlib.Core.Option.{Option, none, some}
 use lib.ListN.{length}
-use Rattle.char_string.specs.Blanks.{trimmedOf}
+use Rattle.char_string_trim.specs.Trimming.{trimmedOf}
 use Rattle.trie_pool.specs.Listing.{Member}
 use Rattle.trie_pool.specs.Meaning.{Terms, same, withTerm, withoutTerm, differ, reportTerm}
 use Rattle.trie_pool.proofs.Rules.{clash}

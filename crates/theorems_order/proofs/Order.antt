@@ -11,7 +11,7 @@ use lib.ListN.{length, drop}
 use Rattle.refusal.specs.declared.Answer.{Answer}
 use Rattle.refusal.specs.declared.Answer.the-variants.{Accepted}
 use Rattle.refusal.proofs.Causes.{none-of}
-use Rattle.char_string.specs.Blanks.{trimmedOf}
+use Rattle.char_string_trim.specs.Trimming.{trimmedOf}
 use Rattle.trie_pool.specs.Cells.{used, markAt}
 use Rattle.trie_pool.specs.Words.{Place, none, at, on-place, child, walk, term, termAt, lacking}
 use Rattle.trie_pool.specs.Rules.{capacity, cellsOf, isDictionary}
@@ -21,11 +21,11 @@ use Rattle.trie_pool.proofs.Terms.{means-of}
 use Rattle.trie_pool.proofs.Sets.{no-change}
 use Rattle.trie_check.specs.Refusals.{isNone, heldTerms}
 use Rattle.trie_check.proofs.Parts.{terms-known, terms-is, long}
-use Rattle.trie_char.specs.Refusals.{nodesWith, addCauses, removeCauses}
-use Rattle.trie_char.specs.Answers.{termsOf, addAnswer, removeAnswer}
-use Rattle.trie_char.specs.Changes.{Became, After}
-use Rattle.trie_char.proofs.Changing.{stayed}
-use Rattle.trie_char.proofs.One.{one-became}
+use Rattle.trie_char_answers.specs.Refusals.{nodesWith, addCauses, removeCauses}
+use Rattle.trie_char_answers.specs.Answers.{termsOf, addAnswer, removeAnswer}
+use Rattle.trie_char_answers.specs.Changes.{Became, After}
+use Rattle.trie_char_answers.proofs.Changing.{stayed}
+use Rattle.trie_char_answers.proofs.One.{one-became}
 use Rattle.newmm_answers.proofs.Told.{accepted-is}
 use Rattle.theorems_demands.specs.Demand3.{Freshened}
 use Rattle.theorems_demands.proofs.Demand3.{all-pass}

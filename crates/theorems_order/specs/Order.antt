@@ -10,11 +10,11 @@ use mathlib.Core.Logic.{_⊎_}
 use lib.ListN.{length}
 use Rattle.refusal.specs.declared.Answer.{Answer}
 use Rattle.refusal.specs.declared.Answer.the-variants.{Accepted}
-use Rattle.char_string.specs.Blanks.{trimmedOf}
+use Rattle.char_string_trim.specs.Trimming.{trimmedOf}
 use Rattle.trie_pool.specs.Rules.{isDictionary}
 use Rattle.trie_pool.specs.Listing.{Member}
 use Rattle.trie_pool.specs.Meaning.{Terms, terms}
-use Rattle.trie_char.specs.Answers.{termsOf, containsAnswer, prefixes, prefixesAnswer, wordCountAnswer}
+use Rattle.trie_char_answers.specs.Answers.{termsOf, containsAnswer, prefixes, prefixesAnswer, wordCountAnswer}
 use Rattle.newmm_answers.specs.Calls.{Call}
 use Rattle.theorems_demands.specs.Demand3.{Freshened, Added, Taken, SameAnswer}
 

@@ -4,7 +4,7 @@ use mathlib.Core.Path.{_≡_}
 use mathlib.Core.Bool.{true}
 use mathlib.Core.List.{List}
 use lib.ListN.{length, getD}
-use Rattle.char_string.specs.declared.parts.Span.{Span}
+use Rattle.char_string.specs.declared.Span.{Span}
 use Rattle.char_string.specs.Parts.{between}
 use Rattle.utf8_sequences.specs.Utf8.{encode, Utf8}
 use Rattle.utf8.specs.Decoding.{runAll, scalarsOf}

@@ -5,17 +5,17 @@ use Prim.Native.Nat.{ℕ, suc, _+_, _-_, _*_, _≤_, _<_}
 use native.Mathlib.Omega.{arith}
 use native.Mathlib.Decide.{decLt}
 use lib.ListN.{length, getD, drop, set, drop-of-length-le}
-use Rattle.char_string.specs.Blanks.{isTrimmed}
+use Rattle.char_string_white_space.specs.Trimmed.{isTrimmed}
 use Rattle.trie_pool.specs.Cells.{scalarAt, firstAt, countAt, markAt, used}
 use Rattle.trie_pool.specs.inner.Paths.{reach, rev}
 use Rattle.trie_pool.specs.inner.Sound.{Shaped, Sound}
 use Rattle.trie_pool.specs.Words.{lacking, none, at, on-place, scan, child, term, termAt}
-use Rattle.trie_search.specs.inner.Search.{Sought}
+use Rattle.trie_child.specs.inner.Search.{Sought}
 use Rattle.trie_leaf.specs.inner.Planting.{Room, Plants, Planted, Beside}
 use Rattle.trie_change.specs.inner.Adding.{Enters, Entered, stayed, grew, Puts, PutIn}
 use Rattle.trie_pool.proofs.Lists.{drop-next}
 use Rattle.trie_pool.proofs.Shape.{within, reach-within, child-found, step, child-after, first-is, count-is, climb}
-use Rattle.trie_search.proofs.Finding.{past, other, found}
+use Rattle.trie_child.proofs.Finding.{past, other, found}
 use Rattle.trie_leaf.proofs.Leaf.{same-terms, child-lack}
 use Rattle.trie_leaf.proofs.Keep.{reach-new, sound′}
 use Rattle.trie_change.proofs.Mark.{held, others, beside, sound-marked}

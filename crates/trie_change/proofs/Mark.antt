@@ -19,7 +19,7 @@ use mathlib.Core.Option as option
 use Rattle.trie_pool.proofs.Shape.{refit, mark-is, walk-reach, one-path, walk-is, rev-rev, on-at}
 use Rattle.trie_pool.proofs.Held.{root-mark}
 use Rattle.trie_leaf.specs.inner.Planting.{Beside}
-use Rattle.char_string.specs.Blanks.{isTrimmed}
+use Rattle.char_string_white_space.specs.Trimmed.{isTrimmed}
 
 module _ (p : List ℕ) (i m : ℕ) (l : 8 * i + 3 < length p) (past : 0 < i) where
   abbrev q : List ℕ

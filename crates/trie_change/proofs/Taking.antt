@@ -11,12 +11,12 @@ use Rattle.trie_pool.specs.inner.Paths.{reach, rev}
 use Rattle.trie_pool.specs.inner.Sound.{Shaped, Readable, Spare, Rising, Sound}
 use Rattle.trie_pool.specs.Words.{none, at, on-place, child, walk, term, termAt}
 use mathlib.Core.Option as option
-use Rattle.trie_search.specs.inner.Search.{toPlace}
+use Rattle.trie_child.specs.inner.Search.{toPlace}
 use Rattle.trie_leaf.specs.inner.Planting.{Beside}
 use Rattle.trie_leaf.specs.inner.Plucking.{Plucks, Plucked}
 use Rattle.trie_change.specs.inner.Taking.{Prunes, Pruned, Removes, Removed}
-use Rattle.trie_search.specs.declared.search.Kid.{Kid}
-use Rattle.trie_search.specs.declared.search.Kid.the-variants.{Nothing, Is}
+use Rattle.trie_child.specs.declared.Kid.{Kid}
+use Rattle.trie_child.specs.declared.Kid.the-variants.{Nothing, Is}
 use Rattle.trie_pool.proofs.Shape.{within, reach-within, child-found, child-after, walk-reach, count-is, mark-is}
 use Rattle.trie_leaf.proofs.Leaf.{sh, sh-low, sh-high}
 use Rattle.trie_leaf.proofs.Gone.{back, sound′, terms′}

@@ -1,12 +1,12 @@
 // Putting a word in.
 use cells::wide;
+use trie_child::seek;
 use trie_leaf::plant;
 use trie_pool::COUNT;
 use trie_pool::FIRST;
 use trie_pool::IN_USE;
 use trie_pool::MARK;
 use trie_pool::NODE;
-use trie_search::seek;
 ghost use Rattle.trie_change.specs.inner.Adding.{Enters, Entered, Puts, PutIn};
 
 // The child of b with scalar x, made if there is none.

@@ -1,12 +1,12 @@
 // Taking a word out.
 use cells::wide;
+use trie_child::Kid;
+use trie_child::find_child;
 use trie_leaf::pluck;
 use trie_pool::COUNT;
 use trie_pool::IN_USE;
 use trie_pool::MARK;
 use trie_pool::NODE;
-use trie_search::Kid;
-use trie_search::find_child;
 ghost use mathlib.Core.Path.{_≡_};
 ghost use mathlib.Core.List.{List};
 ghost use Prim.Native.Nat.{ℕ};

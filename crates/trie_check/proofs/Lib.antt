@@ -1,4 +1,2 @@
-pub mod Decide
-pub mod Whole
 pub mod Refusals
 pub mod Parts

@@ -12,7 +12,7 @@ use Rattle.refusal.specs.declared.Answer.{Answer}
 use Rattle.refusal.specs.declared.Answer.the-variants.{Accepted, Refused}
 use Rattle.refusal.specs.Answers.{answer}
 use Rattle.refusal.proofs.Causes.{none-of, handed, cause-yes, cause-kept}
-use Rattle.char_string.specs.Scalars.{firstNonScalar, textCauses, checked}
+use Rattle.char_string_scalars.specs.Scalars.{firstNonScalar, textCauses, checked}
 use Rattle.trie_pool.specs.Meaning.{Words}
 use Rattle.trie_check.specs.Refusals.{isNone, poolCauses, readCauses}
 

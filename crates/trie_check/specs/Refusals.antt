@@ -5,7 +5,7 @@ use mathlib.Core.List.{List, [], _∷_, _++_}
 use mathlib.Core.Option.{Option, none, some}
 use Rattle.refusal.specs.Answers.{Cause}
 use Rattle.refusal.specs.declared.Refusal.the-variants.{NotADictionary}
-use Rattle.char_string.specs.Scalars.{textCauses}
+use Rattle.char_string_scalars.specs.Scalars.{textCauses}
 use Rattle.trie_pool.specs.Meaning.{Words, noWord, Terms, noTerm}
 
 abbrev pub isNone : Option Words → Bool

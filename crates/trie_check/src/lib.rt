@@ -1,13 +1,11 @@
 // A pool as it is lent: which of its cells are read and written, whether it is a dictionary, and
 // the refusals that every operation on a text and a pool gives.
-mod rules;
-
-use crate::rules::well_formed;
-use char_string::check_text;
+use char_string_scalars::check_text;
 use refusal::Answer;
 use refusal::Refusal;
 use trie_pool::MAX_NODES;
 use trie_pool::NODE;
+use trie_well_formed::well_formed;
 ghost use mathlib.Core.Path.{_≡_};
 ghost use Prim.Native.Nat.{_/_, min};
 ghost use lib.ListN.{length};

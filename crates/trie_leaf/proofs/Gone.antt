@@ -18,7 +18,7 @@ use Rattle.trie_pool.proofs.Shape.{refit, apart, within, Step, step, child-foun
 use Rattle.trie_pool.proofs.Level.{ends-mono, level-high, level-low}
 use Rattle.trie_leaf.proofs.Leaf.{sh, sh-low, sh-high, moved, child-new, child-moved, same-terms}
 use Rattle.trie_leaf.proofs.Keep.{ends-high, level-above, reach-new}
-use Rattle.char_string.specs.Blanks.{isTrimmed}
+use Rattle.char_string_white_space.specs.Trimmed.{isTrimmed}
 
 -- q is p without the leaf j
 module _ (p q : List ℕ) (m b j : ℕ) (s : Shaped p (suc m)) (parent : b < suc m) (from : firstAt p b ≤ j) (upto : j < firstAt p b + countAt p b) (h : Planted q p m b j (scalarAt p j)) where

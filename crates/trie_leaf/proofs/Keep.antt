@@ -15,8 +15,8 @@ use Rattle.trie_leaf.specs.inner.Planting.{Room, Planted}
 use Rattle.trie_pool.proofs.Shape.{refit, apart, within, step, reach-within}
 use Rattle.trie_pool.proofs.Level.{hop-first, hop-stay, ends-zero, ends-suc, ends-upto, ends-mono, first-mono, block-before, level-high, level-low}
 use Rattle.trie_leaf.proofs.Leaf.{behind, sh, sh-low, moved, child-new, child-lack, child-moved}
-use Rattle.char_string.specs.Blanks.{isTrimmed}
-use Rattle.char_string.specs.Scalars.{isScalar}
+use Rattle.char_string_white_space.specs.Trimmed.{isTrimmed}
+use Rattle.char_string_scalars.specs.Scalars.{isScalar}
 
 -- a number is below j, or j, or one more than one that is not below j
 pub data Spot (j : ℕ) : ℕ → Type 0 where

@@ -10,8 +10,9 @@ use lib.ListN.{length, getD, take, drop, length-drop}
 use lib.Seq.{length-take-le, take-length, getD-take, getD-drop}
 use Rattle.lists.specs.Scans.{leading, behindLast}
 use Rattle.lists.proofs.Scans.{passed-none, passed-stop, left-all, left-stop, leading-inside, last-inside}
-use Rattle.char_string.specs.Scalars.{isScalar, firstNonScalar}
-use Rattle.char_string.specs.Blanks.{isTrimmed, stays, trimStart, trimmedOf}
+use Rattle.char_string_scalars.specs.Scalars.{isScalar, firstNonScalar}
+use Rattle.char_string_white_space.specs.Trimmed.{isTrimmed}
+use Rattle.char_string_trim.specs.Trimming.{stays, trimStart, trimmedOf}
 
 -- ---- where scans stop
 

@@ -8,8 +8,8 @@ use mathlib.Core.List.{List, [], _∷_}
 use borrow.Author.Tests.{ltb-true, leb-true, eqb-true, lt-ltb, le-leb, eq-eqb, not-true}
 use lib.Dec.{ltb, leb, eqb}
 use lib.ListN.{length, getD, List·getD-eq-default}
-use Rattle.char_string.specs.Scalars.{isScalar}
-use Rattle.char_string.specs.Blanks.{isTrimmed}
+use Rattle.char_string_scalars.specs.Scalars.{isScalar}
+use Rattle.char_string_white_space.specs.Trimmed.{isTrimmed}
 use Rattle.trie_pool.specs.Cells.{scalarAt, firstAt, countAt, markAt, classAt, used}
 use Rattle.trie_pool.specs.Words.{marked}
 use Rattle.trie_pool.specs.inner.Sound.{Shaped, Rising, Fit, Spare, Plain, Sound}

@@ -5,8 +5,8 @@ use mathlib.Core.List.{List, [], _∷_}
 use lib.Dec.{ltb, leb, eqb}
 use lib.ListN.{length, getD, take}
 use Rattle.refusal.specs.Limits.{maxWord, maxNodes}
-use Rattle.char_string.specs.Scalars.{isScalar}
-use Rattle.char_string.specs.Blanks.{isTrimmed}
+use Rattle.char_string_scalars.specs.Scalars.{isScalar}
+use Rattle.char_string_white_space.specs.Trimmed.{isTrimmed}
 use Rattle.trie_pool.specs.Cells.{nodeCells, maxClass, scalarAt, firstAt, countAt, markAt, classAt, used}
 use Rattle.trie_pool.specs.Words.{marked}
 use Rattle.trie_pool.specs.Levels.{levelEnd}

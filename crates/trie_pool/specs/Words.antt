@@ -7,8 +7,8 @@ use mathlib.Core.Option.{Option}
 use mathlib.Core.Option as option
 use lib.Dec.{ltb, eqb}
 use lib.ListN.{length, getD}
-use Rattle.char_string.specs.Scalars.{isScalar}
-use Rattle.char_string.specs.Blanks.{trimmedOf}
+use Rattle.char_string_scalars.specs.Scalars.{isScalar}
+use Rattle.char_string_trim.specs.Trimming.{trimmedOf}
 use Rattle.trie_pool.specs.Cells.{scalarAt, firstAt, countAt, markAt}
 
 -- A word of a dictionary: trimmed, and 1 to 255 scalar values long.

@@ -1,4 +1,2 @@
-pub mod Halving
-pub mod Nearing
-pub mod Finding
+pub mod Walking
 pub mod Prefixes

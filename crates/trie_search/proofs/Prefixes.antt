@@ -14,9 +14,10 @@ use Rattle.trie_pool.specs.Meaning.{lengthsFrom, prefixLengths}
 use Rattle.trie_pool.proofs.Lists.{drop-next}
 use Rattle.trie_pool.proofs.Shape.{walk-append, walk-more, mark-is}
 use Rattle.trie_pool.proofs.Walks.{child-past, readable-child}
-use Rattle.trie_search.specs.inner.Search.{toPlace, Wrote}
-use Rattle.trie_search.specs.declared.search.Kid.{Kid}
-use Rattle.trie_search.specs.declared.search.Kid.the-variants.{Nothing, Is}
+use Rattle.trie_child.specs.inner.Search.{toPlace}
+use Rattle.trie_child.specs.declared.Kid.{Kid}
+use Rattle.trie_child.specs.declared.Kid.the-variants.{Nothing, Is}
+use Rattle.trie_search.specs.inner.Search.{Wrote}
 
 -- the lengths of the words that the text goes on to from node b, where i characters have been read
 abbrev pub prefixes : List ℕ → List ℕ → ℕ → ℕ → List ℕ

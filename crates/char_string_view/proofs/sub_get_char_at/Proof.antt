@@ -37,10 +37,10 @@ use denote.Triple.Table.{entered, cited}
 use denote.Triple.Walked.{says, Stays, stay-none, stay-none-slice, walkOf, goes-none, goes-none-slice, Walks, ends-at, walked, walk-meets}
 use denote.Exit.{yes}
 use denote.Triple.Clauses.{ensured, lasts}
-use Rattle.char_string.specs.declared.parts.CharAt.{CharAt}
+use Rattle.char_string.specs.declared.CharAt.{CharAt}
 use Rattle.char_string.specs.Parts.{partOf, charAt}
-use Rattle.char_string.proofs.parts.CharAt as S
-use Rattle.char_string.proofs.parts.CharAt.Laws as S′
+use Rattle.char_string.proofs.CharAt as S
+use Rattle.char_string.proofs.CharAt.Laws as S′
 use Rattle.char_string_view.specs.declared.CharView.{CharView}
 use Rattle.char_string_view.specs.Views.{viewOf, shown, subViewOf}
 use Rattle.char_string_view.proofs.Held.{Row, Local, Local-laws, Fits, numbers, made}

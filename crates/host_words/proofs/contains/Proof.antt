@@ -9,7 +9,7 @@ use Rattle.host_words.proofs.contains.Reads as reads
 use Rattle.host_words.proofs.contains.Lts as lts
 use Rattle.host_telling.proofs.tell.Reads as tell-reads
 use Rattle.host_words.proofs.held.Reads as held-reads
-use Rattle.trie_char.proofs.contain.Reads as contain-reads
+use Rattle.trie_char_read.proofs.contain.Reads as contain-reads
 
 contain-requires : tie.Need-contain-requires
 contain-requires c κs = search needs

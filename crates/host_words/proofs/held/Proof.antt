@@ -1,7 +1,7 @@
 -- Assumes nothing.
 use mathlib.Core.Path.{sym, ap}
 use Rattle.refusal.specs.declared.Answer.{Answer}
-use Rattle.trie_char.specs.declared.WordAnswer.{WordAnswer}
+use Rattle.trie_char_answers.specs.declared.WordAnswer.{WordAnswer}
 use Rattle.host_words.specs.Calls.{heldAnswer}
 use borrow.Author.Needs.{needs}
 use Rattle.host_words.proofs.held.Statement.{statement}

@@ -6,7 +6,7 @@ use Rattle.host_words.proofs.prefix_lengths.Tie as tie
 use Rattle.host_words.proofs.prefix_lengths.Reads as reads
 use Rattle.host_words.proofs.prefix_lengths.Lts as lts
 use Rattle.host_telling.proofs.tell.Reads as tell-reads
-use Rattle.trie_char.proofs.prefix_lengths.Reads as prefix-lengths-reads
+use Rattle.trie_char_read.proofs.prefix_lengths.Reads as prefix-lengths-reads
 
 prefix-lengths-requires : tie.Need-prefix-lengths-requires
 prefix-lengths-requires c κs = search needs

@@ -6,7 +6,7 @@ use Rattle.host_words.proofs.word_count.Tie as tie
 use Rattle.host_words.proofs.word_count.Reads as reads
 use Rattle.host_words.proofs.word_count.Lts as lts
 use Rattle.host_telling.proofs.tell.Reads as tell-reads
-use Rattle.trie_char.proofs.amount_of_words.Reads as amount-of-words-reads
+use Rattle.trie_char_read.proofs.amount_of_words.Reads as amount-of-words-reads
 
 amount-of-words-requires : tie.Need-amount-of-words-requires
 amount-of-words-requires c κs = search needs

@@ -15,7 +15,7 @@ use Rattle.newmm_many.proofs.check_known.Statement.{statement}
 use Rattle.newmm_many.proofs.check_known.Tie as tie
 use Rattle.newmm_many.proofs.check_known.Reads as reads
 use Rattle.newmm_many.proofs.check_known.Lts as lts
-use Rattle.char_string.proofs.check_text.Reads as check-text-reads
+use Rattle.char_string_scalars.proofs.check_text.Reads as check-text-reads
 use Rattle.newmm_answers.proofs.scratch_for.Reads as scratch-for-reads
 
 -- a text and a pool that none of the refusals 2, 3 and 4 is due to

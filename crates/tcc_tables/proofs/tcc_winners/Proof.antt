@@ -11,7 +11,7 @@ use Rattle.tcc_tables.proofs.tcc_winners.Statement.{statement}
 use Rattle.tcc_tables.proofs.tcc_winners.Tie as tie
 use Rattle.tcc_tables.proofs.tcc_winners.Reads as reads
 use Rattle.tcc_tables.proofs.tcc_winners.Lts as lts
-use Rattle.char_string.proofs.check_text.Reads as check-text-reads
+use Rattle.char_string_scalars.proofs.check_text.Reads as check-text-reads
 use Rattle.tcc_tables.proofs.told_by.Reads as told-by-reads
 
 check-text-requires : tie.Need-check-text-requires

@@ -6,8 +6,8 @@ use mathlib.Core.Bool.{Bool, true, false}
 use mathlib.Core.List.{List}
 use lib.ListN.{length, getD}
 use Rattle.refusal.specs.Limits.{maxWord, maxNodes}
-use Rattle.char_string.specs.Scalars.{isScalar}
-use Rattle.char_string.specs.Blanks.{isTrimmed}
+use Rattle.char_string_scalars.specs.Scalars.{isScalar}
+use Rattle.char_string_white_space.specs.Trimmed.{isTrimmed}
 use Rattle.trie_pool.specs.Cells.{maxClass, scalarAt, firstAt, countAt, markAt}
 use Rattle.trie_pool.specs.Levels.{levelEnd}
 

@@ -37,10 +37,10 @@ use denote.Triple.Table.{entered, cited}
 use denote.Triple.Walked.{says, Stays, stay-none, walkOf, goes-none, Walks, ends-at, walked, walk-meets}
 use denote.Exit.{yes}
 use denote.Triple.Clauses.{ensured, lasts}
-use Rattle.char_string.specs.declared.parts.CharAt.{CharAt}
+use Rattle.char_string.specs.declared.CharAt.{CharAt}
 use Rattle.char_string.specs.Parts.{charAt}
-use Rattle.char_string.proofs.parts.CharAt as S
-use Rattle.char_string.proofs.parts.CharAt.Laws as S′
+use Rattle.char_string.proofs.CharAt as S
+use Rattle.char_string.proofs.CharAt.Laws as S′
 use Rattle.char_string.proofs.get_char_at as callee
 use Rattle.char_string.proofs.get_char_at.Symbol as callee-def
 use Rattle.char_string.proofs.get_char_at.Symbol.{name as #callee}

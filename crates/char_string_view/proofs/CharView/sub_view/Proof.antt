@@ -38,10 +38,10 @@ use denote.Triple.Table.{entered, cited}
 use denote.Triple.Walked.{says, Stays, stay-none, walkOf, goes-none, Walks, ends-at, walked, walk-meets}
 use denote.Exit.{yes}
 use denote.Triple.Clauses.{ensured, lasts}
-use Rattle.char_string.specs.declared.parts.Span.{Span}
+use Rattle.char_string.specs.declared.Span.{Span}
 use Rattle.char_string.specs.Parts.{subView}
-use Rattle.char_string.proofs.parts.Span as S
-use Rattle.char_string.proofs.parts.Span.Laws as S′
+use Rattle.char_string.proofs.Span as S
+use Rattle.char_string.proofs.Span.Laws as S′
 use Rattle.char_string.proofs.sub_view as callee
 use Rattle.char_string.proofs.sub_view.Symbol as callee-def
 use Rattle.char_string.proofs.sub_view.Symbol.{name as #callee}

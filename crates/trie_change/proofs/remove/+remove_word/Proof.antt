@@ -9,7 +9,7 @@ use borrow.Fn.PlainCycle.{Measures, is, falls, and}
 use Rattle.trie_change.proofs.remove.remove_word.Reads as remove-word
 use Rattle.trie_change.proofs.remove.remove_word.Kinds as remove-word-kinds
 use Rattle.trie_change.proofs.remove.+remove_word.Lts-remove_word as remove-word-lts
-use Rattle.trie_search.proofs.find_child.Reads as find-child-reads
+use Rattle.trie_child.proofs.find_child.Reads as find-child-reads
 use Rattle.trie_change.proofs.remove.prune.Reads as prune-reads
 use Rattle.trie_change.proofs.remove.+remove_word.{statement}
 use Rattle.trie_change.proofs.remove.+remove_word.Tie.{close}

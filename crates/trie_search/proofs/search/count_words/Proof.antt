@@ -1,7 +1,7 @@
 -- Assumes nothing.
 use Prim.Native.Nat.{_-_}
 use native.Mathlib.Omega.{arith}
-use Rattle.trie_search.proofs.Finding.{Tallied, tallied-root, tallied-all, tallied-more, tallied-on}
+use Rattle.trie_search.proofs.Walking.{Tallied, tallied-root, tallied-all, tallied-more, tallied-on}
 use borrow.Author.Needs.{needs}
 use Rattle.trie_search.proofs.search.count_words.Statement.{statement}
 use Rattle.trie_search.proofs.search.count_words.Tie as tie

@@ -1,5 +1,5 @@
 -- Assumes nothing.
-use Rattle.trie_search.proofs.Finding.{reads-mark}
+use Rattle.trie_search.proofs.Walking.{reads-mark}
 use borrow.Author.Needs.{needs}
 use Rattle.trie_search.proofs.search.ends_word.Statement.{statement}
 use Rattle.trie_search.proofs.search.ends_word.Tie as tie

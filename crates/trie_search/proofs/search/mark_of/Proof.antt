@@ -2,13 +2,13 @@
 use Prim.Native.Nat.{_-_}
 use native.Mathlib.Omega.{arith}
 use lib.ListN.{length}
-use Rattle.trie_search.proofs.Finding.{Inv, begun, empty, lost, step, ended}
+use Rattle.trie_search.proofs.Walking.{Inv, begun, empty, lost, step, ended}
 use borrow.Author.Needs.{needs}
 use Rattle.trie_search.proofs.search.mark_of.Statement.{statement}
 use Rattle.trie_search.proofs.search.mark_of.Tie as tie
 use Rattle.trie_search.proofs.search.mark_of.Reads as reads
 use Rattle.trie_search.proofs.search.mark_of.Lts as lts
-use Rattle.trie_search.proofs.search.find_child.Reads as find-child-reads
+use Rattle.trie_child.proofs.find_child.Reads as find-child-reads
 
 abbrev Inv-loop : tie.InvT-loop
 Inv-loop p w i₀ t₀ i t = Inv p w i t

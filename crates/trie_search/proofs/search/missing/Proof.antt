@@ -3,7 +3,7 @@ use mathlib.Core.Path.{refl}
 use Prim.Native.Nat.{_-_}
 use native.Mathlib.Omega.{arith}
 use lib.ListN.{length}
-use Rattle.trie_search.proofs.Finding.{Counts, count-lost, count-step, count-ended}
+use Rattle.trie_search.proofs.Walking.{Counts, count-lost, count-step, count-ended}
 use borrow.Author.Needs.{needs}
 use Rattle.trie_search.proofs.search.missing.Statement.{statement}
 use Rattle.trie_search.proofs.search.missing.Tie as tie
