@@ -10,7 +10,7 @@ use Rattle.newmm_many.proofs.cut_texts.Statement.{statement}
 use Rattle.newmm_many.proofs.cut_texts.Tie as tie
 use Rattle.newmm_many.proofs.cut_texts.Reads as reads
 use Rattle.newmm_many.proofs.cut_texts.Lts as lts
-use Rattle.newmm_many.proofs.cut_next.Reads as cut-next-reads
+use Rattle.newmm_many_turn.proofs.cut_next.Reads as cut-next-reads
 use Rattle.newmm_many.proofs.position.Reads as position-reads
 use Rattle.newmm_many_answers.proofs.ends_told.Reads as ends-told-reads
 use Rattle.newmm_many_answers.proofs.put_answer.Reads as put-answer-reads

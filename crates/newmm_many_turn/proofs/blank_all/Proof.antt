@@ -1,10 +1,10 @@
 -- Assumes nothing.
 use Rattle.newmm.proofs.Calls.{cleared-all}
 use borrow.Author.Needs.{needs}
-use Rattle.newmm_many.proofs.blank_all.Statement.{statement}
-use Rattle.newmm_many.proofs.blank_all.Tie as tie
-use Rattle.newmm_many.proofs.blank_all.Reads as reads
-use Rattle.newmm_many.proofs.blank_all.Lts as lts
+use Rattle.newmm_many_turn.proofs.blank_all.Statement.{statement}
+use Rattle.newmm_many_turn.proofs.blank_all.Tie as tie
+use Rattle.newmm_many_turn.proofs.blank_all.Reads as reads
+use Rattle.newmm_many_turn.proofs.blank_all.Lts as lts
 use Rattle.cells.proofs.clear_first.Reads as clear-first-reads
 
 returns : tie.Need-returns

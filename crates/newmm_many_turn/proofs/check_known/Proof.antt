@@ -8,13 +8,13 @@ use Rattle.refusal.specs.Answers.{answer}
 use Rattle.trie_check.specs.Refusals.{readCauses}
 use Rattle.trie_check.proofs.Refusals.{check-text, check-pool, check-all}
 use Rattle.newmm_answers.proofs.Checks.{refused-early, short, refused-scratch, accepted-early}
-use Rattle.newmm_many.specs.inner.Rows.{knownAs}
-use Rattle.newmm_many.proofs.Known.{none-yes, none-no}
+use Rattle.newmm_many_turn.specs.inner.Knowing.{knownAs}
+use Rattle.newmm_many_turn.proofs.Known.{none-yes, none-no}
 use borrow.Author.Needs.{needs}
-use Rattle.newmm_many.proofs.check_known.Statement.{statement}
-use Rattle.newmm_many.proofs.check_known.Tie as tie
-use Rattle.newmm_many.proofs.check_known.Reads as reads
-use Rattle.newmm_many.proofs.check_known.Lts as lts
+use Rattle.newmm_many_turn.proofs.check_known.Statement.{statement}
+use Rattle.newmm_many_turn.proofs.check_known.Tie as tie
+use Rattle.newmm_many_turn.proofs.check_known.Reads as reads
+use Rattle.newmm_many_turn.proofs.check_known.Lts as lts
 use Rattle.char_string_scalars.proofs.check_text.Reads as check-text-reads
 use Rattle.newmm_answers.proofs.scratch_for.Reads as scratch-for-reads
 

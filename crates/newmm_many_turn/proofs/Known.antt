@@ -18,7 +18,7 @@ use Rattle.newmm_answers.specs.declared.CutAnswer.{CutAnswer}
 use Rattle.newmm_answers.specs.Answers.{scratchCauses, firstCauses, cleared}
 use Rattle.newmm_answers.specs.Calls.{call, Cuts}
 use Rattle.newmm_answers.specs.inner.Passing.{Passes, Blank}
-use Rattle.newmm_many.specs.inner.Rows.{knownAs}
+use Rattle.newmm_many_turn.specs.inner.Knowing.{knownAs}
 
 none-as : (b : Bool) → isNone (knownAs b) ≡ cond b false true
 none-as true = refl

@@ -3,15 +3,15 @@ use lib.ListN.{length}
 use Rattle.newmm_answers.specs.inner.Passing.{Passes}
 use Rattle.newmm_answers.proofs.Checks.{passes}
 use Rattle.newmm.proofs.Calls.{early-cuts, still-passes, now-blank, cleared-cuts}
-use Rattle.newmm_many.proofs.Known.{as-pool, left-blank}
+use Rattle.newmm_many_turn.proofs.Known.{as-pool, left-blank}
 use borrow.Author.Needs.{needs}
-use Rattle.newmm_many.proofs.cut_next.Statement.{statement}
-use Rattle.newmm_many.proofs.cut_next.Tie as tie
-use Rattle.newmm_many.proofs.cut_next.Reads as reads
-use Rattle.newmm_many.proofs.cut_next.Lts as lts
+use Rattle.newmm_many_turn.proofs.cut_next.Statement.{statement}
+use Rattle.newmm_many_turn.proofs.cut_next.Tie as tie
+use Rattle.newmm_many_turn.proofs.cut_next.Reads as reads
+use Rattle.newmm_many_turn.proofs.cut_next.Lts as lts
 use Rattle.newmm.proofs.cut_ready.Reads as cut-ready-reads
-use Rattle.newmm_many.proofs.blank_all.Reads as blank-all-reads
-use Rattle.newmm_many.proofs.check_known.Reads as check-known-reads
+use Rattle.newmm_many_turn.proofs.blank_all.Reads as blank-all-reads
+use Rattle.newmm_many_turn.proofs.check_known.Reads as check-known-reads
 
 -- a text that none of the refusals 2 to 5 is due to
 passed : (c : tie.After-blank-all)
