@@ -2,12 +2,16 @@
 
     python3 tests/make_char_string.py
 
-The independent model's lines for decode, trim, rspace and part are taken. A part line is taken twice: for the plain
-part, and for the view that is held in a struct.
+The independent model's lines for decode, trim, rspace and part are taken (vectors/model.txt), and those for decode with
+positions and for ends in bytes (vectors/positions.txt). A part line is taken twice: for the plain part, and for the view
+that is held in a struct.
 
 The other lines are made here. The expected side of each comes from Python's own UTF-8 codec: where bytes.decode
-fails, its `start` is where the first ill-formed sequence starts. Refusals are in document 01's order, 1, 2, 6.
-The model's lines are held to the same codec, and the script stops where the two differ.
+fails, its `start` is where the first ill-formed sequence starts; the positions come from the lengths of the characters'
+own encodings. Refusals are in the order of documents 01 and 02: 1, 2, 6 for the scalar row, 6 for the position row. The
+model's lines are held to the same codec, and the script stops where the two differ.
+
+A position row is spelled by its first cell and the steps between its cells, so that a long one is short.
 """
 import vectors
 
@@ -53,8 +57,25 @@ EDGES.append(bytes.fromhex("F4 90 80 80"))
 EDGES.extend(bytes.fromhex(s) for s in ("C1 BF", "E0 9F BF", "ED A0 80", "ED BF BF", "F0 8F BF BF"))
 
 
-def decoded(data, room):
-    """The answer of decode: `room` is the number of output cells, or `*`."""
+def positions(text):
+    """The byte position of each character and of the end."""
+    row = [0]
+    for c in text:
+        row.append(row[-1] + len(c.encode("utf-8")))
+    return row
+
+
+def steps(row):
+    """The first cell of a row, and how far each other is from the one before it."""
+    return [b - a for a, b in zip([0] + row, row)]
+
+
+def short(room, needed):
+    return room != "*" and int(room) < needed
+
+
+def decoded(data, room, places):
+    """The answer of decode: `room` is the number of output cells, `places` of position cells, or `*`."""
     try:
         text = data.decode("utf-8")
     except UnicodeDecodeError as error:
@@ -62,13 +83,26 @@ def decoded(data, room):
     n = len(text)
     if n > MAX_SCALARS:
         return "! 2 %d" % n
-    if room != "*" and int(room) < n:
+    if short(room, n):
         return "! 6 %d" % n
-    return "ok %d %s" % (n, vectors.cells([ord(c) for c in text]))
+    if short(places, n + 1):
+        return "! 6 %d" % (n + 1)
+    return "ok %d %s %s" % (n, vectors.cells([ord(c) for c in text]), vectors.cells(steps(positions(text))))
 
 
-def decode(data, room="*"):
-    return ["decode", vectors.hex_bytes(data), str(room)], decoded(data, room)
+def decode(data, room="*", places="*"):
+    return ["decode", vectors.hex_bytes(data), str(room), str(places)], decoded(data, room, places)
+
+
+def held(fields, given, made):
+    """Stops where the model has another answer than was made."""
+    if given != made:
+        raise SystemExit("the codec has %s: %s" % (made[:80], "\t".join(fields)[:80]))
+
+
+def scalars_alone(answer):
+    """The answer without its positions."""
+    return answer.rpartition(" ")[0] if answer.startswith("ok") else answer
 
 
 def given():
@@ -80,9 +114,50 @@ def given():
             yield fields, expected
             continue
         made = decode(vectors.parsed_bytes(fields[1]), fields[2])
-        if expected != made[1]:
-            raise SystemExit("the codec has %s: %s" % (made[1][:80], "\t".join(fields)[:80]))
+        held(fields, expected, scalars_alone(made[1]))
         yield made
+
+
+def given_positions():
+    """The model's lines with positions."""
+    for fields, expected in vectors.read("positions.txt", ("decode", "endbytes")):
+        data = vectors.parsed_bytes(fields[1])
+        if fields[0] == "endbytes":
+            made = ends_in_bytes(data, numbers(fields[2]))
+        else:
+            made = decode(data, *fields[2:4])
+            if expected.startswith("ok"):
+                told, _, row = expected.rpartition(" ")
+                expected = "%s %s" % (told, vectors.cells(steps(numbers(row))))
+        held(fields, expected, made[1])
+        yield made
+
+
+def numbers(field):
+    return [] if field == "-" else [int(x) for x in field.split(",")]
+
+
+def ends_in_bytes(data, ends):
+    """What the ends of well-formed bytes are in bytes: `x` for one over n."""
+    row = positions(data.decode("utf-8"))
+    told = [str(row[end]) if end < len(row) else "x" for end in ends]
+    return ["endbytes", vectors.hex_bytes(data), vectors.cells(ends)], "ok %s" % (",".join(told) or "-")
+
+
+def end_in_bytes(row, n, end):
+    """An end in bytes by any row: the row's cell at that end; none over n, and none where the row has no such cell."""
+    return ["end_in_bytes", vectors.cells(row), str(n), str(end)], "ok %s" % (row[end] if end <= n and end < len(row) else "x")
+
+
+def ends():
+    """Every end of some texts and the first over n; rows that are too short and longer than n+1 cells, and the largest numbers."""
+    largest = 2 ** 64 - 1
+    for text in "", "a", "é", "\u0e01", "\U0001f600", "กa\U0001f600é", "กขค" * 30:
+        yield ends_in_bytes(text.encode(), list(range(len(text) + 3)) + [65535, 0xFFFFFFFF])
+    for row in [], [0], [7], [0, 3, 4, 8, 10], [0xFFFFFFFF] * 9:
+        for n in 0, 1, 4, 5, 8, 9, largest:
+            for end in 0, 1, 3, 4, 5, 8, 9, largest:
+                yield end_in_bytes(row, n, end)
 
 
 def unicode_examples():
@@ -132,17 +207,22 @@ def long_texts():
             yield decode(data * n, 0)
             yield decode(data * n, n - 1)
             yield decode(data * n, n)
+            yield decode(data * n, n, n)
+            yield decode(data * n, n, n + 1)
+            yield decode(data * n, n - 1, 0)
     yield decode("\u0e01".encode() * 70000 + b"\xe0\xb8")
     yield decode("\u0e01".encode() * 70000)
 
 
 def short_rows():
-    """Each length of the output up to one more than is needed, for well-formed and for ill-formed bytes."""
+    """Each length of both rows up to one more than is needed, for well-formed and for ill-formed bytes: each row a cell short, both short, and the scalar row looked at first."""
     text = "กขค a\U0001f600é".encode()
     for room in range(9):
-        yield decode(text, room)
-        yield decode(text + b"\xe0\xb8", room)
-        yield decode(b"", room)
+        for places in range(11):
+            yield decode(text, room, places)
+            yield decode(text + b"\xe0\xb8", room, places)
+        for places in range(3):
+            yield decode(b"", room, places)
 
 
 def is_scalar(x):
@@ -260,8 +340,8 @@ def sub_views():
 
 
 def main():
-    made = list(given())
-    for group in unicode_examples, first_bytes, later_bytes, edges, long_texts, short_rows, scalar_cells, texts, words, views, sub_views:
+    made = list(given()) + list(given_positions())
+    for group in unicode_examples, first_bytes, later_bytes, edges, long_texts, short_rows, ends, scalar_cells, texts, words, views, sub_views:
         made.extend(group())
     vectors.write("test_char_string", made)
 

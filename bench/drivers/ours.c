@@ -11,6 +11,7 @@
 size_t search_places(const uint32_t *pool, size_t pool_len, const uint32_t *text, size_t text_len, uint32_t *out, size_t out_len);
 
 /* An earlier library, linked as the side "before", may lack these. */
+#pragma weak fetlockice_end_in_bytes
 #pragma weak fetlockice_winners
 #pragma weak fetlockice_cut_sheet
 #pragma weak fetlockice_check_claim
@@ -43,7 +44,7 @@ static const char *const names[] = {"decode", "clusters",  "winners", "prefix", 
                                     "next",   "next-bare", "check",   "edit",   "read",   "read-wide"};
 
 static enum op op;
-static uint32_t *pool, *out, *won, *scratch, *cells, *text_ends, *told, **scalars, **ends;
+static uint32_t *pool, *out, *won, *scratch, *cells, *positions, *text_ends, *told, **scalars, **ends;
 static uint64_t **maps;
 static size_t pool_len, scratch_len, *lengths, *end_counts;
 static volatile uint32_t kept;
@@ -52,15 +53,20 @@ static void accepted(uint32_t answer) {
     if (answer) die("refused");
 }
 
-static size_t decode(size_t i, uint32_t *to) {
-    size_t count, detail;
-    accepted(fetlockice_decode(texts[i].bytes, texts[i].len, to, texts[i].len, &count, &detail));
+/* A library without ends in bytes decodes without positions. */
+typedef uint32_t plain_decode(const uint8_t *, size_t, uint32_t *, size_t, size_t *, size_t *);
+
+static size_t decode(size_t i, uint32_t *to, uint32_t *places) {
+    plain_decode *plain = (plain_decode *)(void (*)(void))fetlockice_decode;
+    size_t n = texts[i].len, count, detail;
+    accepted(fetlockice_end_in_bytes ? fetlockice_decode(texts[i].bytes, n, to, n, places, n + 1, &count, &detail)
+                                     : plain(texts[i].bytes, n, to, n, &count, &detail));
     return count;
 }
 
 /* From bytes to ends: decoding is included. */
 static size_t cut(size_t i) {
-    size_t n = decode(i, cells), count, edges, detail;
+    size_t n = decode(i, cells, positions), count, edges, detail;
     if (op == PLAIN)
         accepted(fetlockice_cut_plain(cells, n, pool, pool_len, out, n, scratch, FETLOCKICE_SCRATCH_CELLS(n), &count, &edges,
                                       &detail));
@@ -76,7 +82,7 @@ static size_t cut(size_t i) {
 /* All texts from bytes to ends in one call; gives the number of texts. */
 static size_t batch(void) {
     size_t n = 0, count, detail;
-    for (size_t i = 0; i < text_count; i++) text_ends[i] = (uint32_t)(n += decode(i, cells + n));
+    for (size_t i = 0; i < text_count; i++) text_ends[i] = (uint32_t)(n += decode(i, cells + n, positions + n + i));
     accepted(fetlockice_cut_many_plain(cells, n, text_ends, text_count, pool, pool_len, told,
                                        FETLOCKICE_ANSWER_CELLS * text_count, out, n, scratch, scratch_len, &count, &detail));
     return count;
@@ -163,7 +169,7 @@ __attribute__((noinline, optimize("O3"))) static uint32_t read_wide(void) {
 static size_t answer(size_t i) {
     size_t count = 0, detail;
     switch (op) {
-    case DECODE: return decode(i, out);
+    case DECODE: return decode(i, out, positions);
     case CLUSTERS: accepted(fetlockice_clusters(scalars[i], lengths[i], out, lengths[i], &count, &detail)); return count;
     case WINNERS:
         accepted(fetlockice_winners(scalars[i], lengths[i], out, lengths[i], won, lengths[i], &count, &detail));
@@ -238,10 +244,11 @@ static void load(const char *words, size_t nodes, const char *to, const char *fr
     pool_len = nodes * FETLOCKICE_NODE_CELLS;
     pool = room(4 * pool_len);
     cells = room(4 * 1024);
+    positions = room(4 * 1024);
     double began = now_ns();
     start(from);
     for (size_t i = 0; i < text_count; i++) {
-        size_t n = decode(i, cells);
+        size_t n = decode(i, cells, positions);
         accepted(fetlockice_add(pool, pool_len, cells, n, &count, &detail));
         if (count != 1) die("a word was held already");
     }
@@ -254,12 +261,13 @@ static void load(const char *words, size_t nodes, const char *to, const char *fr
 static void prepare(const char *path) {
     size_t longest = 0, all = 0;
     texts = read_texts(path, &text_count);
+    for (size_t i = 0; i < text_count; i++) all += texts[i].len;
+    positions = room(4 * (all + text_count));
     scalars = room(text_count * sizeof *scalars);
     lengths = room(text_count * sizeof *lengths);
     for (size_t i = 0; i < text_count; i++) {
         scalars[i] = room(4 * texts[i].len);
-        lengths[i] = decode(i, scalars[i]);
-        all += texts[i].len;
+        lengths[i] = decode(i, scalars[i], positions);
         if (longest < lengths[i]) longest = lengths[i];
     }
     scratch_len = FETLOCKICE_SCRATCH_CELLS(longest);

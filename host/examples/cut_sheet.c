@@ -34,10 +34,10 @@ static char *read_file(const char *path, size_t *size) {
 }
 
 /* Decodes the line at *at, steps behind its line feed, and gives the number of its scalars. */
-static size_t next_line(const char *bytes, size_t size, size_t *at, uint32_t *out, size_t out_len) {
+static size_t next_line(const char *bytes, size_t size, size_t *at, uint32_t *out, uint32_t *positions, size_t len) {
     const char *line = bytes + *at;
     size_t length = (size_t)((const char *)memchr(line, '\n', size - *at) - line);
-    uint32_t number = fetlockice_decode((const uint8_t *)line, length, out, out_len, &count, &detail);
+    uint32_t number = fetlockice_decode((const uint8_t *)line, length, out, len, positions, len, &count, &detail);
     accepted(number, detail);
     *at += length + 1;
     return count;
@@ -47,11 +47,11 @@ static size_t next_line(const char *bytes, size_t size, size_t *at, uint32_t *ou
 static uint32_t *read_words(const char *path, size_t *cells) {
     size_t size, most = (size_t)FETLOCKICE_MAX_NODES * FETLOCKICE_NODE_CELLS;
     char *bytes = read_file(path, &size);
-    uint32_t *pool = room(most), *word = room(size), number;
+    uint32_t *pool = room(most), *word = room(size), *positions = room(size), number;
     *cells = 1024 * FETLOCKICE_NODE_CELLS;
     accepted(fetlockice_fresh(pool, *cells, &count, &detail), detail);
     for (size_t at = 0; at < size;) {
-        size_t n = next_line(bytes, size, &at, word, size);
+        size_t n = next_line(bytes, size, &at, word, positions, size);
         while ((number = fetlockice_add(pool, *cells, word, n, &count, &detail)) == FETLOCKICE_TOO_FEW_NODES &&
                *cells < most) {
             memset(pool + *cells, 0, *cells * sizeof *pool); /* nodes that aren't in use are zero */
@@ -59,21 +59,19 @@ static uint32_t *read_words(const char *path, size_t *cells) {
         }
         accepted(number, detail);
     }
-    free(bytes), free(word);
+    free(bytes), free(word), free(positions);
     return pool;
 }
 
-/* Writes a line with | between its tokens, and steps behind its line feed. */
-static const char *show(const char *line, const uint32_t *ends, size_t tokens) {
-    for (size_t token = 0, at = 0; token < tokens; token++) {
-        while (at < ends[token]) {
-            putchar(*line++);
-            if ((*line & 0xC0) != 0x80) at++; /* the next byte starts a character */
-        }
-        if (token + 1 < tokens) putchar('|');
+/* Writes a line with | between its tokens. An end in bytes is the position row's cell at that end. */
+static void show(const char *line, const uint32_t *positions, const uint32_t *ends, size_t tokens) {
+    for (size_t token = 0, start = 0; token < tokens; token++) {
+        size_t end = positions[ends[token]];
+        if (token > 0) putchar('|');
+        fwrite(line + start, 1, end - start, stdout);
+        start = end;
     }
     putchar('\n');
-    return line + 1;
 }
 
 int main(int argc, char **argv) {
@@ -81,9 +79,10 @@ int main(int argc, char **argv) {
     size_t cells, size, lines = 0, characters = 0, longest = 0;
     uint32_t *pool = read_words(argv[1], &cells);
     char *sheet = read_file(argv[2], &size);
-    uint32_t *texts = room(size), *text_ends = room(size), *out = room(size);
-    for (size_t at = 0; at < size; lines++) {
-        size_t n = next_line(sheet, size, &at, texts + characters, size - characters);
+    uint32_t *texts = room(size), *positions = room(size), *text_ends = room(size), *out = room(size);
+    for (size_t at = 0; at < size; lines++) { /* a line has a position for each character and one for its end */
+        size_t used = characters + lines, n;
+        n = next_line(sheet, size, &at, texts + characters, positions + used, size - used);
         if (longest < n) longest = n;
         text_ends[lines] = (uint32_t)(characters += n);
     }
@@ -93,13 +92,16 @@ int main(int argc, char **argv) {
                                       size, scratch, scratch_cells, &count, &detail),
              detail);
     const char *line = sheet;
-    const uint32_t *ends = out;
-    for (size_t i = 0; i < lines; i++) {
+    const uint32_t *ends = out, *places = positions;
+    for (size_t i = 0, start = 0; i < lines; start = text_ends[i++]) {
         const uint32_t *told = answers + FETLOCKICE_ANSWER_CELLS * i;
+        size_t n = text_ends[i] - start;
         accepted(told[0], told[3]);
-        line = show(line, ends, told[1]);
+        show(line, places, ends, told[1]);
         ends += told[1];
+        line += places[n] + 1;
+        places += n + 1;
     }
-    free(pool), free(sheet), free(texts), free(text_ends), free(out), free(answers), free(scratch);
+    free(pool), free(sheet), free(texts), free(positions), free(text_ends), free(out), free(answers), free(scratch);
     return 0;
 }

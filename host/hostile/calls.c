@@ -33,6 +33,15 @@ int adds(enum op op) { return op == ADD || op == ADD_CLASS; }
 int cuts(enum op op) { return op == CUT_PLAIN || op == CUT_SAFE || op == CUT_SHEET; }
 int uses_scratch(enum op op) { return cuts(op) || op == CHECK_CLAIM; }
 
+/* Edges, a token or a place beside the count. */
+static int tells_two(enum op op) { return uses_scratch(op) || op == END_IN_BYTES; }
+
+/* The cells of the second output that a call writes: positions or winners. */
+static size_t second(const struct call *c, const struct answer *a) {
+    if (a->number != 0) return 0;
+    return c->op == DECODE ? a->count + 1 : c->op == WINNERS ? a->count : 0;
+}
+
 /* The rows of one call. */
 struct rows {
     struct row text, pool, claim, out, more, scratch;
@@ -55,7 +64,8 @@ static uint32_t add_class(const struct call *c, uint32_t *pool, const void *word
 static uint32_t exported(const struct call *c, const void *text, uint32_t *pool, const uint32_t *claim, uint32_t *out,
                          uint32_t *more, uint32_t *scratch, struct numbers *to) {
     switch (c->op) {
-    case DECODE: return fetlockice_decode(text, c->n, out, c->room, &to->count, &to->detail);
+    case DECODE: return fetlockice_decode(text, c->n, out, c->room, more, c->more, &to->count, &to->detail);
+    case END_IN_BYTES: return fetlockice_end_in_bytes(text, c->n, c->characters, c->end, &to->count, &to->edges);
     case CLUSTERS: return fetlockice_clusters(text, c->n, out, c->room, &to->count, &to->detail);
     case WINNERS: return fetlockice_winners(text, c->n, out, c->room, more, c->more, &to->count, &to->detail);
     case FRESH: return fetlockice_fresh(pool, c->cells, &to->count, &to->detail);
@@ -96,9 +106,9 @@ static void check_rows(const struct call *c, const struct rows *rows, const stru
     size_t pool_kept = writes_pool(c->op) && a->number == 0 ? 32 * nodes_of(c->cells) : 0;
     check_kept(&rows->pool, pool_kept, "a pool was written that must be kept");
     must(a->count <= c->room || !writes_output(c->op), "more was told of than the output has cells");
-    must(a->count <= c->more || c->op != WINNERS, "more was told of than the second output has cells");
     check_kept(&rows->out, writes_output(c->op) ? 4 * a->count : 0, "an output was written that must be kept");
-    check_kept(&rows->more, c->op == WINNERS ? 4 * a->count : 0, "a second output was written that must be kept");
+    must(second(c, a) <= c->more, "more was told of than the second output has cells");
+    check_kept(&rows->more, 4 * second(c, a), "a second output was written that must be kept");
     int untouched = !uses_scratch(c->op) || (a->number >= 2 && a->number <= 5);
     check_kept(&rows->scratch, untouched ? 0 : rows->scratch.size, "scratch was written that must be kept");
     must(untouched || all_zero(&rows->scratch), "scratch isn't all zero");
@@ -110,7 +120,8 @@ static void check_numbers(const struct call *c, const struct answer *a, const st
              before->guard3 == after->guard3 && before->guard4 == after->guard4,
          "a guard between two numbers was written");
     must(c->op == CONTAINS_CLASS || before->word_class == after->word_class, "a class was told of where none is");
-    must(uses_scratch(c->op) || before->edges == after->edges, "edges were told of where none are");
+    must(tells_two(c->op) || before->edges == after->edges, "edges were told of where none are");
+    must(c->op != END_IN_BYTES || before->detail == after->detail, "a detail was told of where none is");
     must(a->number == 0 || (a->number < 32 && (refusals[c->op] >> a->number & 1) != 0),
          "a refusal that the function doesn't have");
     must(a->number == 0 ? a->detail == 0 : a->count == 0 && a->word_class == 0 && a->edges == 0,
@@ -132,8 +143,8 @@ static struct answer call_once(const struct call *c, struct rows *rows) {
     a.number = exported(c, text, pool, claim, out, more, scratch, &after);
     a.count = after.count;
     a.word_class = c->op == CONTAINS_CLASS ? after.word_class : 0;
-    a.edges = uses_scratch(c->op) ? after.edges : 0;
-    a.detail = after.detail;
+    a.edges = tells_two(c->op) ? after.edges : 0;
+    a.detail = c->op == END_IN_BYTES ? 0 : after.detail;
     check_numbers(c, &a, &before, &after);
     check_rows(c, rows, &a);
     return a;
@@ -148,7 +159,7 @@ struct answer call_twice(const struct call *c) {
              a.detail == b.detail,
          "two calls told different numbers");
     must(!writes_output(c->op) || memcmp(a.out, b.out, 4 * a.count) == 0, "two calls wrote different outputs");
-    must(c->op != WINNERS || memcmp(a.more, b.more, 4 * a.count) == 0, "two calls told of different winners");
+    must(memcmp(a.more, b.more, 4 * second(c, &a)) == 0, "two calls wrote different second outputs");
     size_t same = c->op == FRESH ? (a.number == 0 ? 32 * nodes_of(c->cells) : 0) : 4 * c->cells;
     must(memcmp(a.pool, b.pool, same) == 0, "two calls left different pools");
     return a;

@@ -7,6 +7,7 @@
 
 enum op {
     DECODE,
+    END_IN_BYTES,
     CLUSTERS,
     WINNERS,
     FRESH,
@@ -26,21 +27,22 @@ enum op {
 
 struct call {
     enum op op;
-    const void *text; /* bytes, text or word, and their number */
+    const void *text; /* bytes, text, word or a position row, and their number */
     size_t n;
     uint16_t word_class; /* that add_class gives; 0 for others */
     const uint32_t *pool;
     size_t cells;
     size_t room;    /* output cells */
-    size_t more;    /* cells of the second output */
+    size_t more;    /* cells of the second output: positions, or winners */
     size_t scratch; /* scratch cells */
     const uint32_t *claim;
-    size_t ends; /* its length */
+    size_t ends;            /* its length */
+    size_t characters, end; /* of an end in bytes: n, and the end */
 };
 
 struct answer {
     uint32_t number;
-    size_t count, word_class, edges, detail; /* of a claim: right, 0, token, detail */
+    size_t count, word_class, edges, detail; /* of a claim: right, 0, token, detail; of an end: found, 0, at, 0 */
     const uint32_t *out;                     /* the outputs and the pool, for as long as four more pairs of calls */
     const uint32_t *more;
     const uint32_t *pool;

@@ -15,7 +15,8 @@
         size_t *detail
 #define MANY_WITH texts, n, text_ends, text_count, pool, cells, answers, told, out, room, scratch, len, count, detail
 
-uint32_t __real_fetlockice_decode(const uint8_t *, size_t, uint32_t *, size_t, size_t *, size_t *);
+uint32_t __real_fetlockice_decode(const uint8_t *, size_t, uint32_t *, size_t, uint32_t *, size_t, size_t *, size_t *);
+uint32_t __real_fetlockice_end_in_bytes(const uint32_t *, size_t, size_t, size_t, size_t *, size_t *);
 uint32_t __real_fetlockice_clusters(const uint32_t *, size_t, uint32_t *, size_t, size_t *, size_t *);
 uint32_t __real_fetlockice_winners(const uint32_t *, size_t, uint32_t *, size_t, uint32_t *, size_t, size_t *,
                                    size_t *);
@@ -40,11 +41,27 @@ uint32_t __real_fetlockice_break_map(size_t, const uint32_t *, size_t, uint64_t 
 uint32_t __real_fetlockice_breaks_up_to(size_t, const uint64_t *, size_t, size_t, size_t *, size_t *);
 uint32_t __real_fetlockice_next_break(size_t, const uint64_t *, size_t, size_t, size_t *, size_t *, size_t *);
 
-/* 1: the detail of a refusal is one too high */
-uint32_t __wrap_fetlockice_decode(const uint8_t *bytes, size_t n, uint32_t *out, size_t room, size_t *count,
-                                  size_t *detail) {
-    uint32_t number = __real_fetlockice_decode(bytes, n, out, room, count, detail);
+/* 1: the detail of a refusal is one too high; 40: the position of the end is left out; 41: the position row is looked at
+ * first; 42: a position row that is too short is written as far as it goes */
+uint32_t __wrap_fetlockice_decode(const uint8_t *bytes, size_t n, uint32_t *out, size_t room, uint32_t *positions,
+                                  size_t places, size_t *count, size_t *detail) {
+    uint32_t old = places > 0 ? positions[places - 1] : 0;
+    uint32_t number = __real_fetlockice_decode(bytes, n, out, room, positions, places, count, detail);
     if (FAULT == 1 && number != 0) *detail += 1;
+    if (FAULT == 40 && number == 0 && *count + 1 == places) positions[places - 1] = old;
+    if (FAULT == 41 && number == FETLOCKICE_OUTPUT_TOO_SHORT && room < *detail && places <= *detail) *detail += 1;
+    if (FAULT == 42 && number == FETLOCKICE_OUTPUT_TOO_SHORT && places > 0) positions[0] = 0;
+    return number;
+}
+
+/* 43: an end over n has a place where the row has a cell; 44: a cell behind the row is read; 45: no place is told as the
+ * number that was there */
+uint32_t __wrap_fetlockice_end_in_bytes(const uint32_t *positions, size_t places, size_t n, size_t end, size_t *found,
+                                        size_t *at) {
+    size_t old = *at;
+    if (FAULT == 44) (void)*(const volatile uint32_t *)(positions + places);
+    uint32_t number = __real_fetlockice_end_in_bytes(positions, places, FAULT == 43 ? (size_t)-1 : n, end, found, at);
+    if (FAULT == 45 && *found == 0) *at = old;
     return number;
 }
 

@@ -18,11 +18,21 @@ static uint32_t pool[POOL_ROOM], text[TEXT_ROOM], scalars[TEXT_ROOM * 4], ends[T
 static uint8_t bytes[TEXT_ROOM * 4];
 static unsigned long answers[9];
 
-/* The refusal that is due by the model, 6 left out. */
+/* A decoding has two outputs: the scalar row is looked at first. */
+static struct refusal decode_due(const struct call *c) {
+    size_t count;
+    struct refusal r = utf8_refusal(c->text, c->n, scalars, TEXT_ROOM * 4, &count);
+    if (r.number != 0) return r;
+    if (c->room < count) return (struct refusal){6, count};
+    return c->more < count + 1 ? (struct refusal){6, count + 1} : r;
+}
+
+/* The refusal that is due by the model, 6 left out but for a decoding. */
 static struct refusal due(const struct call *c, int is_dict) {
-    size_t count, start, end;
+    size_t start, end;
     uint32_t mark;
-    if (c->op == DECODE) return utf8_refusal(c->text, c->n, scalars, TEXT_ROOM * 4, &count);
+    if (c->op == DECODE) return decode_due(c);
+    if (c->op == END_IN_BYTES) return (struct refusal){0, 0};
     if (c->op == FRESH) return (struct refusal){c->cells < 8 ? 8 : 0, c->cells < 8};
     struct refusal r = c->op == WORD_COUNT ? (struct refusal){0, 0} : text_refusal(c->text, c->n);
     if (r.number != 0 || c->op == CLUSTERS || c->op == WINNERS) return r;
@@ -163,13 +173,40 @@ static void check_change(const struct call *c, const struct answer *a) {
     if (drawn != NULL) memcpy(drawn->cells, changed, 4 * c->cells);
 }
 
+/* Scalars and positions are those of the bytes, in rows of any length that is enough, and in no shorter ones. */
+static void check_decoded(const struct call *c, const struct answer *a) {
+    size_t count, at = 0;
+    utf8_refusal(c->text, c->n, scalars, TEXT_ROOM * 4, &count);
+    must(a->count == count && memcmp(a->out, scalars, 4 * count) == 0, "other scalars than the bytes have");
+    for (size_t i = 0; i <= count; i++) {
+        must(a->more[i] == at, "a position is wrong");
+        if (i < count) at += utf8_size(scalars[i]);
+    }
+    must(at == c->n, "the last position isn't the number of bytes");
+    struct call fit = *c;
+    fit.room = count;
+    fit.more = count + 1;
+    struct answer b = call_twice(&fit);
+    must(b.number == 0 && memcmp(a->out, b.out, 4 * count) == 0 && memcmp(a->more, b.more, 4 * (count + 1)) == 0,
+         "the room changes the answer");
+    fit.more = count;
+    b = call_twice(&fit);
+    must(b.number == 6 && b.detail == count + 1, "a position row a cell too short is not refused");
+    if (count == 0) return;
+    fit.room = count - 1;
+    b = call_twice(&fit);
+    must(b.number == 6 && b.detail == count, "the scalar row isn't looked at first");
+}
+
 static void check_accepted(const struct call *c, const struct answer *a) {
+    const uint32_t *row = c->text;
     uint32_t mark;
-    size_t count;
+    int found;
     switch (c->op) {
-    case DECODE:
-        utf8_refusal(c->text, c->n, scalars, TEXT_ROOM * 4, &count);
-        must(a->count == count && memcmp(a->out, scalars, 4 * count) == 0, "other scalars than the bytes have");
+    case DECODE: check_decoded(c, a); break;
+    case END_IN_BYTES:
+        found = c->end <= c->characters && c->end < c->n;
+        must(a->count == (size_t)found && a->edges == (found ? row[c->end] : 0), "an end in bytes is wrong");
         break;
     case CLUSTERS:
     case WINNERS: check_clusters(c, a); break;
@@ -205,10 +242,12 @@ static void claim_for(struct call *c) {
 
 static struct call make_call(enum op op, int *is_dict) {
     struct call c = {.op = op, .text = text, .pool = pool};
-    if (op != DECODE && op != CLUSTERS && op != WINNERS) c.cells = make_pool(pool);
+    if (op != DECODE && op != END_IN_BYTES && op != CLUSTERS && op != WINNERS) c.cells = make_pool(pool);
     *is_dict = is_dictionary(pool, c.cells);
     if (op == DECODE)
-        c.text = bytes, c.n = make_bytes(bytes);
+        c.text = bytes, c.n = make_bytes(bytes), c.more = make_room(c.n + 1);
+    else if (op == END_IN_BYTES)
+        c.n = make_positions(text), c.characters = make_number(c.n), c.end = make_number(c.characters);
     else if (adds(op) || op == REMOVE || op == CONTAINS || op == CONTAINS_CLASS)
         c.n = make_word(text);
     else if (op != FRESH && op != WORD_COUNT)
@@ -230,11 +269,11 @@ static void step(void) {
     must(r.number == 0 ? a.number == 0 || (a.number == 6 && writes_output(c.op))
                        : a.number == r.number && a.detail == r.detail,
          "another refusal than is due");
-    if (a.number == 6) check_fit(&c, &a);
+    if (a.number == 6 && c.op != DECODE) check_fit(&c, &a);
     if (a.number != 0) return;
     if (cuts(c.op)) memcpy(ends, a.out, 4 * a.count);
     check_accepted(&c, &a);
-    if (writes_output(c.op)) check_fit(&c, &a);
+    if (writes_output(c.op) && c.op != DECODE) check_fit(&c, &a);
     if (cuts(c.op)) check_parts(&c, &a, ends);
 }
 

@@ -106,6 +106,12 @@ size_t make_bytes(uint8_t *bytes) {
     return n;
 }
 
+size_t make_positions(uint32_t *row) {
+    size_t n = length();
+    for (size_t i = 0, at = 0; i < n; at += 1 + below(4)) row[i++] = below(20) == 0 ? (uint32_t)draw() : (uint32_t)at;
+    return n;
+}
+
 uint16_t make_class(void) {
     size_t kind = below(4);
     return (uint16_t)(kind == 0 ? below(3) : kind == 1 ? 65535 - below(3) : draw());
@@ -122,6 +128,12 @@ size_t make_room(size_t needed) {
     if (kind == 1) return 1;
     if (kind < 4) return needed + below(3) - (needed > 0 ? 1 : 0);
     return kind < 7 ? needed + below(8) : below(2 * needed + 2);
+}
+
+size_t make_number(size_t near) {
+    size_t kind = below(8);
+    if (kind == 0) return (size_t)draw();
+    return kind < 4 ? below(near + 2) : near + below(3) - (near > 0 ? 1 : 0);
 }
 
 /* Changes some cells of the nodes in use and of the one behind them, or the length. */

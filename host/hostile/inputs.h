@@ -24,6 +24,7 @@ size_t make_text(uint32_t *text);
 size_t make_word(uint32_t *word);
 size_t make_sheet(uint32_t *text, const uint32_t *pool, int is_dictionary);
 size_t make_bytes(uint8_t *bytes);
+size_t make_positions(uint32_t *row);
 size_t make_pool(uint32_t *pool);
 
 /* A claim for a text of n characters: some ends as they are, or a little damaged, or anything. */
@@ -37,5 +38,8 @@ void reclass(uint32_t *pool);
 
 /* A length of 0, 1, about the one needed, or any up to twice that. */
 size_t make_room(size_t needed);
+
+/* A number about the one given, or any. */
+size_t make_number(size_t near);
 
 #endif

@@ -17,6 +17,8 @@ struct refusal utf8_refusal(const uint8_t *bytes, size_t size, uint32_t *scalars
     return (struct refusal){0, 0};
 }
 
+size_t utf8_size(uint32_t scalar) { return 1 + (scalar > 0x7F) + (scalar > 0x7FF) + (scalar > 0xFFFF); }
+
 int is_scalar(uint32_t x) { return x < 0xD800 || (x > 0xDFFF && x <= 0x10FFFF); }
 
 int is_blank(uint32_t x) {

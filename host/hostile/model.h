@@ -13,6 +13,9 @@ struct refusal {
 /* The number of scalars of UTF-8 bytes and their values, by the C library's iconv; 1 or 2 where they are refused. */
 struct refusal utf8_refusal(const uint8_t *bytes, size_t size, uint32_t *scalars, size_t room, size_t *count);
 
+/* How many bytes the UTF-8 of a scalar has. */
+size_t utf8_size(uint32_t scalar);
+
 int is_scalar(uint32_t x);
 
 /* One of Unicode's White_Space, which trimming strips. */

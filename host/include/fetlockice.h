@@ -7,14 +7,15 @@
  *   *word_class  accepted: the class of a word that is held, 0 for another; refused: 0
  *   *edges       accepted: the edges recorded in the whole cut; refused: 0
  *   *right, *token  of a claim: 1 and 0 if it is right; 0 and the first token that is wrong; refused: 0 and 0
- *   *found, *at     of a next break: 1 and where it is; 0 and 0 if there is none; refused: 0 and 0
+ *   *found, *at     of a next break: 1 and where it is; 0 and 0 if there is none; refused: 0 and 0. Of an end in bytes:
+ *                   1 and the end; 0 and 0 where it has none
  *   *detail      accepted: 0; refused: the refusal's detail, below
  *
  * Lent memory. A row that a call takes as const is only read. A refused call changes no output and no pool. An
- * accepted one writes the first *count cells of the output and keeps the rest. Scratch is untouched after refusals 2
- * to 5, and all zero after refusal 6 and after an accepted call, every lent cell of it; on entry it may hold anything.
- * What a cut of many texts writes stands at its declaration. Nothing is kept from one call to the next, nothing is
- * allocated and nothing is freed.
+ * accepted one writes the first *count cells of the output, and *count + 1 of the positions, and keeps the rest. Scratch
+ * is untouched after refusals 2 to 5, and all zero after refusal 6 and after an accepted call, every lent cell of it; on
+ * entry it may hold anything. What a cut of many texts writes stands at its declaration. Nothing is kept from one call
+ * to the next, nothing is allocated and nothing is freed.
  *
  * THE CALLER'S DUTIES. Everything else about the contents is the library's to answer.
  *
@@ -55,7 +56,7 @@ extern "C" {
 #define FETLOCKICE_MAX_NODES 1048576
 
 /* The bytes of stack that a call takes at most. Measured on x86-64, over hostile and deepest inputs: fetlockice_remove
- * 32,840, as it goes down a word of 255 scalars by recursion; fetlockice_winners 3,648, fetlockice_decode 1,448, the
+ * 32,840, as it goes down a word of 255 scalars by recursion; fetlockice_winners 3,648, fetlockice_decode 1,464, the
  * others under 1,100. */
 #define FETLOCKICE_MAX_STACK 98304
 
@@ -83,9 +84,17 @@ enum fetlockice_answer {
     FETLOCKICE_BIT_ABOVE_END = 11     /* a map has a bit set above n in its last used cell; the lowest such position */
 };
 
-/* Writes the scalars of UTF-8 bytes. *count: how many. Refusals 1, 2, 6. */
-uint32_t fetlockice_decode(const uint8_t *bytes, size_t bytes_len, uint32_t *out, size_t out_len, size_t *count,
-                           size_t *detail);
+/* Writes the scalars of UTF-8 bytes, and to positions where each of them starts, in bytes, and behind these the number
+ * of bytes. *count: how many scalars, n. An output as long as the bytes, and a position row a cell longer, are always
+ * enough. Refusals 1, 2, 6: with n if out has under n cells, else with n + 1 if positions has under n + 1. */
+uint32_t fetlockice_decode(const uint8_t *bytes, size_t bytes_len, uint32_t *out, size_t out_len, uint32_t *positions,
+                           size_t positions_len, size_t *count, size_t *detail);
+
+/* An end, in characters, of a text of n characters, as an end in bytes: the cell at that end of the position row that
+ * the text's decoding wrote. *found: 1, and *at: the end in bytes; or both 0 where the end is over n, or the row has no
+ * such cell. Never refused: the answer is always 0. */
+uint32_t fetlockice_end_in_bytes(const uint32_t *positions, size_t positions_len, size_t n, size_t end, size_t *found,
+                                 size_t *at);
 
 /* Writes the ends of the text's clusters, in characters, rising, the last equal to the length. *count: how many, 0 for
  * an empty text. An output as long as the text is always enough. Refusals 2, 3, 6. */

@@ -16,7 +16,8 @@ static ucontext_t here, there;
 static void (*call)(void);
 
 static uint8_t bytes[4 * LONG];
-static uint32_t pool[CELLS], text[LONG + 1], word[1024], out[LONG + 1], won[LONG + 1], claim[LONG + 1];
+static uint32_t pool[CELLS], text[LONG + 1], word[1024], out[LONG + 1], positions[LONG + 1], won[LONG + 1],
+    claim[LONG + 1];
 static uint32_t scratch[FETLOCKICE_SCRATCH_CELLS(LONG)];
 static uint32_t text_ends[TEXTS], answers[FETLOCKICE_ANSWER_CELLS * TEXTS];
 static uint64_t map[FETLOCKICE_MAP_CELLS(LONG)];
@@ -24,7 +25,8 @@ static size_t map_len, position;
 static size_t bytes_len, pool_len, text_len, word_len, out_len, claim_len, scratch_len, answers_len;
 static size_t count, word_class, edges, detail;
 
-static void decode(void) { fetlockice_decode(bytes, bytes_len, out, out_len, &count, &detail); }
+static void decode(void) { fetlockice_decode(bytes, bytes_len, out, out_len, positions, LONG + 1, &count, &detail); }
+static void end_in_bytes(void) { fetlockice_end_in_bytes(positions, LONG + 1, out_len, text_len, &count, &detail); }
 static void clusters(void) { fetlockice_clusters(text, text_len, out, out_len, &count, &detail); }
 static void winners(void) { fetlockice_winners(text, text_len, out, out_len, won, out_len, &count, &detail); }
 static void fresh(void) { fetlockice_fresh(pool, pool_len, &count, &detail); }
@@ -68,15 +70,17 @@ static void breaks(void) { fetlockice_break_map(text_len, claim, claim_len, map,
 static void up_to(void) { fetlockice_breaks_up_to(text_len, map, map_len, position, &count, &detail); }
 static void next(void) { fetlockice_next_break(text_len, map, map_len, position, &count, &edges, &detail); }
 
-static void (*const calls[])(void) = {decode,   clusters,   winners,   fresh,      add,    add_class, drop,
-                                      contains, class_of,   lengths,   words,      plain,  safe,      sheet,
-                                      judge,    many_plain, many_safe, many_sheet, breaks, up_to,     next};
+static void (*const calls[])(void) = {decode,     end_in_bytes, clusters,   winners, fresh, add,  add_class, drop,
+                                      contains,   class_of,     lengths,    words,   plain, safe, sheet,     judge,
+                                      many_plain, many_safe,    many_sheet, breaks,  up_to, next};
 static const char *const names[] = {
-    "decode",      "clusters",       "winners",        "fresh",          "add",       "add_class",    "remove",
-    "contains",    "contains_class", "prefix_lengths", "word_count",     "cut_plain", "cut_safe",     "cut_sheet",
-    "check_claim", "cut_many_plain", "cut_many_safe",  "cut_many_sheet", "break_map", "breaks_up_to", "next_break"};
+    "decode",         "end_in_bytes", "clusters",     "winners",        "fresh",          "add",
+    "add_class",      "remove",       "contains",     "contains_class", "prefix_lengths", "word_count",
+    "cut_plain",      "cut_safe",     "cut_sheet",    "check_claim",    "cut_many_plain", "cut_many_safe",
+    "cut_many_sheet", "break_map",    "breaks_up_to", "next_break"};
 enum {
     DECODE,
+    END_IN_BYTES,
     CLUSTERS,
     WINNERS,
     FRESH,
@@ -226,9 +230,9 @@ static void on_bytes(void) {
     bytes_len = draw(4 * LONG);
     for (size_t i = 0; i < bytes_len; i += 3) memcpy(bytes + i, draw(500) ? "\xE0\xB8\x81" : "\xE0\xB8\xC0", 3);
     out_len = LONG;
-    make(DECODE);
+    make(DECODE), make(END_IN_BYTES);
     for (size_t i = 0; i < bytes_len; i++) bytes[i] = (uint8_t)draw(256);
-    make(DECODE);
+    make(DECODE), make(END_IN_BYTES);
 }
 
 static void hostile_pool(void) {

@@ -19,6 +19,7 @@ pub use maps::fetlockice_breaks_up_to;
 pub use maps::fetlockice_next_break;
 pub use texts::fetlockice_clusters;
 pub use texts::fetlockice_decode;
+pub use texts::fetlockice_end_in_bytes;
 pub use texts::fetlockice_winners;
 pub use words::fetlockice_add;
 pub use words::fetlockice_add_class;

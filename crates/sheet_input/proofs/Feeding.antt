@@ -9,11 +9,12 @@ use lib.ListN.{length, take, drop}
 use lib.Seq.{take-append-seam}
 use borrow.Author.Tests.{lt-ltb, le-ltb, eq-eqb, ne-eqb, ltb-true, ltb-false}
 use Rattle.lists.proofs.Scans.{leading-inside}
+use Rattle.utf8.specs.Decoding.{roomIn}
 use Rattle.sheet_input.specs.declared.Fed.{Fed}
 use Rattle.sheet_replies.specs.declared.Asked.the-variants.{Nothing}
 use Rattle.sheet_texts.specs.declared.Reply.{Reply}
 use Rattle.sheet_bytes.specs.Lines.{lineEnd, kept, laid}
-use Rattle.sheet_replies.specs.Replies.{asked, textOf, endsAfter, RowsAfter, PoolAfter, scalarsAfter, scratchAfter}
+use Rattle.sheet_replies.specs.Replies.{asked, textOf, endsAfter, RowsAfter, PoolAfter, decodedAfter, scratchAfter}
 use Rattle.sheet_texts.specs.Texts.{lineOf, written, amount}
 use Rattle.sheet_input.specs.Feeding.{lineWith, hasEnd, askedIf, told, fedWith}
 
@@ -30,9 +31,9 @@ module _ {reply r : Reply} {row ends : List ℕ} (e : reply ≡ r) (f : row ≡ 
   told-is out h = h ∙ ap (λ (t : List ℕ). written t out) same-line
 
 -- nothing asked, nothing changed
-pub untouched : (text pool scalars ends scratch : List ℕ) → RowsAfter Nothing text pool pool scalars scalars ends ends scratch scratch
-unfolding PoolAfter scalarsAfter endsAfter scratchAfter
-untouched text pool scalars ends scratch = record { pool-is = refl; scalars-are = refl; ends-are = refl; scratch-is = refl }
+pub untouched : (text pool scalars positions ends scratch : List ℕ) → RowsAfter Nothing text pool pool scalars scalars positions positions ends ends scratch scratch
+unfolding PoolAfter decodedAfter endsAfter scratchAfter
+untouched text pool scalars positions ends scratch = record { pool-is = refl; scalars-are = refl; positions-are = refl; ends-are = refl; scratch-is = refl }
 
 -- ---- bytes that are fed
 
@@ -66,11 +67,11 @@ module _ (bytes line : List ℕ) (used : ℕ) {end n : ℕ} {line₁ : List ℕ}
     pub open-out : (text out : List ℕ) → out ≡ cond (hasEnd bytes) (written text out) out
     open-out text out = sym (ap (λ (b : Bool). cond b (written text out) out) goes-on)
 
-    pub open-rows : (pool scalars ends scratch : List ℕ)
-        → RowsAfter (askedIf (hasEnd bytes) (lineWith bytes line used)) (textOf (lineWith bytes line used)) pool pool scalars scalars ends ends scratch scratch
-    open-rows pool scalars ends scratch =
-        subst (λ (b : Bool). RowsAfter (askedIf b (lineWith bytes line used)) (textOf (lineWith bytes line used)) pool pool scalars scalars ends ends scratch scratch) (sym goes-on)
-        (untouched (textOf (lineWith bytes line used)) pool scalars ends scratch)
+    pub open-rows : (pool scalars positions ends scratch : List ℕ)
+        → RowsAfter (askedIf (hasEnd bytes) (lineWith bytes line used)) (textOf (lineWith bytes line used)) pool pool scalars scalars positions positions ends ends scratch scratch
+    open-rows pool scalars positions ends scratch =
+        subst (λ (b : Bool). RowsAfter (askedIf b (lineWith bytes line used)) (textOf (lineWith bytes line used)) pool pool scalars scalars positions positions ends ends scratch scratch) (sym goes-on)
+        (untouched (textOf (lineWith bytes line used)) pool scalars positions ends scratch)
 
   module _ (h : end ≡ length bytes → ⊥) {whole : List ℕ} (w : whole ≡ take n line₁) where
     ends-here : hasEnd bytes ≡ true
@@ -81,9 +82,9 @@ module _ (bytes line : List ℕ) (used : ℕ) {end n : ℕ} {line₁ : List ℕ}
         w ∙ ap (take n) line-is ∙ ap (λ (k : ℕ). take k (laid (lineWith bytes line used) line)) size-is
         ∙ take-append-seam (lineWith bytes line used) (drop (length (lineWith bytes line used)) line)
 
-    module _ (pool scalars ends scratch out : List ℕ) where
+    module _ (pool scalars positions ends scratch out : List ℕ) where
       abbrev texts : List ℕ → List ℕ
-      texts l = told l pool (length scalars) (length scratch) ends
+      texts l = told l pool (roomIn scalars positions) (length scratch) ends
 
       pub end-fed : {k : ℕ} → k ≡ amount (texts whole) out
           → fedWith true end 0 k ≡ fedWith (hasEnd bytes) (lineEnd bytes) (length (lineWith bytes line used)) (amount (texts (lineWith bytes line used)) out)
@@ -94,11 +95,11 @@ module _ (bytes line : List ℕ) (used : ℕ) {end n : ℕ} {line₁ : List ℕ}
       pub end-out : {out₁ : List ℕ} → out₁ ≡ written (texts whole) out → out₁ ≡ cond (hasEnd bytes) (written (texts (lineWith bytes line used)) out) out
       end-out q = q ∙ ap (λ (l : List ℕ). written (texts l) out) whole-is ∙ sym (ap (λ (b : Bool). cond b (written (texts (lineWith bytes line used)) out) out) ends-here)
 
-      pub end-rows : {pool₁ scalars₁ ends₁ scratch₁ : List ℕ} → RowsAfter (asked whole) (textOf whole) pool pool₁ scalars scalars₁ ends ends₁ scratch scratch₁
-          → RowsAfter (askedIf (hasEnd bytes) (lineWith bytes line used)) (textOf (lineWith bytes line used)) pool pool₁ scalars scalars₁ ends ends₁ scratch scratch₁
-      end-rows {pool₁} {scalars₁} {ends₁} {scratch₁} q =
-          subst (λ (b : Bool). RowsAfter (askedIf b (lineWith bytes line used)) (textOf (lineWith bytes line used)) pool pool₁ scalars scalars₁ ends ends₁ scratch scratch₁) (sym ends-here)
-          (subst (λ (l : List ℕ). RowsAfter (asked l) (textOf l) pool pool₁ scalars scalars₁ ends ends₁ scratch scratch₁) whole-is q)
+      pub end-rows : {pool₁ scalars₁ positions₁ ends₁ scratch₁ : List ℕ} → RowsAfter (asked whole) (textOf whole) pool pool₁ scalars scalars₁ positions positions₁ ends ends₁ scratch scratch₁
+          → RowsAfter (askedIf (hasEnd bytes) (lineWith bytes line used)) (textOf (lineWith bytes line used)) pool pool₁ scalars scalars₁ positions positions₁ ends ends₁ scratch scratch₁
+      end-rows {pool₁} {scalars₁} {positions₁} {ends₁} {scratch₁} q =
+          subst (λ (b : Bool). RowsAfter (askedIf b (lineWith bytes line used)) (textOf (lineWith bytes line used)) pool pool₁ scalars scalars₁ positions positions₁ ends ends₁ scratch scratch₁) (sym ends-here)
+          (subst (λ (l : List ℕ). RowsAfter (asked l) (textOf l) pool pool₁ scalars scalars₁ positions positions₁ ends ends₁ scratch scratch₁) whole-is q)
 
 -- Bytes are taken, where there are any, and no more than there are.
 pub taken-some : (bytes : List ℕ) (n k : ℕ) {r : Fed} → r ≡ fedWith (hasEnd bytes) (lineEnd bytes) n k → 0 < length bytes → (1 ≤ r .taken) × (r .taken ≤ length bytes)
@@ -113,9 +114,9 @@ taken-some bytes n k {r} e h = go (hasEnd bytes) refl (ap (λ (f : Fed). f .take
 
 -- ---- a last line
 
-module _ (line : List ℕ) (n : ℕ) (pool scalars ends scratch : List ℕ) where
+module _ (line : List ℕ) (n : ℕ) (pool scalars positions ends scratch : List ℕ) where
   abbrev last-text : List ℕ → List ℕ
-  last-text l = told l pool (length scalars) (length scratch) ends
+  last-text l = told l pool (roomIn scalars positions) (length scratch) ends
 
   module _ (h : n ≡ 0) where
     pub no-line : (k : ℕ) → 0 ≡ cond (eqb n 0) 0 k
@@ -124,9 +125,9 @@ module _ (line : List ℕ) (n : ℕ) (pool scalars ends scratch : List ℕ) wher
     pub no-text : (out text : List ℕ) → out ≡ cond (eqb n 0) out text
     no-text out text = sym (ap (λ (b : Bool). cond b out text) (eq-eqb n 0 h))
 
-    pub no-rows : RowsAfter (asked (take n line)) (textOf (take n line)) pool pool scalars scalars ends ends scratch scratch
+    pub no-rows : RowsAfter (asked (take n line)) (textOf (take n line)) pool pool scalars scalars positions positions ends ends scratch scratch
     no-rows =
-        subst (λ (k : ℕ). RowsAfter (asked (take k line)) (textOf (take k line)) pool pool scalars scalars ends ends scratch scratch) (sym h) (untouched [] pool scalars ends scratch)
+        subst (λ (k : ℕ). RowsAfter (asked (take k line)) (textOf (take k line)) pool pool scalars scalars positions positions ends ends scratch scratch) (sym h) (untouched [] pool scalars positions ends scratch)
 
   module _ (h : n ≡ 0 → ⊥) {whole : List ℕ} (w : whole ≡ take n line) where
     pub last-size : (out : List ℕ) {k : ℕ} → k ≡ amount (last-text whole) out → k ≡ cond (eqb n 0) 0 (amount (last-text (take n line)) out)
@@ -135,7 +136,7 @@ module _ (line : List ℕ) (n : ℕ) (pool scalars ends scratch : List ℕ) wher
     pub last-out : (out : List ℕ) {out₁ : List ℕ} → out₁ ≡ written (last-text whole) out → out₁ ≡ cond (eqb n 0) out (written (last-text (take n line)) out)
     last-out out q = q ∙ ap (λ (l : List ℕ). written (last-text l) out) w ∙ sym (ap (λ (b : Bool). cond b out (written (last-text (take n line)) out)) (ne-eqb n 0 h))
 
-    pub last-rows : {pool₁ scalars₁ ends₁ scratch₁ : List ℕ} → RowsAfter (asked whole) (textOf whole) pool pool₁ scalars scalars₁ ends ends₁ scratch scratch₁
-        → RowsAfter (asked (take n line)) (textOf (take n line)) pool pool₁ scalars scalars₁ ends ends₁ scratch scratch₁
-    last-rows {pool₁} {scalars₁} {ends₁} {scratch₁} q =
-        subst (λ (l : List ℕ). RowsAfter (asked l) (textOf l) pool pool₁ scalars scalars₁ ends ends₁ scratch scratch₁) w q
+    pub last-rows : {pool₁ scalars₁ positions₁ ends₁ scratch₁ : List ℕ} → RowsAfter (asked whole) (textOf whole) pool pool₁ scalars scalars₁ positions positions₁ ends ends₁ scratch scratch₁
+        → RowsAfter (asked (take n line)) (textOf (take n line)) pool pool₁ scalars scalars₁ positions positions₁ ends ends₁ scratch scratch₁
+    last-rows {pool₁} {scalars₁} {positions₁} {ends₁} {scratch₁} q =
+        subst (λ (l : List ℕ). RowsAfter (asked l) (textOf l) pool pool₁ scalars scalars₁ positions positions₁ ends ends₁ scratch scratch₁) w q

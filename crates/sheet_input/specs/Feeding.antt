@@ -4,6 +4,7 @@ use mathlib.Core.Bool.{Bool, true, false}
 use mathlib.Core.List.{List}
 use lib.Dec.{ltb}
 use lib.ListN.{length, take}
+use Rattle.utf8.specs.Decoding.{Room}
 use Rattle.sheet_input.specs.declared.Fed.{Fed}
 use Rattle.sheet_replies.specs.declared.Asked.{Asked}
 use Rattle.sheet_replies.specs.declared.Asked.the-variants.{Nothing}
@@ -24,8 +25,8 @@ abbrev pub askedIf : Bool → List ℕ → Asked
 askedIf true line = asked line
 askedIf false line = Nothing
 
--- the text that is written for a line; the rows for scalars, scratch and ends are those of the call
-abbrev pub told : List ℕ → List ℕ → ℕ → ℕ → List ℕ → List ℕ
+-- the text that is written for a line; the rows for decoding, scratch and ends are those of the call
+abbrev pub told : List ℕ → List ℕ → Room → ℕ → List ℕ → List ℕ
 told line pool room cells ends =
     lineOf (replyOf line pool room cells (length ends)) (endsAfter (asked line) (textOf line) pool room cells ends)
 

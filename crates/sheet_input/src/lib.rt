@@ -10,6 +10,7 @@ ghost use mathlib.Core.Path.{_≡_};
 ghost use mathlib.Core.Bool.{cond};
 ghost use lib.Dec.{eqb};
 ghost use lib.ListN.{length, take};
+ghost use Rattle.utf8.specs.Decoding.{roomIn};
 ghost use Rattle.sheet_bytes.specs.Lines.{lineEnd, laid};
 ghost use Rattle.sheet_replies.specs.Replies.{asked, textOf, RowsAfter};
 ghost use Rattle.sheet_texts.specs.Texts.{written, amount};
@@ -27,21 +28,23 @@ fn told(
     line: &[u8],
     pool: &mut [u32],
     scalars: &mut [u32],
+    positions: &mut [u32],
     ends: &mut [u32],
     scratch: &mut [u32],
     out: &mut [u8],
 ) -> usize
     ensures { λ r. ⌜ r ≡ amount
-        (toldOf (now (line .entry)) (now (pool .entry)) (length (now (scalars .entry)))
+        (toldOf (now (line .entry)) (now (pool .entry)) (roomIn (now (scalars .entry)) (now (positions .entry)))
         (length (now (scratch .entry))) (now (ends .entry))) (now (out .entry)) ⌝ }
     ensures { λ _. ⌜ now (out .exit) ≡ written
-        (toldOf (now (line .entry)) (now (pool .entry)) (length (now (scalars .entry)))
+        (toldOf (now (line .entry)) (now (pool .entry)) (roomIn (now (scalars .entry)) (now (positions .entry)))
         (length (now (scratch .entry))) (now (ends .entry))) (now (out .entry)) ⌝ }
     ensures { λ _. ⌜ RowsAfter (asked (now (line .entry))) (textOf (now (line .entry)))
         (now (pool .entry)) (now (pool .exit)) (now (scalars .entry)) (now (scalars .exit))
+        (now (positions .entry)) (now (positions .exit))
         (now (ends .entry)) (now (ends .exit)) (now (scratch .entry)) (now (scratch .exit)) ⌝ }
 {
-    let reply = answer_line(line, pool, scalars, ends, scratch);
+    let reply = answer_line(line, pool, scalars, positions, ends, scratch);
     write_reply(reply, ends, out)
 }
 
@@ -54,6 +57,7 @@ pub fn feed(
     kept: usize,
     pool: &mut [u32],
     scalars: &mut [u32],
+    positions: &mut [u32],
     ends: &mut [u32],
     scratch: &mut [u32],
     out: &mut [u8],
@@ -61,17 +65,20 @@ pub fn feed(
     ensures { λ r. ⌜ r ≡ fedWith (hasEnd (now (bytes .entry))) (lineEnd (now (bytes .entry)))
         (length (lineWith (now (bytes .entry)) (now (line .entry)) kept))
         (amount (toldOf (lineWith (now (bytes .entry)) (now (line .entry)) kept) (now (pool .entry))
-        (length (now (scalars .entry))) (length (now (scratch .entry))) (now (ends .entry))) (now (out .entry))) ⌝ }
+        (roomIn (now (scalars .entry)) (now (positions .entry)))
+        (length (now (scratch .entry))) (now (ends .entry))) (now (out .entry))) ⌝ }
     ensures { λ _. ⌜ now (line .exit) ≡
         laid (lineWith (now (bytes .entry)) (now (line .entry)) kept) (now (line .entry)) ⌝ }
     ensures { λ _. ⌜ now (out .exit) ≡ cond (hasEnd (now (bytes .entry)))
         (written (toldOf (lineWith (now (bytes .entry)) (now (line .entry)) kept) (now (pool .entry))
-        (length (now (scalars .entry))) (length (now (scratch .entry))) (now (ends .entry))) (now (out .entry)))
+        (roomIn (now (scalars .entry)) (now (positions .entry)))
+        (length (now (scratch .entry))) (now (ends .entry))) (now (out .entry)))
         (now (out .entry)) ⌝ }
     ensures { λ _. ⌜ RowsAfter
         (askedIf (hasEnd (now (bytes .entry))) (lineWith (now (bytes .entry)) (now (line .entry)) kept))
         (textOf (lineWith (now (bytes .entry)) (now (line .entry)) kept))
         (now (pool .entry)) (now (pool .exit)) (now (scalars .entry)) (now (scalars .exit))
+        (now (positions .entry)) (now (positions .exit))
         (now (ends .entry)) (now (ends .exit)) (now (scratch .entry)) (now (scratch .exit)) ⌝ }
 {
     let end = line_end(bytes);
@@ -83,7 +90,7 @@ pub fn feed(
             written: 0,
         };
     }
-    let written = told(front(line, n), pool, scalars, ends, scratch, out);
+    let written = told(front(line, n), pool, scalars, positions, ends, scratch, out);
     Fed {
         taken: end + 1,
         kept: 0,
@@ -98,21 +105,33 @@ pub fn finish(
     kept: usize,
     pool: &mut [u32],
     scalars: &mut [u32],
+    positions: &mut [u32],
     ends: &mut [u32],
     scratch: &mut [u32],
     out: &mut [u8],
 ) -> usize
     ensures { λ r. ⌜ r ≡ cond (eqb kept 0) 0 (amount (toldOf (take kept (now (line .entry))) (now (pool .entry))
-        (length (now (scalars .entry))) (length (now (scratch .entry))) (now (ends .entry))) (now (out .entry))) ⌝ }
+        (roomIn (now (scalars .entry)) (now (positions .entry)))
+        (length (now (scratch .entry))) (now (ends .entry))) (now (out .entry))) ⌝ }
     ensures { λ _. ⌜ now (out .exit) ≡ cond (eqb kept 0) (now (out .entry))
         (written (toldOf (take kept (now (line .entry))) (now (pool .entry))
-        (length (now (scalars .entry))) (length (now (scratch .entry))) (now (ends .entry))) (now (out .entry))) ⌝ }
+        (roomIn (now (scalars .entry)) (now (positions .entry)))
+        (length (now (scratch .entry))) (now (ends .entry))) (now (out .entry))) ⌝ }
     ensures { λ _. ⌜ RowsAfter (asked (take kept (now (line .entry)))) (textOf (take kept (now (line .entry))))
         (now (pool .entry)) (now (pool .exit)) (now (scalars .entry)) (now (scalars .exit))
+        (now (positions .entry)) (now (positions .exit))
         (now (ends .entry)) (now (ends .exit)) (now (scratch .entry)) (now (scratch .exit)) ⌝ }
 {
     if kept == 0 {
         return 0;
     }
-    told(front(line, kept), pool, scalars, ends, scratch, out)
+    told(
+        front(line, kept),
+        pool,
+        scalars,
+        positions,
+        ends,
+        scratch,
+        out,
+    )
 }

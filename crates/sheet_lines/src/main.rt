@@ -9,6 +9,7 @@ use io_calls::write_whole;
 use sheet_bytes::front;
 use sheet_steps::LINE;
 use sheet_steps::POOL;
+use sheet_steps::POSITIONS;
 use sheet_steps::REPLY;
 use sheet_steps::SCRATCH;
 use sheet_steps::TEXT;
@@ -25,6 +26,7 @@ fn main() {
     let mut line = [0u8; LINE];
     let mut pool = [0u32; POOL];
     let mut scalars = [0u32; TEXT];
+    let mut positions = [0u32; POSITIONS];
     let mut ends = [0u32; TEXT];
     let mut scratch = [0u32; SCRATCH];
     let mut out = [0u8; REPLY];
@@ -33,6 +35,7 @@ fn main() {
         &mut line,
         &mut pool,
         &mut scalars,
+        &mut positions,
         &mut ends,
         &mut scratch,
         &mut out,
@@ -45,6 +48,7 @@ fn main() {
         kept,
         &mut pool,
         &mut scalars,
+        &mut positions,
         &mut ends,
         &mut scratch,
         &mut out,
@@ -57,11 +61,12 @@ fn end_run(
     kept: usize,
     pool: &mut [u32; POOL],
     scalars: &mut [u32; TEXT],
+    positions: &mut [u32; POSITIONS],
     ends: &mut [u32; TEXT],
     scratch: &mut [u32; SCRATCH],
     out: &mut [u8; REPLY],
 ) {
-    let n = last(line, kept, pool, scalars, ends, scratch, out);
+    let n = last(line, kept, pool, scalars, positions, ends, scratch, out);
     write_whole(front(out, n));
 }
 
@@ -71,6 +76,7 @@ fn read_all(
     line: &mut [u8; LINE],
     pool: &mut [u32; POOL],
     scalars: &mut [u32; TEXT],
+    positions: &mut [u32; POSITIONS],
     ends: &mut [u32; TEXT],
     scratch: &mut [u32; SCRATCH],
     out: &mut [u8; REPLY],
@@ -92,6 +98,7 @@ fn read_all(
             kept,
             pool,
             scalars,
+            positions,
             ends,
             scratch,
             out,
@@ -112,6 +119,7 @@ fn feed_all(
     kept: usize,
     pool: &mut [u32; POOL],
     scalars: &mut [u32; TEXT],
+    positions: &mut [u32; POSITIONS],
     ends: &mut [u32; TEXT],
     scratch: &mut [u32; SCRATCH],
     out: &mut [u8; REPLY],
@@ -119,7 +127,17 @@ fn feed_all(
     let mut n = kept;
     let mut at = 0;
     while at < bytes.len() {
-        let fed = step(&bytes[at..], line, n, pool, scalars, ends, scratch, out);
+        let fed = step(
+            &bytes[at..],
+            line,
+            n,
+            pool,
+            scalars,
+            positions,
+            ends,
+            scratch,
+            out,
+        );
         if !write_whole(front(out, fed.written)) {
             return Line::Failed;
         }

@@ -6,6 +6,7 @@ use mathlib.Core.Path.{_≡_, sym, _∙_, ap}
 use mathlib.Core.List.{List}
 use lib.ListN.{length, take}
 use lib.Seq.{take-all, length-take-le}
+use Rattle.utf8.specs.Decoding.{Room}
 use Rattle.sheet_replies.specs.declared.Asked.{Asked}
 use Rattle.sheet_replies.specs.declared.Asked.the-variants.{Nothing}
 use Rattle.sheet_replies.specs.Replies.{asked, replyTo, replyOf, textOf}
@@ -24,7 +25,7 @@ front-asks line m h =
     long l k = asked-long l (λ e. omega arith) k
 
 -- the reply to them is the reply to the line
-pub front-replies : (line : List ℕ) (m : ℕ) → 1024 < m → (pool : List ℕ) (room cells places : ℕ) → replyOf (take m line) pool room cells places ≡ replyOf line pool room cells places
+pub front-replies : (line : List ℕ) (m : ℕ) → 1024 < m → (pool : List ℕ) (room : Room) (cells places : ℕ) → replyOf (take m line) pool room cells places ≡ replyOf line pool room cells places
 unfolding replyTo
 front-replies line m h pool room cells places =
     elim (decLt m (length line)) [

@@ -8,7 +8,8 @@ use lib.ListN.{length, getD, drop}
 use Rattle.refusal.specs.declared.Answer.{Answer}
 use Rattle.refusal.specs.declared.Answer.the-variants as answers
 use Rattle.refusal.specs.Answers.{answer, output}
-use Rattle.utf8.specs.Decoding.{scalarsOf, decoded}
+use Rattle.utf8.specs.Decoding.{scalarsOf, Room, roomIn, decoded}
+use Rattle.utf8.specs.Positions.{positionsOf}
 use Rattle.trie_pool.specs.Meaning.{meaning}
 use Rattle.trie_check.specs.Refusals.{held}
 use Rattle.trie_char_answers.specs.Answers.{addAnswer, added, removeAnswer, removed}
@@ -33,21 +34,21 @@ askedBy op =
 abbrev pub asked : List ℕ → Asked
 asked line = cond (eqb (length line) 0) Nothing (cond (ltb 1024 (length line)) Nothing (askedBy (getD line 0 0)))
 
--- The text is decoded first. `room` is the number of cells for its scalars.
+-- The text is decoded first. `room` is the number of cells for its scalars and for their positions.
 abbrev pub next : Answer → Answer → Answer
 next (answers.Accepted n) a = a
 next (answers.Refused r) a = answers.Refused r
 
 -- An addition, without a class, and a removal: the answer of the dictionary's own call for the
 -- decoded text.
-abbrev pub addText : List ℕ → List ℕ → ℕ → Answer
+abbrev pub addText : List ℕ → List ℕ → Room → Answer
 addText text pool room = next (decoded text room) (addAnswer (scalarsOf text) 0 pool)
 
-abbrev pub removeText : List ℕ → List ℕ → ℕ → Answer
+abbrev pub removeText : List ℕ → List ℕ → Room → Answer
 removeText text pool room = next (decoded text room) (removeAnswer (scalarsOf text) pool)
 
 -- A cut: accepted with the number of ends.
-abbrev pub cutText : Mode → List ℕ → List ℕ → ℕ → ℕ → ℕ → Answer
+abbrev pub cutText : Mode → List ℕ → List ℕ → Room → ℕ → ℕ → Answer
 cutText mode text pool room cells places =
     next (decoded text room) (accepts mode (scalarsOf text) (meaning pool) cells places)
 
@@ -64,8 +65,8 @@ abbrev pub endedBy : CutAnswer → Reply
 endedBy (cuts.Ends n e) = Ends n
 endedBy (cuts.Refused r) = Refused r
 
--- the reply to a text by what is asked; the rows for scalars, scratch and ends have so many cells
-unfoldable pub replyTo : Asked → List ℕ → List ℕ → ℕ → ℕ → ℕ → Reply
+-- the reply to a text by what is asked; the rows for decoding, scratch and ends have so many cells
+unfoldable pub replyTo : Asked → List ℕ → List ℕ → Room → ℕ → ℕ → Reply
 replyTo Nothing text pool room cells places = Unknown
 replyTo Add text pool room cells places = reported (addText text pool room)
 replyTo Remove text pool room cells places = reported (removeText text pool room)
@@ -75,26 +76,26 @@ replyTo (Cut mode) text pool room cells places = ended (cutText mode text pool r
 abbrev pub textOf : List ℕ → List ℕ
 textOf line = drop 1 line
 
-abbrev pub replyOf : List ℕ → List ℕ → ℕ → ℕ → ℕ → Reply
+abbrev pub replyOf : List ℕ → List ℕ → Room → ℕ → ℕ → Reply
 replyOf line pool room cells places = replyTo (asked line) (textOf line) pool room cells places
 
 -- An addition and a removal change the pool as the dictionary's own calls do; nothing else
 -- changes it.
-unfoldable pub PoolAfter : Asked → List ℕ → List ℕ → List ℕ → ℕ → Type 0
+unfoldable pub PoolAfter : Asked → List ℕ → List ℕ → List ℕ → Room → Type 0
 PoolAfter Nothing text old new room = new ≡ old
 PoolAfter Add text old new room = After (addText text old room) old new (added (scalarsOf text) 0 old)
 PoolAfter Remove text old new room = After (removeText text old room) old new (removed (scalarsOf text) old)
 PoolAfter (Cut mode) text old new room = new ≡ old
 
--- The scalars of a text that is decoded stand at the front of their row.
-unfoldable pub scalarsAfter : Asked → List ℕ → List ℕ → List ℕ
-scalarsAfter Nothing text row = row
-scalarsAfter Add text row = output (decoded text (length row)) (scalarsOf text) row
-scalarsAfter Remove text row = output (decoded text (length row)) (scalarsOf text) row
-scalarsAfter (Cut mode) text row = output (decoded text (length row)) (scalarsOf text) row
+-- What is decoded of a text, its scalars or their positions, stands at the front of its row.
+unfoldable pub decodedAfter : Asked → List ℕ → Room → (written row : List ℕ) → List ℕ
+decodedAfter Nothing text room written row = row
+decodedAfter Add text room written row = output (decoded text room) written row
+decodedAfter Remove text room written row = output (decoded text room) written row
+decodedAfter (Cut mode) text room written row = output (decoded text room) written row
 
 -- The ends of a cut stand at the front of theirs.
-unfoldable pub endsAfter : Asked → List ℕ → List ℕ → ℕ → ℕ → List ℕ → List ℕ
+unfoldable pub endsAfter : Asked → List ℕ → List ℕ → Room → ℕ → List ℕ → List ℕ
 endsAfter Nothing text pool room cells row = row
 endsAfter Add text pool room cells row = row
 endsAfter Remove text pool room cells row = row
@@ -103,7 +104,7 @@ endsAfter (Cut mode) text pool room cells row =
     (cutOf mode (held (meaning pool)) (scalarsOf text) .ends) row
 
 -- Scratch is all zero where there was a cut.
-unfoldable pub scratchAfter : Asked → List ℕ → List ℕ → ℕ → List ℕ → List ℕ
+unfoldable pub scratchAfter : Asked → List ℕ → List ℕ → Room → List ℕ → List ℕ
 scratchAfter Nothing text pool room row = row
 scratchAfter Add text pool room row = row
 scratchAfter Remove text pool room row = row
@@ -111,9 +112,10 @@ scratchAfter (Cut mode) text pool room row =
     cleared (next (decoded text room) (answer (firstCauses (scalarsOf text) (meaning pool) (length row)) 0)) row
 
 -- the rows that are lent to a line, before and after
-pub record RowsAfter (what : Asked) (text pool pool₁ scalars scalars₁ ends ends₁ scratch scratch₁ : List ℕ)
-    : Type 0 where
-  pub pool-is : PoolAfter what text pool pool₁ (length scalars)
-  pub scalars-are : scalars₁ ≡ scalarsAfter what text scalars
-  pub ends-are : ends₁ ≡ endsAfter what text pool (length scalars) (length scratch) ends
-  pub scratch-is : scratch₁ ≡ scratchAfter what text pool (length scalars) scratch
+pub record RowsAfter (what : Asked)
+    (text pool pool₁ scalars scalars₁ positions positions₁ ends ends₁ scratch scratch₁ : List ℕ) : Type 0 where
+  pub pool-is : PoolAfter what text pool pool₁ (roomIn scalars positions)
+  pub scalars-are : scalars₁ ≡ decodedAfter what text (roomIn scalars positions) (scalarsOf text) scalars
+  pub positions-are : positions₁ ≡ decodedAfter what text (roomIn scalars positions) (positionsOf text) positions
+  pub ends-are : ends₁ ≡ endsAfter what text pool (roomIn scalars positions) (length scratch) ends
+  pub scratch-is : scratch₁ ≡ scratchAfter what text pool (roomIn scalars positions) scratch

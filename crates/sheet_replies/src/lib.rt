@@ -6,7 +6,8 @@ use sheet_texts::Reply;
 ghost use mathlib.Core.Path.{_≡_};
 ghost use lib.ListN.{length};
 ghost use Rattle.refusal.specs.Answers.{answer, output};
-ghost use Rattle.utf8.specs.Decoding.{scalarsOf, decoded};
+ghost use Rattle.utf8.specs.Decoding.{scalarsOf, roomIn, decoded};
+ghost use Rattle.utf8.specs.Positions.{positionsOf};
 ghost use Rattle.trie_pool.specs.Meaning.{meaning};
 ghost use Rattle.trie_check.specs.Refusals.{held};
 ghost use Rattle.trie_char_answers.specs.Answers.{added, removed};
@@ -72,32 +73,43 @@ fn ended(answer: CutAnswer) -> Reply
     }
 }
 
-fn add(text: &[u8], pool: &mut [u32], scalars: &mut [u32]) -> Reply
+fn add(text: &[u8], pool: &mut [u32], scalars: &mut [u32], positions: &mut [u32]) -> Reply
     ensures { λ r. ⌜ r ≡ reportedOf
-        (addText (now (text .entry)) (now (pool .entry)) (length (now (scalars .entry)))) ⌝ }
-    ensures { λ _. ⌜ After (addText (now (text .entry)) (now (pool .entry)) (length (now (scalars .entry))))
+        (addText (now (text .entry)) (now (pool .entry)) (roomIn (now (scalars .entry)) (now (positions .entry)))) ⌝ }
+    ensures { λ _. ⌜ After
+        (addText (now (text .entry)) (now (pool .entry)) (roomIn (now (scalars .entry)) (now (positions .entry))))
         (now (pool .entry)) (now (pool .exit))
         (added (scalarsOf (now (text .entry))) 0 (now (pool .entry))) ⌝ }
-    ensures { λ _. ⌜ now (scalars .exit) ≡ output (decoded (now (text .entry)) (length (now (scalars .entry))))
+    ensures { λ _. ⌜ now (scalars .exit) ≡
+        output (decoded (now (text .entry)) (roomIn (now (scalars .entry)) (now (positions .entry))))
         (scalarsOf (now (text .entry))) (now (scalars .entry)) ⌝ }
+    ensures { λ _. ⌜ now (positions .exit) ≡
+        output (decoded (now (text .entry)) (roomIn (now (scalars .entry)) (now (positions .entry))))
+        (positionsOf (now (text .entry))) (now (positions .entry)) ⌝ }
 {
-    let decoded = utf8::decode(text, scalars);
+    let decoded = utf8::decode(text, scalars, positions);
     match decoded {
         Answer::Refused(r) => Reply::Refused(r),
         Answer::Accepted(n) => reported(trie_char::add(pool, &scalars[..n])),
     }
 }
 
-fn remove(text: &[u8], pool: &mut [u32], scalars: &mut [u32]) -> Reply
+fn remove(text: &[u8], pool: &mut [u32], scalars: &mut [u32], positions: &mut [u32]) -> Reply
     ensures { λ r. ⌜ r ≡ reportedOf
-        (removeText (now (text .entry)) (now (pool .entry)) (length (now (scalars .entry)))) ⌝ }
-    ensures { λ _. ⌜ After (removeText (now (text .entry)) (now (pool .entry)) (length (now (scalars .entry))))
+        (removeText (now (text .entry)) (now (pool .entry))
+        (roomIn (now (scalars .entry)) (now (positions .entry)))) ⌝ }
+    ensures { λ _. ⌜ After
+        (removeText (now (text .entry)) (now (pool .entry)) (roomIn (now (scalars .entry)) (now (positions .entry))))
         (now (pool .entry)) (now (pool .exit))
         (removed (scalarsOf (now (text .entry))) (now (pool .entry))) ⌝ }
-    ensures { λ _. ⌜ now (scalars .exit) ≡ output (decoded (now (text .entry)) (length (now (scalars .entry))))
+    ensures { λ _. ⌜ now (scalars .exit) ≡
+        output (decoded (now (text .entry)) (roomIn (now (scalars .entry)) (now (positions .entry))))
         (scalarsOf (now (text .entry))) (now (scalars .entry)) ⌝ }
+    ensures { λ _. ⌜ now (positions .exit) ≡
+        output (decoded (now (text .entry)) (roomIn (now (scalars .entry)) (now (positions .entry))))
+        (positionsOf (now (text .entry))) (now (positions .entry)) ⌝ }
 {
-    let decoded = utf8::decode(text, scalars);
+    let decoded = utf8::decode(text, scalars, positions);
     match decoded {
         Answer::Refused(r) => Reply::Refused(r),
         Answer::Accepted(n) => reported(trie_char::remove(pool, &scalars[..n])),
@@ -108,25 +120,31 @@ fn cut(
     text: &[u8],
     pool: &[u32],
     scalars: &mut [u32],
+    positions: &mut [u32],
     ends: &mut [u32],
     scratch: &mut [u32],
     mode: Mode,
 ) -> Reply
-    ensures { λ r. ⌜ r ≡ endedOf (cutText mode (now (text .entry)) (now (pool .entry)) (length (now (scalars .entry)))
+    ensures { λ r. ⌜ r ≡ endedOf (cutText mode (now (text .entry)) (now (pool .entry))
+        (roomIn (now (scalars .entry)) (now (positions .entry)))
         (length (now (scratch .entry))) (length (now (ends .entry)))) ⌝ }
-    ensures { λ _. ⌜ now (scalars .exit) ≡ output (decoded (now (text .entry)) (length (now (scalars .entry))))
+    ensures { λ _. ⌜ now (scalars .exit) ≡
+        output (decoded (now (text .entry)) (roomIn (now (scalars .entry)) (now (positions .entry))))
         (scalarsOf (now (text .entry))) (now (scalars .entry)) ⌝ }
+    ensures { λ _. ⌜ now (positions .exit) ≡
+        output (decoded (now (text .entry)) (roomIn (now (scalars .entry)) (now (positions .entry))))
+        (positionsOf (now (text .entry))) (now (positions .entry)) ⌝ }
     ensures { λ _. ⌜ now (ends .exit) ≡ output
-        (cutText mode (now (text .entry)) (now (pool .entry)) (length (now (scalars .entry)))
+        (cutText mode (now (text .entry)) (now (pool .entry)) (roomIn (now (scalars .entry)) (now (positions .entry)))
         (length (now (scratch .entry))) (length (now (ends .entry))))
         (cutOf mode (held (meaning (now (pool .entry)))) (scalarsOf (now (text .entry))) .ends) (now (ends .entry)) ⌝ }
     ensures { λ _. ⌜ now (scratch .exit) ≡ cleared
-        (next (decoded (now (text .entry)) (length (now (scalars .entry))))
+        (next (decoded (now (text .entry)) (roomIn (now (scalars .entry)) (now (positions .entry))))
         (answer (firstCauses (scalarsOf (now (text .entry))) (meaning (now (pool .entry)))
         (length (now (scratch .entry)))) 0))
         (now (scratch .entry)) ⌝ }
 {
-    let decoded = utf8::decode(text, scalars);
+    let decoded = utf8::decode(text, scalars, positions);
     match decoded {
         Answer::Refused(r) => Reply::Refused(r),
         Answer::Accepted(n) => ended(newmm::cut(&scalars[..n], pool, ends, scratch, mode)),
@@ -134,25 +152,29 @@ fn cut(
 }
 
 // The reply to a line, of which the bytes behind the first are the text. An addition or a removal
-// changes the pool, a cut leaves its ends at the front of `ends`.
+// changes the pool, a cut leaves its ends at the front of `ends`. Each leaves the text's scalars
+// and their positions at the front of their rows.
 pub fn answer_line(
     line: &[u8],
     pool: &mut [u32],
     scalars: &mut [u32],
+    positions: &mut [u32],
     ends: &mut [u32],
     scratch: &mut [u32],
 ) -> Reply
-    ensures { λ r. ⌜ r ≡ replyOf (now (line .entry)) (now (pool .entry)) (length (now (scalars .entry)))
+    ensures { λ r. ⌜ r ≡ replyOf (now (line .entry)) (now (pool .entry))
+        (roomIn (now (scalars .entry)) (now (positions .entry)))
         (length (now (scratch .entry))) (length (now (ends .entry))) ⌝ }
     ensures { λ _. ⌜ RowsAfter (askedOf (now (line .entry))) (textOf (now (line .entry)))
         (now (pool .entry)) (now (pool .exit)) (now (scalars .entry)) (now (scalars .exit))
+        (now (positions .entry)) (now (positions .exit))
         (now (ends .entry)) (now (ends .exit)) (now (scratch .entry)) (now (scratch .exit)) ⌝ }
 {
     let asked = asks(line);
     match asked {
         Asked::Nothing => Reply::Unknown,
-        Asked::Add => add(&line[1..], pool, scalars),
-        Asked::Remove => remove(&line[1..], pool, scalars),
-        Asked::Cut(mode) => cut(&line[1..], pool, scalars, ends, scratch, mode),
+        Asked::Add => add(&line[1..], pool, scalars, positions),
+        Asked::Remove => remove(&line[1..], pool, scalars, positions),
+        Asked::Cut(mode) => cut(&line[1..], pool, scalars, positions, ends, scratch, mode),
     }
 }

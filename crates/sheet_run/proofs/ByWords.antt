@@ -16,8 +16,8 @@ use Rattle.refusal.specs.declared.Refusal.the-variants.{IllFormed, TooManyScala
 use Rattle.refusal.specs.declared.Answer.{Answer}
 use Rattle.refusal.specs.declared.Answer.the-variants as answers
 use Rattle.refusal.specs.Answers.{output}
-use Rattle.utf8.specs.Utf8.{Utf8, empty, next}
-use Rattle.utf8.specs.Decoding.{runAll, scalarsOf, decoded}
+use Rattle.utf8_sequences.specs.Utf8.{Utf8, empty, next}
+use Rattle.utf8.specs.Decoding.{runAll, scalarsOf, Room, decoded}
 use Rattle.char_string_scalars.specs.Scalars.{firstNonScalar}
 use Rattle.char_string_trim.specs.Trimming.{trimmedOf}
 use Rattle.theorems_unicode.proofs.Standard.{accepted, sequence-size}
@@ -99,6 +99,10 @@ three-no {a} {b} {c} r s t rest e f g = two-no r s (cond c (answers.Refused t) r
 
 -- ---- a text of at most 1,023 bytes
 
+-- the rows of a run that it is decoded to
+abbrev pub lent : Room
+lent = record { scalars = 1023; positions = 1024 }
+
 module _ (text : List ℕ) (short : length text ≤ 1023) where
   module _ (whole : runAll text .whole ≡ true) where
     u : Utf8 text (scalarsOf text)
@@ -113,15 +117,17 @@ module _ (text : List ℕ) (short : length text ≤ 1023) where
     no-three : ltb (firstNonScalar (scalarsOf text)) (length (scalarsOf text)) ≡ false
     no-three = le-ltb (firstNonScalar (scalarsOf text)) (length (scalarsOf text)) (omega (arith, all-scalars u))
 
-  decodes : (a : Answer) → replies′.next (decoded text 1023) a ≡ cond (not (runAll text .whole)) (answers.Refused (IllFormed (runAll text .taken))) a
+  abbrev many : ℕ
+  many = length (scalarsOf text)
+
+  decodes : (a : Answer) → replies′.next (decoded text lent) a ≡ cond (not (runAll text .whole)) (answers.Refused (IllFormed (runAll text .taken))) a
   decodes a = go (runAll text .whole) refl
     where
-      rest : Answer
-      rest = answers.Accepted (length (scalarsOf text))
-
       go : (b : Bool) → runAll text .whole ≡ b
-          → replies′.next (cond (not b) (answers.Refused (IllFormed (runAll text .taken))) (cond (ltb 65535 (length (scalarsOf text))) (answers.Refused (TooManyScalars (length (scalarsOf text)))) (cond (ltb 1023 (length (scalarsOf text))) (answers.Refused (OutputTooShort (length (scalarsOf text)))) rest))) a ≡ cond (not b) (answers.Refused (IllFormed (runAll text .taken))) a
-      go true e = ap (λ (x : Answer). replies′.next x a) (two-no _ _ rest (no-two e) (le-ltb 1023 (length (scalarsOf text)) (omega (arith, few-scalars e))))
+          → replies′.next (cond (not b) (answers.Refused (IllFormed (runAll text .taken))) (cond (ltb 65535 many) (answers.Refused (TooManyScalars many)) (cond (ltb 1023 many) (answers.Refused (OutputTooShort many)) (cond (ltb 1024 (many + 1)) (answers.Refused (OutputTooShort (many + 1))) (answers.Accepted many))))) a ≡ cond (not b) (answers.Refused (IllFormed (runAll text .taken))) a
+      go true e =
+          let k = few-scalars e in
+          ap (λ (x : Answer). replies′.next x a) (three-no _ _ _ _ (no-two e) (le-ltb 1023 many (omega arith)) (le-ltb 1024 (many + 1) (omega arith)))
       go false e = refl
 
   -- the causes before a word's own don't hold, where the text is decoded
@@ -146,7 +152,7 @@ module _ (text : List ℕ) (short : length text ≤ 1023) where
     cap : capacity pool ≡ 2048
     cap = ap (λ (n : ℕ). min (n / 8) 1048576) size
 
-    pub add-is : addText text pool 1023 ≡ addedIn text words
+    pub add-is : addText text pool lent ≡ addedIn text words
     add-is = decodes (addAnswer (scalarsOf text) 0 pool) ∙ goes-on _ _ here
       where
         w : List ℕ
@@ -166,7 +172,7 @@ module _ (text : List ℕ) (short : length text ≤ 1023) where
             three-no _ _ _ _ (no-two e) (no-three e) no-four ∙ ap (λ (k : ℕ). late k (capacity pool) old) (nodes-are pool words means w) ∙ ap (λ (c : ℕ). late (nodes (including w words)) c old) cap
             ∙ ap (late (nodes (including w words)) 2048) told′
 
-    pub remove-is : removeText text pool 1023 ≡ removedIn text words
+    pub remove-is : removeText text pool lent ≡ removedIn text words
     remove-is = decodes (removeAnswer (scalarsOf text) pool) ∙ goes-on _ _ here
       where
         w : List ℕ
@@ -181,7 +187,7 @@ module _ (text : List ℕ) (short : length text ≤ 1023) where
         here : runAll text .whole ≡ true → removeAnswer (scalarsOf text) pool ≡ late (report w (among words) (among (excluding w words)))
         here e = three-no _ _ _ _ (no-two e) (no-three e) no-four ∙ ap late told′
 
-    pub cut-is : (mode : Mode) → cutText mode text pool 1023 9335 1023 ≡ cutIn mode text words
+    pub cut-is : (mode : Mode) → cutText mode text pool lent 9335 1023 ≡ cutIn mode text words
     cut-is mode = decodes (accepts mode (scalarsOf text) (meaning pool) 9335 1023) ∙ goes-on _ _ here
       where
         ends-are : cutOf mode (held (meaning pool)) (scalarsOf text) .ends ≡ endsIn mode text words

@@ -37,7 +37,7 @@ use Rattle.sheet_texts.specs.Texts.{decimalIn, decimal, behindOther, lineOf, te
 use Rattle.sheet_input.specs.Feeding.{told}
 use Rattle.sheet_replies.proofs.Asking.{asked-long}
 use Rattle.sheet_run.specs.Program.{among, including, excluding, nodes, wordOf, addedIn, removedIn, endsIn, cutIn, replyIn, toldEnds, ifAccepted, wordsIn, wordsBehind, toldFor, Possible, one, seven, eight, OnlyThese}
-use Rattle.sheet_run.proofs.ByWords.{among-with, among-without, words-are, add-is, remove-is, cut-is, climbs, few-scalars}
+use Rattle.sheet_run.proofs.ByWords.{lent, among-with, among-without, words-are, add-is, remove-is, cut-is, climbs, few-scalars}
 
 -- ---- a line's text
 
@@ -53,10 +53,10 @@ after-holds (answers.Refused r) old new f more words b e m s = (ap terms b ∙ m
 
 module _ (text : List ℕ) (short : length text ≤ 1023) (pool : List ℕ) (words : List (List ℕ)) (m : terms pool ≡ some (classless (among words))) (size : length pool ≡ 16384) where
   cut-told : (mode : Mode) (row : List ℕ) → length row ≡ 1023
-      → lineOf (ended (cutText mode text pool 1023 9335 (length row))) (output (cutText mode text pool 1023 9335 (length row)) (cutOf mode (held (meaning pool)) (scalarsOf text) .ends) row)
+      → lineOf (ended (cutText mode text pool lent 9335 (length row))) (output (cutText mode text pool lent 9335 (length row)) (cutOf mode (held (meaning pool)) (scalarsOf text) .ends) row)
       ≡ lineOf (ended (cutIn mode text words)) (endsIn mode text words)
   cut-told mode row r =
-      ap (λ (a : Answer). lineOf (ended a) (output a (cutOf mode (held (meaning pool)) (scalarsOf text) .ends) row)) (ap (cutText mode text pool 1023 9335) r ∙ cut-is text short pool words m size mode)
+      ap (λ (a : Answer). lineOf (ended a) (output a (cutOf mode (held (meaning pool)) (scalarsOf text) .ends) row)) (ap (cutText mode text pool lent 9335) r ∙ cut-is text short pool words m size mode)
       ∙ ap (λ (f : Words). lineOf (ended (cutIn mode text words)) (output (cutIn mode text words) (cutOf mode f (scalarsOf text) .ends) row)) (words-are text short pool words m size)
       ∙ go (runAll text .whole)
     where
@@ -68,14 +68,14 @@ module _ (text : List ℕ) (short : length text ≤ 1023) (pool : List ℕ) (wor
       go false = refl
 
   text-told : (k : Asked) (row : List ℕ) → length row ≡ 1023
-      → lineOf (replyTo k text pool 1023 9335 (length row)) (endsAfter k text pool 1023 9335 row) ≡ lineOf (replyIn k text words) (toldEnds k text words)
+      → lineOf (replyTo k text pool lent 9335 (length row)) (endsAfter k text pool lent 9335 row) ≡ lineOf (replyIn k text words) (toldEnds k text words)
   unfolding replyTo endsAfter replyIn toldEnds
   text-told Nothing row r = refl
-  text-told Add row r = report-told (addText text pool 1023) row ∙ ap (λ (a : Answer). lineOf (reported a) []) (add-is text short pool words m size)
-  text-told Remove row r = report-told (removeText text pool 1023) row ∙ ap (λ (a : Answer). lineOf (reported a) []) (remove-is text short pool words m size)
+  text-told Add row r = report-told (addText text pool lent) row ∙ ap (λ (a : Answer). lineOf (reported a) []) (add-is text short pool words m size)
+  text-told Remove row r = report-told (removeText text pool lent) row ∙ ap (λ (a : Answer). lineOf (reported a) []) (remove-is text short pool words m size)
   text-told (Cut mode) row r = cut-told mode row r
 
-  text-pool : (k : Asked) (new : List ℕ) → PoolAfter k text pool new 1023 → (terms new ≡ some (classless (among (wordsIn k text words)))) × (length new ≡ 16384)
+  text-pool : (k : Asked) (new : List ℕ) → PoolAfter k text pool new lent → (terms new ≡ some (classless (among (wordsIn k text words)))) × (length new ≡ 16384)
   unfolding PoolAfter wordsIn
   text-pool Nothing new e = (ap terms e ∙ m, ap length e ∙ size)
   text-pool (Cut mode) new e = (ap terms e ∙ m, ap length e ∙ size)
@@ -90,11 +90,11 @@ module _ (text : List ℕ) (short : length text ≤ 1023) (pool : List ℕ) (wor
 
 -- a line that asks nothing is answered alike, whatever its text
 nothing-line : (text pool : List ℕ) (words : List (List ℕ)) (row : List ℕ)
-    → lineOf (replyTo Nothing text pool 1023 9335 (length row)) (endsAfter Nothing text pool 1023 9335 row) ≡ lineOf (replyIn Nothing text words) (toldEnds Nothing text words)
+    → lineOf (replyTo Nothing text pool lent 9335 (length row)) (endsAfter Nothing text pool lent 9335 row) ≡ lineOf (replyIn Nothing text words) (toldEnds Nothing text words)
 unfolding replyTo endsAfter replyIn toldEnds
 nothing-line text pool words row = refl
 
-pub nothing-pool : (text pool : List ℕ) (words : List (List ℕ)) → terms pool ≡ some (classless (among words)) → length pool ≡ 16384 → (new : List ℕ) → PoolAfter Nothing text pool new 1023
+pub nothing-pool : (text pool : List ℕ) (words : List (List ℕ)) → terms pool ≡ some (classless (among words)) → length pool ≡ 16384 → (new : List ℕ) → PoolAfter Nothing text pool new lent
     → (terms new ≡ some (classless (among (wordsIn Nothing text words)))) × (length new ≡ 16384)
 unfolding PoolAfter wordsIn
 nothing-pool text pool words m size new e = (ap terms e ∙ m, ap length e ∙ size)
@@ -197,27 +197,27 @@ long line h = sym (asked-long line (λ e. omega arith) h)
 -- With a pool of 2,048 nodes that holds the words, 1,023 cells for scalars and for ends, and 9,335
 -- cells of scratch, a line is answered by the words alone.
 module _ (line pool : List ℕ) (words : List (List ℕ)) (m : terms pool ≡ some (classless (among words))) (size : length pool ≡ 16384) where
-  pub line-told : (row : List ℕ) → length row ≡ 1023 → told line pool 1023 9335 row ≡ toldFor line words
+  pub line-told : (row : List ℕ) → length row ≡ 1023 → told line pool lent 9335 row ≡ toldFor line words
   line-told row r =
       elim (decLt 1024 (length line)) [
         | yes l ↦ nothing (asked line) (long line l)
         | no n ↦ text-told (textOf line) (line-fits line (omega arith)) pool words m size (asked line) row r
       ]
     where
-      none′ : lineOf (replyTo Nothing (textOf line) pool 1023 9335 (length row)) (endsAfter Nothing (textOf line) pool 1023 9335 row) ≡ lineOf (replyIn Nothing (textOf line) words) (toldEnds Nothing (textOf line) words)
+      none′ : lineOf (replyTo Nothing (textOf line) pool lent 9335 (length row)) (endsAfter Nothing (textOf line) pool lent 9335 row) ≡ lineOf (replyIn Nothing (textOf line) words) (toldEnds Nothing (textOf line) words)
       none′ = nothing-line (textOf line) pool words row
 
       nothing : (k : Asked) → k ≡ Nothing
-          → lineOf (replyTo k (textOf line) pool 1023 9335 (length row)) (endsAfter k (textOf line) pool 1023 9335 row) ≡ lineOf (replyIn k (textOf line) words) (toldEnds k (textOf line) words)
+          → lineOf (replyTo k (textOf line) pool lent 9335 (length row)) (endsAfter k (textOf line) pool lent 9335 row) ≡ lineOf (replyIn k (textOf line) words) (toldEnds k (textOf line) words)
       nothing k e =
-          ap (λ (j : Asked). lineOf (replyTo j (textOf line) pool 1023 9335 (length row)) (endsAfter j (textOf line) pool 1023 9335 row)) e ∙ none′
+          ap (λ (j : Asked). lineOf (replyTo j (textOf line) pool lent 9335 (length row)) (endsAfter j (textOf line) pool lent 9335 row)) e ∙ none′
           ∙ sym (ap (λ (j : Asked). lineOf (replyIn j (textOf line) words) (toldEnds j (textOf line) words)) e)
 
-  pub line-pool : (new : List ℕ) → PoolAfter (asked line) (textOf line) pool new 1023 → (terms new ≡ some (classless (among (wordsBehind line words)))) × (length new ≡ 16384)
+  pub line-pool : (new : List ℕ) → PoolAfter (asked line) (textOf line) pool new lent → (terms new ≡ some (classless (among (wordsBehind line words)))) × (length new ≡ 16384)
   line-pool new a =
       elim (decLt 1024 (length line)) [
         | yes l ↦ subst (λ (k : Asked). (terms new ≡ some (classless (among (wordsIn k (textOf line) words)))) × (length new ≡ 16384)) (sym (long line l))
-            (nothing-pool (textOf line) pool words m size new (subst (λ (k : Asked). PoolAfter k (textOf line) pool new 1023) (long line l) a))
+            (nothing-pool (textOf line) pool words m size new (subst (λ (k : Asked). PoolAfter k (textOf line) pool new lent) (long line l) a))
         | no n ↦ text-pool (textOf line) (line-fits line (omega arith)) pool words m size (asked line) new a
       ]
 

@@ -13,6 +13,7 @@ use lib.Seq.{take-append-seam, take-all, length-take-le}
 use borrow.Author.Tests.{ltb-true, ltb-false, eqb-true, eqb-false}
 use Rattle.lists.specs.Scans.{leading}
 use Rattle.lists.proofs.Scans.{leading-inside}
+use Rattle.utf8.specs.Decoding.{Room, roomIn}
 use Rattle.trie_pool.specs.Meaning.{terms, noTerm, classless}
 use Rattle.sheet_input.specs.declared.Fed.{Fed}
 use Rattle.sheet_replies.specs.declared.Asked.{Asked}
@@ -22,6 +23,7 @@ use Rattle.sheet_replies.specs.Replies.{asked, textOf, PoolAfter, RowsAfter}
 use Rattle.sheet_texts.specs.Texts.{written, amount}
 use Rattle.sheet_input.specs.Feeding.{lineWith, hasEnd, askedIf, told, fedWith}
 use Rattle.sheet_run.specs.Program.{linesFrom, among, replies, left, run, toldFor, wordsBehind, Holds, Leaves, Stepped, Finished, Calls, step, last}
+use Rattle.sheet_run.proofs.ByWords.{lent}
 use Rattle.sheet_run.proofs.Telling.{line-told, line-pool, line-size, front-told, front-words, nothing-pool}
 
 append-nil : (l : List ℕ) → l ++ [] ≡ l
@@ -75,7 +77,7 @@ take-front zero a b = refl
 take-front (suc n) [] b = refl
 take-front (suc n) (x ∷ a) b = ap (λ (l : List ℕ). x ∷ l) (take-front n a b)
 
-unasked : (text pool pool₁ : List ℕ) (room : ℕ) → PoolAfter Nothing text pool pool₁ room → pool₁ ≡ pool
+unasked : (text pool pool₁ : List ℕ) (room : Room) → PoolAfter Nothing text pool pool₁ room → pool₁ ≡ pool
 unfolding PoolAfter
 unasked text pool pool₁ room e = e
 
@@ -90,12 +92,15 @@ written-whole text out h =
     ap (λ (n : ℕ). take n (written text out)) (amount-whole text out h) ∙ ap (λ (l : List ℕ). take (length text) (laid l out)) e ∙ take-append-seam text (drop (length text) out)
 
 -- ---- a call, with 1,025 bytes for a line, 2,048 nodes, 1,023 cells for scalars and ends,
--- 9,335 of scratch and 5,115 bytes for a reply
+-- 1,024 for positions, 9,335 of scratch and 5,115 bytes for a reply
 
-module _ (bytes row pool scalars ends scratch out : List ℕ) (used : ℕ)
-    (line-long : length row ≡ 1025) (pool-long : length pool ≡ 16384) (scalars-long : length scalars ≡ 1023) (ends-long : length ends ≡ 1023) (scratch-long : length scratch ≡ 9335) (out-long : length out ≡ 5115) where
+module _ (bytes row pool scalars positions ends scratch out : List ℕ) (used : ℕ)
+    (line-long : length row ≡ 1025) (pool-long : length pool ≡ 16384) (scalars-long : length scalars ≡ 1023) (positions-long : length positions ≡ 1024) (ends-long : length ends ≡ 1023) (scratch-long : length scratch ≡ 9335) (out-long : length out ≡ 5115) where
   abbrev texts : List ℕ → List ℕ
-  texts l = told l pool (length scalars) (length scratch) ends
+  texts l = told l pool (roomIn scalars positions) (length scratch) ends
+
+  room-is : roomIn scalars positions ≡ lent
+  room-is = λ i. record { scalars = scalars-long i; positions = positions-long i }
 
   module _ (begun : List ℕ) (words : List (List ℕ)) (h : Holds row used pool begun words) where
     with-is : lineWith bytes row used ≡ take 1025 (begun ++ take (lineEnd bytes) bytes)
@@ -106,7 +111,7 @@ module _ (bytes row pool scalars ends scratch out : List ℕ) (used : ℕ)
     -- a line is told by the words
     texts-are : (line : List ℕ) → texts line ≡ toldFor line words
     texts-are line =
-        ap (λ (n : ℕ). told line pool n (length scratch) ends) scalars-long ∙ ap (λ (n : ℕ). told line pool 1023 n ends) scratch-long
+        ap (λ (r : Room). told line pool r (length scratch) ends) room-is ∙ ap (λ (n : ℕ). told line pool lent n ends) scratch-long
         ∙ line-told line pool words (h .means) pool-long ends ends-long
 
     texts-fit : (line : List ℕ) → length (texts line) ≤ length out
@@ -116,7 +121,7 @@ module _ (bytes row pool scalars ends scratch out : List ℕ) (used : ℕ)
     told-whole line = written-whole (texts line) out (texts-fit line) ∙ texts-are line
 
     -- the rest of the run, where the line ends in the bytes
-    module _ (e : lineEnd bytes < length bytes) (row₁ pool₁ : List ℕ) (after : PoolAfter (asked (lineWith bytes row used)) (textOf (lineWith bytes row used)) pool pool₁ (length scalars)) where
+    module _ (e : lineEnd bytes < length bytes) (row₁ pool₁ : List ℕ) (after : PoolAfter (asked (lineWith bytes row used)) (textOf (lineWith bytes row used)) pool pool₁ (roomIn scalars positions)) where
       abbrev whole : List ℕ
       whole = begun ++ take (lineEnd bytes) bytes
 
@@ -125,7 +130,7 @@ module _ (bytes row pool scalars ends scratch out : List ℕ) (used : ℕ)
 
       pool-is : terms pool₁ ≡ some (classless (among (wordsBehind whole words)))
       pool-is =
-          line-pool (lineWith bytes row used) pool words (h .means) pool-long pool₁ (subst (λ (n : ℕ). PoolAfter (asked (lineWith bytes row used)) (textOf (lineWith bytes row used)) pool pool₁ n) scalars-long after) .0
+          line-pool (lineWith bytes row used) pool words (h .means) pool-long pool₁ (subst (λ (r : Room). PoolAfter (asked (lineWith bytes row used)) (textOf (lineWith bytes row used)) pool pool₁ r) room-is after) .0
           ∙ ap (λ (l : List ℕ). some (classless (among (wordsBehind l words)))) with-is ∙ ap (λ (l : List (List ℕ)). some (classless (among l))) (front-words whole words)
 
       run-end : (more : List ℕ) → left words begun (bytes ++ more) ≡ toldFor whole words ++ left (wordsBehind whole words) [] (drop (suc (lineEnd bytes)) bytes ++ more)
@@ -178,14 +183,14 @@ module _ (bytes row pool scalars ends scratch out : List ℕ) (used : ℕ)
 
   -- ---- what the contracts of feed and finish say, with these rows
 
-  module _ (row₁ pool₁ scalars₁ ends₁ scratch₁ out₁ : List ℕ) (r : Fed) (fed : r ≡ fedWith (hasEnd bytes) (lineEnd bytes) (length (lineWith bytes row used)) (amount (texts (lineWith bytes row used)) out))
+  module _ (row₁ pool₁ scalars₁ positions₁ ends₁ scratch₁ out₁ : List ℕ) (r : Fed) (fed : r ≡ fedWith (hasEnd bytes) (lineEnd bytes) (length (lineWith bytes row used)) (amount (texts (lineWith bytes row used)) out))
       (line-is : row₁ ≡ laid (lineWith bytes row used) row) (out-is : out₁ ≡ cond (hasEnd bytes) (written (texts (lineWith bytes row used)) out) out)
-      (rows : RowsAfter (askedIf (hasEnd bytes) (lineWith bytes row used)) (textOf (lineWith bytes row used)) pool pool₁ scalars scalars₁ ends ends₁ scratch scratch₁) where
+      (rows : RowsAfter (askedIf (hasEnd bytes) (lineWith bytes row used)) (textOf (lineWith bytes row used)) pool pool₁ scalars scalars₁ positions positions₁ ends ends₁ scratch scratch₁) where
     pub stepped : Stepped bytes row used pool row₁ pool₁ out₁ r
     stepped begun words h = go (hasEnd bytes) refl fed out-is (rows .pool-is)
       where
         go : (b : Bool) → hasEnd bytes ≡ b → r ≡ fedWith b (lineEnd bytes) (length (lineWith bytes row used)) (amount (texts (lineWith bytes row used)) out)
-            → out₁ ≡ cond b (written (texts (lineWith bytes row used)) out) out → PoolAfter (askedIf b (lineWith bytes row used)) (textOf (lineWith bytes row used)) pool pool₁ (length scalars)
+            → out₁ ≡ cond b (written (texts (lineWith bytes row used)) out) out → PoolAfter (askedIf b (lineWith bytes row used)) (textOf (lineWith bytes row used)) pool pool₁ (roomIn scalars positions)
             → Leaves bytes (r .taken) (take (r .written) out₁) row₁ (r .kept) pool₁ begun words
         go true t e f a =
             subst (λ (x : Fed). Leaves bytes (x .taken) (take (x .written) out₁) row₁ (x .kept) pool₁ begun words) (sym e)
@@ -193,7 +198,7 @@ module _ (bytes row pool scalars ends scratch out : List ℕ) (used : ℕ)
             (ended begun words h (ltb-true (lineEnd bytes) (length bytes) t) row₁ pool₁ a))
         go false t e f a =
             subst (λ (x : Fed). Leaves bytes (x .taken) (take (x .written) out₁) row₁ (x .kept) pool₁ begun words) (sym e)
-            (goes-on begun words h (ltb-false (lineEnd bytes) (length bytes) t) row₁ pool₁ out₁ line-is (unasked (textOf (lineWith bytes row used)) pool pool₁ (length scalars) a))
+            (goes-on begun words h (ltb-false (lineEnd bytes) (length bytes) t) row₁ pool₁ out₁ line-is (unasked (textOf (lineWith bytes row used)) pool pool₁ (roomIn scalars positions) a))
 
   module _ (out₁ : List ℕ) (n : ℕ) (size : n ≡ cond (eqb used 0) 0 (amount (texts (take used row)) out)) (out-is : out₁ ≡ cond (eqb used 0) out (written (texts (take used row)) out)) where
     pub finished : Finished row used pool out₁ n

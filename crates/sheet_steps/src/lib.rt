@@ -7,13 +7,15 @@ ghost use mathlib.Core.Path.{_≡_};
 ghost use mathlib.Core.Bool.{cond};
 ghost use lib.Dec.{eqb};
 ghost use lib.ListN.{length, take};
+ghost use Rattle.utf8.specs.Decoding.{roomIn};
 ghost use Rattle.sheet_bytes.specs.Lines.{lineEnd, laid};
 ghost use Rattle.sheet_replies.specs.Replies.{asked, textOf, RowsAfter};
 ghost use Rattle.sheet_texts.specs.Texts.{written, amount};
 ghost use Rattle.sheet_input.specs.Feeding.{lineWith, hasEnd, askedIf, told, fedWith};
 ghost use Rattle.sheet_run.specs.Program.{Stepped, Finished};
 
-// The rows of a run are so long: a line, the pool, scalars and ends, scratch, the text of a reply.
+// The rows of a run are so long: a line, the pool, scalars and ends, positions, scratch, and the
+// text of a reply.
 // The contracts of `step` and `last` rest on these lengths.
 
 // One more than the bytes that a line may have, so that a longer line is known by its first bytes.
@@ -24,6 +26,9 @@ pub const POOL: usize = 16384;
 
 // The most characters that the text of a line has, and the most ends.
 pub const TEXT: usize = 1023;
+
+// The positions of such a text's characters, and that of its end.
+pub const POSITIONS: usize = 1024;
 
 // What cutting such a text asks: 9n+128.
 pub const SCRATCH: usize = 9335;
@@ -38,6 +43,7 @@ pub fn step(
     kept: usize,
     pool: &mut [u32; POOL],
     scalars: &mut [u32; TEXT],
+    positions: &mut [u32; POSITIONS],
     ends: &mut [u32; TEXT],
     scratch: &mut [u32; SCRATCH],
     out: &mut [u8; REPLY],
@@ -47,20 +53,33 @@ pub fn step(
     ensures { λ r. ⌜ r ≡ fedWith (hasEnd (now (bytes .entry))) (lineEnd (now (bytes .entry)))
         (length (lineWith (now (bytes .entry)) (now (line .entry)) kept))
         (amount (told (lineWith (now (bytes .entry)) (now (line .entry)) kept) (now (pool .entry))
-        (length (now (scalars .entry))) (length (now (scratch .entry))) (now (ends .entry))) (now (out .entry))) ⌝ }
+        (roomIn (now (scalars .entry)) (now (positions .entry)))
+        (length (now (scratch .entry))) (now (ends .entry))) (now (out .entry))) ⌝ }
     ensures { λ _. ⌜ now (line .exit) ≡
         laid (lineWith (now (bytes .entry)) (now (line .entry)) kept) (now (line .entry)) ⌝ }
     ensures { λ _. ⌜ now (out .exit) ≡ cond (hasEnd (now (bytes .entry)))
         (written (told (lineWith (now (bytes .entry)) (now (line .entry)) kept) (now (pool .entry))
-        (length (now (scalars .entry))) (length (now (scratch .entry))) (now (ends .entry))) (now (out .entry)))
+        (roomIn (now (scalars .entry)) (now (positions .entry)))
+        (length (now (scratch .entry))) (now (ends .entry))) (now (out .entry)))
         (now (out .entry)) ⌝ }
     ensures { λ _. ⌜ RowsAfter
         (askedIf (hasEnd (now (bytes .entry))) (lineWith (now (bytes .entry)) (now (line .entry)) kept))
         (textOf (lineWith (now (bytes .entry)) (now (line .entry)) kept))
         (now (pool .entry)) (now (pool .exit)) (now (scalars .entry)) (now (scalars .exit))
+        (now (positions .entry)) (now (positions .exit))
         (now (ends .entry)) (now (ends .exit)) (now (scratch .entry)) (now (scratch .exit)) ⌝ }
 {
-    feed(bytes, line, kept, pool, scalars, ends, scratch, out)
+    feed(
+        bytes,
+        line,
+        kept,
+        pool,
+        scalars,
+        positions,
+        ends,
+        scratch,
+        out,
+    )
 }
 
 // As `finish`. What it writes is all that is left of the run.
@@ -69,19 +88,23 @@ pub fn last(
     kept: usize,
     pool: &mut [u32; POOL],
     scalars: &mut [u32; TEXT],
+    positions: &mut [u32; POSITIONS],
     ends: &mut [u32; TEXT],
     scratch: &mut [u32; SCRATCH],
     out: &mut [u8; REPLY],
 ) -> usize
     ensures { λ r. ⌜ Finished (now (line .entry)) kept (now (pool .entry)) (now (out .exit)) r ⌝ }
     ensures { λ r. ⌜ r ≡ cond (eqb kept 0) 0 (amount (told (take kept (now (line .entry))) (now (pool .entry))
-        (length (now (scalars .entry))) (length (now (scratch .entry))) (now (ends .entry))) (now (out .entry))) ⌝ }
+        (roomIn (now (scalars .entry)) (now (positions .entry)))
+        (length (now (scratch .entry))) (now (ends .entry))) (now (out .entry))) ⌝ }
     ensures { λ _. ⌜ now (out .exit) ≡ cond (eqb kept 0) (now (out .entry))
         (written (told (take kept (now (line .entry))) (now (pool .entry))
-        (length (now (scalars .entry))) (length (now (scratch .entry))) (now (ends .entry))) (now (out .entry))) ⌝ }
+        (roomIn (now (scalars .entry)) (now (positions .entry)))
+        (length (now (scratch .entry))) (now (ends .entry))) (now (out .entry))) ⌝ }
     ensures { λ _. ⌜ RowsAfter (asked (take kept (now (line .entry)))) (textOf (take kept (now (line .entry))))
         (now (pool .entry)) (now (pool .exit)) (now (scalars .entry)) (now (scalars .exit))
+        (now (positions .entry)) (now (positions .exit))
         (now (ends .entry)) (now (ends .exit)) (now (scratch .entry)) (now (scratch .exit)) ⌝ }
 {
-    finish(line, kept, pool, scalars, ends, scratch, out)
+    finish(line, kept, pool, scalars, positions, ends, scratch, out)
 }

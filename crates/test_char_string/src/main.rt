@@ -1,5 +1,9 @@
 // Replays the test vectors of `utf8`, `char_string` and `char_string_view`: a line with the answer
 // for each line of standard input.
+//
+// The rows of a decoding are lent full of leftovers. Where it leaves a cell otherwise than documents
+// 01 and 02 say, a `?` is written.
+mod places;
 mod views;
 
 use char_string::CharAt;
@@ -7,7 +11,6 @@ use char_string_last_space::Found;
 use refusal::Answer;
 use test_lines::behind;
 use test_lines::field;
-use test_lines::first;
 use test_lines::is;
 use test_lines::lent;
 use test_lines::number;
@@ -16,7 +19,6 @@ use test_lines::print;
 use test_lines::print_cells;
 use test_lines::print_number;
 use test_lines::print_refusal;
-use test_lines::read_bytes;
 use test_lines::read_cells;
 use test_lines::read_input;
 
@@ -30,23 +32,32 @@ fn main() {
     let mut input = [0u8; INPUT];
     let mut bytes = [0u8; BYTES];
     let mut cells = [0u32; CELLS];
+    let mut positions = [0u32; CELLS];
     let n = read_input(&mut input);
-    replay(&input[..n], &mut bytes, &mut cells);
+    replay(&input[..n], &mut bytes, &mut cells, &mut positions);
 }
 
-fn replay(input: &[u8], bytes: &mut [u8], cells: &mut [u32]) {
+fn replay(input: &[u8], bytes: &mut [u8], cells: &mut [u32], positions: &mut [u32]) {
     let mut at = 0;
     while at < input.len() {
-        answer(part_at(input, at, b'\n'), bytes, cells);
+        answer(part_at(input, at, b'\n'), bytes, cells, positions);
         print(b"\n");
         at = behind(input, at, b'\n');
     }
 }
 
-fn answer(line: &[u8], bytes: &mut [u8], cells: &mut [u32]) {
+fn answer(line: &[u8], bytes: &mut [u8], cells: &mut [u32], positions: &mut [u32]) {
     let op = field(line, 0);
     if is(op, b"decode") {
-        decode(line, bytes, cells);
+        places::decode(line, bytes, cells, positions);
+        return;
+    }
+    if is(op, b"endbytes") {
+        places::ends_in_bytes(line, bytes, cells, positions);
+        return;
+    }
+    if is(op, b"end_in_bytes") {
+        places::end_in_row(line, positions);
         return;
     }
     if is(op, b"trim") {
@@ -86,22 +97,6 @@ fn answer(line: &[u8], bytes: &mut [u8], cells: &mut [u32]) {
         return;
     }
     print(b"?");
-}
-
-// decode bytes, out cells => ok n scalars
-fn decode(line: &[u8], bytes: &mut [u8], cells: &mut [u32]) {
-    let n = read_bytes(field(line, 1), bytes);
-    let room = lent(field(line, 2), cells.len());
-    let answer = utf8::decode(&bytes[..n], &mut cells[0..room]);
-    match answer {
-        Answer::Accepted(count) => {
-            print(b"ok ");
-            print_number(count);
-            print(b" ");
-            print_cells(first(cells, count));
-        }
-        Answer::Refused(r) => print_refusal(r),
-    }
 }
 
 // trim scalars => ok start end

@@ -6,6 +6,7 @@ use sheet_input::feed;
 use sheet_input::finish;
 use sheet_steps::LINE;
 use sheet_steps::POOL;
+use sheet_steps::POSITIONS;
 use sheet_steps::REPLY;
 use sheet_steps::SCRATCH;
 use sheet_steps::TEXT;
@@ -65,6 +66,7 @@ fn program(bytes: &[u8], most: usize, written: &mut [u8]) -> usize
     let mut line = [0u8; LINE];
     let mut pool = [0u32; POOL];
     let mut scalars = [0u32; TEXT];
+    let mut positions = [0u32; POSITIONS];
     let mut ends = [0u32; TEXT];
     let mut scratch = [0u32; SCRATCH];
     let mut out = [0u8; REPLY];
@@ -76,6 +78,7 @@ fn program(bytes: &[u8], most: usize, written: &mut [u8]) -> usize
         &mut line,
         &mut pool,
         &mut scalars,
+        &mut positions,
         &mut ends,
         &mut scratch,
         &mut out,
@@ -89,6 +92,7 @@ fn feed_all(
     line: &mut [u8],
     pool: &mut [u32],
     scalars: &mut [u32],
+    positions: &mut [u32],
     ends: &mut [u32],
     scratch: &mut [u32],
     out: &mut [u8],
@@ -100,12 +104,22 @@ fn feed_all(
     let mut at = 0;
     while at < bytes.len() {
         let part = front(&bytes[at..], most);
-        let fed = feed(part, line, kept, pool, scalars, ends, scratch, out);
+        let fed = feed(
+            part,
+            line,
+            kept,
+            pool,
+            scalars,
+            positions,
+            ends,
+            scratch,
+            out,
+        );
         used = keep(written, used, front(out, fed.written));
         kept = fed.kept;
         at += fed.taken;
     }
-    let n = finish(line, kept, pool, scalars, ends, scratch, out);
+    let n = finish(line, kept, pool, scalars, positions, ends, scratch, out);
     keep(written, used, front(out, n))
 }
 

@@ -16,3 +16,4 @@ pub mod ManyTurns
 pub mod ManyTexts
 pub mod ManyAlone
 pub mod Maps
+pub mod InBytes

@@ -8,7 +8,7 @@ use mathlib.Core.Path.{_≡_, refl}
 use mathlib.Core.List.{List, [], _∷_}
 use Rattle.refusal.specs.Answers.{numbers}
 use Rattle.refusal.specs.Firsts.{Rising}
-use Rattle.utf8.specs.Decoding.{decodeCauses}
+use Rattle.utf8.specs.Decoding.{Room, decodeCauses}
 use Rattle.utf8.proofs.Decoded.{decoding}
 use Rattle.tcc.specs.Answers.{clusterCauses}
 use Rattle.tcc.proofs.Deciding.{order}
@@ -22,8 +22,8 @@ use Rattle.newmm_claim.specs.Answers.{claimCauses}
 use Rattle.newmm_many_answers.specs.Calls.{manyCauses}
 use Rattle.break_map_rules.specs.Answers.{mapCauses, readCauses as mapReadCauses}
 
--- Decoding: 1, 2, 6.
-pub decode-order : (bytes : List ℕ) (room : ℕ) → numbers (decodeCauses bytes room) ≡ 1 ∷ 2 ∷ 6 ∷ []
+-- Decoding: 1, 2, 6 for the scalar row, 6 for the position row.
+pub decode-order : (bytes : List ℕ) (room : Room) → numbers (decodeCauses bytes room) ≡ 1 ∷ 2 ∷ 6 ∷ 6 ∷ []
 decode-order bytes room = decoding bytes room
 
 -- Clusters: 2, 3, 6.

@@ -10,3 +10,4 @@ pub mod Sheet
 pub mod Claims
 pub mod ManyTexts
 pub mod Maps
+pub mod InBytes

@@ -4,6 +4,8 @@ use Prim.Native.Nat.{ℕ}
 use mathlib.Core.List.{List}
 use Rattle.fetlockice.proofs.fetlockice_decode.Kinds as decode-kinds
 use Rattle.fetlockice.proofs.fetlockice_decode.Reads as decode-contract
+use Rattle.fetlockice.proofs.fetlockice_end_in_bytes.Kinds as end-in-bytes-kinds
+use Rattle.fetlockice.proofs.fetlockice_end_in_bytes.Reads as end-in-bytes-contract
 use Rattle.fetlockice.proofs.fetlockice_clusters.Kinds as clusters-kinds
 use Rattle.fetlockice.proofs.fetlockice_clusters.Reads as clusters-contract
 use Rattle.fetlockice.proofs.fetlockice_winners.Kinds as winners-kinds
@@ -48,15 +50,21 @@ use Rattle.trie_pool.specs.Meaning.{noTerm}
 use Rattle.trie_char_answers.proofs.One.{one-after}
 use Rattle.trie_char_answers.specs.Answers.{freshAnswer, addAnswer, removeAnswer, added, removed}
 use Rattle.host_telling.specs.Told.{Told, told, toldCut}
+use Rattle.host_texts.specs.Calls.{ToldEnd, toldEnd}
 use Rattle.host_claims.specs.Calls.{ToldClaim, toldClaim}
 use Rattle.host_maps.specs.Calls.{ToldNext, toldNext}
 use Rattle.theorems_one_answer.specs.OneAnswer.{OneAnswer}
 use Rattle.theorems_one_answer.proofs.Shapes.{answer, both, answer-and-two-rows}
 
 pub decode-one :
-    OneAnswer {A = Told × List ℕ} 4 decode-kinds.ps decode-kinds.r decode-contract.Post
-    (λ κs number s. let out = s .1 .0 .now in let count = s .1 .1 .0 .now in let detail = s .1 .1 .1 .0 .now in (told number count detail, out))
-decode-one κs a x y s t p q = both (answer (p .0) (q .0)) (answer (p .1) (q .1))
+    OneAnswer {A = Told × List ℕ × List ℕ} 5 decode-kinds.ps decode-kinds.r decode-contract.Post
+    (λ κs number s. let out = s .1 .0 .now in let positions = s .1 .1 .0 .now in let count = s .1 .1 .1 .0 .now in let detail = s .1 .1 .1 .1 .0 .now in (told number count detail, out, positions))
+decode-one κs a x y s t p q = answer-and-two-rows (p .0) (p .1 .0) (p .1 .1) (q .0) (q .1 .0) (q .1 .1)
+
+pub end-in-bytes-one :
+    OneAnswer {A = ToldEnd} 3 end-in-bytes-kinds.ps end-in-bytes-kinds.r end-in-bytes-contract.Post
+    (λ κs number s. let found = s .1 .1 .1 .0 .now in let place = s .1 .1 .1 .1 .0 .now in toldEnd number found place)
+end-in-bytes-one κs a x y s t p q = answer p q
 
 pub clusters-one :
     OneAnswer {A = Told × List ℕ} 4 clusters-kinds.ps clusters-kinds.r clusters-contract.Post

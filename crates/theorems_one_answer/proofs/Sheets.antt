@@ -2,7 +2,7 @@
 use Prim.Native.Nat.{ℕ}
 use mathlib.Core.Path.{_≡_, sym, _∙_}
 use mathlib.Core.List.{List}
-use Rattle.utf8.specs.Decoding.{scalarsOf}
+use Rattle.utf8.specs.Decoding.{scalarsOf, Room}
 use Rattle.trie_char_answers.specs.Answers.{added, removed}
 use Rattle.trie_char_answers.proofs.One.{one-after}
 use Rattle.sheet_input.specs.declared.Fed.{Fed}
@@ -31,48 +31,49 @@ use Rattle.sheet_bytes.proofs.front.Reads as front-contract
 use Rattle.theorems_one_answer.specs.OneAnswer.{OneAnswer}
 use Rattle.theorems_one_answer.proofs.Shapes.{answer, both}
 
--- ---- the rows of a line: pool, scalars, ends and scratch
+-- ---- the rows of a line: pool, scalars, positions, ends and scratch
 
 abbrev Rows : Type 0
-Rows = List ℕ × (List ℕ × (List ℕ × List ℕ))
+Rows = List ℕ × (List ℕ × (List ℕ × (List ℕ × List ℕ)))
 
-pool-one : (k : Asked) (text old p q : List ℕ) (room : ℕ) → PoolAfter k text old p room → PoolAfter k text old q room → p ≡ q
+pool-one : (k : Asked) (text old p q : List ℕ) (room : Room) → PoolAfter k text old p room → PoolAfter k text old q room → p ≡ q
 unfolding PoolAfter
 pool-one Nothing text old p q room e f = e ∙ sym f
 pool-one Add text old p q room e f = one-after (addText text old room) old p q (added (scalarsOf text) 0 old) e f
 pool-one Remove text old p q room e f = one-after (removeText text old room) old p q (removed (scalarsOf text) old) e f
 pool-one (Cut mode) text old p q room e f = e ∙ sym f
 
-rows-one : {k : Asked} {text pool scalars ends scratch p q s t e f c d : List ℕ} → RowsAfter k text pool p scalars s ends e scratch c → RowsAfter k text pool q scalars t ends f scratch d
-    → _≡_ {A = Rows} (p, (s, (e, c))) (q, (t, (f, d)))
+rows-one : {k : Asked} {text pool scalars positions ends scratch p q s t m n e f c d : List ℕ} → RowsAfter k text pool p scalars s positions m ends e scratch c
+    → RowsAfter k text pool q scalars t positions n ends f scratch d → _≡_ {A = Rows} (p, (s, (m, (e, c)))) (q, (t, (n, (f, d))))
 rows-one a b =
     both (pool-one _ _ _ _ _ _ (a .pool-is) (b .pool-is))
-    (both (answer (a .scalars-are) (b .scalars-are)) (both (answer (a .ends-are) (b .ends-are)) (answer (a .scratch-is) (b .scratch-is))))
+    (both (answer (a .scalars-are) (b .scalars-are))
+    (both (answer (a .positions-are) (b .positions-are)) (both (answer (a .ends-are) (b .ends-are)) (answer (a .scratch-is) (b .scratch-is)))))
 
 -- ---- the calls of a run: the answer, the line, the reply, and the rows
 
-pub step-one : OneAnswer {A = Fed × (List ℕ × (List ℕ × Rows))} 7 step-kinds.ps step-kinds.r step-contract.Post
-    (λ κs x s. (x, (s .1 .0 .now, (s .1 .1 .1 .1 .1 .1 .1 .0 .now, (s .1 .1 .1 .0 .now, (s .1 .1 .1 .1 .0 .now, (s .1 .1 .1 .1 .1 .0 .now, s .1 .1 .1 .1 .1 .1 .0 .now)))))))
+pub step-one : OneAnswer {A = Fed × (List ℕ × (List ℕ × Rows))} 8 step-kinds.ps step-kinds.r step-contract.Post
+    (λ κs x s. (x, (s .1 .0 .now, (s .1 .1 .1 .1 .1 .1 .1 .1 .0 .now, (s .1 .1 .1 .0 .now, (s .1 .1 .1 .1 .0 .now, (s .1 .1 .1 .1 .1 .0 .now, (s .1 .1 .1 .1 .1 .1 .0 .now, s .1 .1 .1 .1 .1 .1 .1 .0 .now))))))))
 step-one κs a x y s t p q = both (answer (p .1 .0) (q .1 .0)) (both (answer (p .1 .1 .0) (q .1 .1 .0)) (both (answer (p .1 .1 .1 .0) (q .1 .1 .1 .0)) (rows-one (p .1 .1 .1 .1) (q .1 .1 .1 .1))))
 
-pub last-one : OneAnswer {A = ℕ × (List ℕ × Rows)} 6 last-kinds.ps last-kinds.r last-contract.Post
-    (λ κs x s. (x, (s .1 .1 .1 .1 .1 .1 .0 .now, (s .1 .1 .0 .now, (s .1 .1 .1 .0 .now, (s .1 .1 .1 .1 .0 .now, s .1 .1 .1 .1 .1 .0 .now))))))
+pub last-one : OneAnswer {A = ℕ × (List ℕ × Rows)} 7 last-kinds.ps last-kinds.r last-contract.Post
+    (λ κs x s. (x, (s .1 .1 .1 .1 .1 .1 .1 .0 .now, (s .1 .1 .0 .now, (s .1 .1 .1 .0 .now, (s .1 .1 .1 .1 .0 .now, (s .1 .1 .1 .1 .1 .0 .now, s .1 .1 .1 .1 .1 .1 .0 .now)))))))
 last-one κs a x y s t p q = both (answer (p .1 .0) (q .1 .0)) (both (answer (p .1 .1 .0) (q .1 .1 .0)) (rows-one (p .1 .1 .1) (q .1 .1 .1)))
 
 -- ---- the same for rows of any length
 
-pub feed-one : OneAnswer {A = Fed × (List ℕ × (List ℕ × Rows))} 7 feed-kinds.ps feed-kinds.r feed-contract.Post
-    (λ κs x s. (x, (s .1 .0 .now, (s .1 .1 .1 .1 .1 .1 .1 .0 .now, (s .1 .1 .1 .0 .now, (s .1 .1 .1 .1 .0 .now, (s .1 .1 .1 .1 .1 .0 .now, s .1 .1 .1 .1 .1 .1 .0 .now)))))))
+pub feed-one : OneAnswer {A = Fed × (List ℕ × (List ℕ × Rows))} 8 feed-kinds.ps feed-kinds.r feed-contract.Post
+    (λ κs x s. (x, (s .1 .0 .now, (s .1 .1 .1 .1 .1 .1 .1 .1 .0 .now, (s .1 .1 .1 .0 .now, (s .1 .1 .1 .1 .0 .now, (s .1 .1 .1 .1 .1 .0 .now, (s .1 .1 .1 .1 .1 .1 .0 .now, s .1 .1 .1 .1 .1 .1 .1 .0 .now))))))))
 feed-one κs a x y s t p q = both (answer (p .0) (q .0)) (both (answer (p .1 .0) (q .1 .0)) (both (answer (p .1 .1 .0) (q .1 .1 .0)) (rows-one (p .1 .1 .1) (q .1 .1 .1))))
 
-pub finish-one : OneAnswer {A = ℕ × (List ℕ × Rows)} 6 finish-kinds.ps finish-kinds.r finish-contract.Post
-    (λ κs x s. (x, (s .1 .1 .1 .1 .1 .1 .0 .now, (s .1 .1 .0 .now, (s .1 .1 .1 .0 .now, (s .1 .1 .1 .1 .0 .now, s .1 .1 .1 .1 .1 .0 .now))))))
+pub finish-one : OneAnswer {A = ℕ × (List ℕ × Rows)} 7 finish-kinds.ps finish-kinds.r finish-contract.Post
+    (λ κs x s. (x, (s .1 .1 .1 .1 .1 .1 .1 .0 .now, (s .1 .1 .0 .now, (s .1 .1 .1 .0 .now, (s .1 .1 .1 .1 .0 .now, (s .1 .1 .1 .1 .1 .0 .now, s .1 .1 .1 .1 .1 .1 .0 .now)))))))
 finish-one κs a x y s t p q = both (answer (p .0) (q .0)) (both (answer (p .1 .0) (q .1 .0)) (rows-one (p .1 .1) (q .1 .1)))
 
 -- ---- a line
 
-pub answer-line-one : OneAnswer {A = Reply × Rows} 5 answer-line-kinds.ps answer-line-kinds.r answer-line-contract.Post
-    (λ κs x s. (x, (s .1 .0 .now, (s .1 .1 .0 .now, (s .1 .1 .1 .0 .now, s .1 .1 .1 .1 .0 .now)))))
+pub answer-line-one : OneAnswer {A = Reply × Rows} 6 answer-line-kinds.ps answer-line-kinds.r answer-line-contract.Post
+    (λ κs x s. (x, (s .1 .0 .now, (s .1 .1 .0 .now, (s .1 .1 .1 .0 .now, (s .1 .1 .1 .1 .0 .now, s .1 .1 .1 .1 .1 .0 .now))))))
 answer-line-one κs a x y s t p q = both (answer (p .0) (q .0)) (rows-one (p .1) (q .1))
 
 pub write-reply-one : OneAnswer {A = ℕ × List ℕ} 2 write-reply-kinds.ps write-reply-kinds.r write-reply-contract.Post (λ κs x s. (x, s .1 .1 .0 .now))

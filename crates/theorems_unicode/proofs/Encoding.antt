@@ -11,10 +11,10 @@ use borrow.Author.Tests.{lt-ltb, le-ltb, le-leb, ltb-true, ltb-false, leb-true}
 use Rattle.lists.specs.Scans.{within}
 use Rattle.lists.proofs.Scans.{leading-all, leading-yes, leading-nil}
 use Rattle.char_string_scalars.specs.Scalars.{isScalar, firstNonScalar}
-use Rattle.utf8.specs.Utf8.{_‥_, fits, isSequence, scalarOf, bytesOf, encode, Utf8, empty, next}
+use Rattle.utf8_sequences.specs.Utf8.{_‥_, fits, isSequence, scalarOf, bytesOf, encode, Utf8, empty, next}
 use Rattle.lists.proofs.Ranges.{within-yes}
-use Rattle.utf8.proofs.FirstBytes.{Third, e0, e1, ed, ee, Fourth, f0, f1, f4, low, high, trail, Kind, shut, one, two, three, four, kind-of}
-use Rattle.utf8.proofs.Sizes.{third-range, fourth-range}
+use Rattle.utf8_sequences.proofs.FirstBytes.{Third, e0, e1, ed, ee, Fourth, f0, f1, f4, low, high, trail, Kind, shut, one, two, three, four, kind-of}
+use Rattle.utf8_sequences.proofs.Sizes.{third-range, fourth-range}
 use Rattle.theorems_unicode.proofs.Standard.{no, true-is, is-true, not-empty}
 
 -- the bytes of a scalar value, by its size

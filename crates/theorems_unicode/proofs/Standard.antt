@@ -10,11 +10,12 @@ use lib.Seq.{take-add, take-all, drop-append-seam, take-append-seam, length-take
 use lib.Dec.{T, eqb}
 use borrow.Author.Tests.{eqb-true, eqb-false}
 use Rattle.lists.specs.Scans.{within}
-use Rattle.utf8.specs.Utf8.{Range, fits, isSequence, scalarOf, Utf8, empty, next}
-use Rattle.utf8.specs.Decoding.{starts, sizeOf, Run, runAll, scalarsOf, more, stop}
+use Rattle.utf8_sequences.specs.Utf8.{Range, fits, isSequence, scalarOf, Utf8, empty, next}
+use Rattle.utf8_sequences.specs.Sequences.{starts, sizeOf}
+use Rattle.utf8.specs.Decoding.{Run, runAll, scalarsOf, more, stop}
 use Rattle.theorems_unicode.specs.Standard.{Taken}
-use Rattle.utf8.proofs.FirstBytes.{Opens, Kind, shut, one, two, three, four, kind-of}
-use Rattle.utf8.proofs.Sizes.{size-inside}
+use Rattle.utf8_sequences.proofs.FirstBytes.{Opens, Kind, shut, one, two, three, four, kind-of}
+use Rattle.utf8_sequences.proofs.Sizes.{size-inside}
 use Rattle.utf8.proofs.Runs.{run-empty, run-broken, run-more}
 
 pub no : {P : Type 0} → false ≡ true → P

@@ -4,7 +4,7 @@ use mathlib.Core.Path.{_≡_}
 use mathlib.Core.Bool.{true}
 use mathlib.Core.List.{List}
 use lib.ListN.{length, take}
-use Rattle.utf8.specs.Utf8.{Utf8}
+use Rattle.utf8_sequences.specs.Utf8.{Utf8}
 use Rattle.utf8.specs.Decoding.{runAll, scalarsOf}
 
 -- The bytes that a run takes lie within the text, are well-formed UTF-8 and encode its scalars; a

@@ -1,5 +1,3 @@
-pub mod FirstBytes
-pub mod Sizes
-pub mod Pieces
 pub mod Runs
+pub mod Places
 pub mod Decoded

@@ -3,19 +3,22 @@ use Prim.Native.Nat.{ℕ, zero, suc, _+_, _-_, _≤_, _<_}
 use native.Mathlib.Omega.{arith}
 use native.Mathlib.Numerals.{add-one}
 use mathlib.Core.Path.{_≡_, refl, sym, _∙_, ap}
-use mathlib.Core.Bool.{Bool, true, false}
+use mathlib.Core.Bool.{Bool, true, false, cond}
 use mathlib.Core.List.{List, _∷_, _++_}
 use lib.ListN.{length, getD, set, take, drop, length-drop, length-set}
 use lib.Seq.{drop-drop, drop-cons, take-length}
 use lib.Dec.{eqb}
 use borrow.Author.Tests.{eqb-true, eqb-false, eq-eqb, ne-eqb}
+use Rattle.lists.proofs.Parts.{tail-drop}
 use Rattle.lists.proofs.Rows.{store}
-use Rattle.utf8.specs.declared.Piece.{Piece}
+use Rattle.utf8_sequences.specs.declared.Piece.{Piece}
 use Rattle.utf8.specs.declared.Counted.{Counted}
-use Rattle.utf8.specs.Utf8.{scalarOf}
-use Rattle.utf8.specs.Decoding.{sizeOf, Run, run, runAll, scalarsOf, more, stop}
-use Rattle.utf8.specs.inner.Passes.{pieceOf, countedOf}
-use Rattle.utf8.proofs.Sizes.{size-inside}
+use Rattle.utf8_sequences.specs.Utf8.{scalarOf}
+use Rattle.utf8_sequences.specs.Sequences.{sizeOf}
+use Rattle.utf8.specs.Decoding.{Run, run, runAll, scalarsOf, more, stop}
+use Rattle.utf8_sequences.specs.inner.Pieces.{pieceOf}
+use Rattle.utf8.specs.inner.Passes.{countedOf}
+use Rattle.utf8_sequences.proofs.Sizes.{size-inside}
 
 run-empty-at : (f : ℕ) (s : List ℕ) → length s ≡ 0 → run f s ≡ stop true
 unfolding run
@@ -64,6 +67,17 @@ run-more s h =
     at-length (length s) s refl (omega arith) ∙ run-more-at (length s - 1) s h
     ∙ ap (more (sizeOf s) s) (fuel (length s - 1) (length (drop (sizeOf s) s)) (drop (sizeOf s) s) (simp length-drop (omega arith)) (omega arith))
 
+-- a run has no more scalars than bytes, and takes no more than there are
+run-bounds : (f : ℕ) (s : List ℕ) → (length (run f s .scalars) ≤ f) × (run f s .taken ≤ length s)
+unfolding run
+run-bounds zero s = (omega arith, omega arith)
+run-bounds (suc f) s = go (run-bounds f (drop (sizeOf s) s)) (eqb (length s) 0) (eqb (sizeOf s) 0)
+  where
+    go : (length (run f (drop (sizeOf s) s) .scalars) ≤ f) × (run f (drop (sizeOf s) s) .taken ≤ length (drop (sizeOf s) s)) → (x y : Bool) → (length (cond x (stop true) (cond y (stop false) (more (sizeOf s) s (run f (drop (sizeOf s) s)))) .scalars) ≤ suc f) × (cond x (stop true) (cond y (stop false) (more (sizeOf s) s (run f (drop (sizeOf s) s)))) .taken ≤ length s)
+    go ih true y = (omega arith, omega arith)
+    go ih false true = (omega arith, omega arith)
+    go ih false false = (omega (arith, ih .0), omega (arith, ih .1, size-inside s, length-drop (sizeOf s) s))
+
 -- n scalars stand in the first `at` bytes, and the run goes on from there
 pub record Read (s : List ℕ) (at n : ℕ) : Type 0 where
   pub inside : at ≤ length s
@@ -110,6 +124,25 @@ read-broken {s} {at} h i e = read-stop false h (run-broken (drop at s) (simp len
 pub read-done : {s : List ℕ} {at n : ℕ} → Read s at n → length s ≤ at → _≡_ {A = Counted} (record { scalars = n; taken = at; whole = true }) (countedOf (runAll s))
 read-done {s} {at} h i = read-stop true h (run-empty (drop at s) (simp length-drop (omega arith)))
 
+-- the rest is counted by itself
+module _ {s : List ℕ} {at n : ℕ} {c : Counted} (h : Read s at n) (e : c ≡ countedOf (runAll (take (length s - at) (drop at s)))) where
+  rest-is : c ≡ countedOf (runAll (drop at s))
+  rest-is = e ∙ ap (λ (l : List ℕ). countedOf (runAll l)) (tail-drop s at)
+
+  number-is : n + c .scalars ≡ length (scalarsOf s)
+  number-is = omega (arith, h .number, ap (λ (q : Counted). q .scalars) rest-is)
+
+  bytes-are : at + c .taken ≡ runAll s .taken
+  bytes-are = omega (arith, h .bytes, ap (λ (q : Counted). q .taken) rest-is)
+
+  pub rest-bounds : (n + c .scalars ≤ length s) × (at + c .taken ≤ length s)
+  rest-bounds = let z = run-bounds (length s) s in (omega (arith, number-is, z .0), omega (arith, bytes-are, z .1))
+
+  pub read-rest : _≡_ {A = Counted} (record { scalars = n + c .scalars; taken = at + c .taken; whole = c .whole }) (countedOf (runAll s))
+  read-rest =
+      let z : c .whole ≡ runAll s .whole = ap (λ (q : Counted). q .whole) rest-is ∙ sym (h .all) in
+      λ i. record { scalars = number-is i; taken = bytes-are i; whole = z i }
+
 -- the first n scalars are written
 pub record Filled (s out₀ out : List ℕ) (at n : ℕ) : Type 0 where
   pub read : Read s at n
@@ -132,7 +165,7 @@ filled-next {s} {out₀} {out} {at} {n} w h i = go (eqb (sizeOf (drop at s)) 0) 
         absurd (let y : _≡_ {A = ℕ} 0 1 = cc in omega arith)
 
 module _ {s out₀ out : List ℕ} {at n : ℕ} (p : Piece) (h : Filled s out₀ out at n) (i : 0 < sizeOf (drop at s)) (e : p ≡ pieceOf (drop at s)) where
-  size-is : p .size ≡ sizeOf (drop at s)
+  pub size-is : p .size ≡ sizeOf (drop at s)
   size-is = ap (λ (q : Piece). q .size) e
 
   head-is : p .scalar ≡ scalarOf (take (p .size) (drop at s))
@@ -162,6 +195,10 @@ module _ {s out₀ out : List ℕ} {at n : ℕ} (p : Piece) (h : Filled s out₀
             ∙ store S out₀ n filled-room (omega (arith, filled-room));
         long = length-set out n (p .scalar) ∙ h .long;
       }
+
+-- one scalar more is to come where the bytes are not at their end
+pub filled-open : {s out₀ out : List ℕ} {at n : ℕ} → runAll s .whole ≡ true → Filled s out₀ out at n → at < length s → n < length (scalarsOf s)
+filled-open {s} {out₀} {out} {at} w h i = filled-room (pieceOf (drop at s)) h (filled-next w h i) refl
 
 -- all is written where the run is at its end
 pub filled-done : {s out₀ out : List ℕ} {at n : ℕ} → Filled s out₀ out at n → length s ≤ at → out ≡ scalarsOf s ++ drop (length (scalarsOf s)) out₀

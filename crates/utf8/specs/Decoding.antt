@@ -1,64 +1,34 @@
--- 01, "Bytes to scalars": the decoder, its table, its refusals and its output.
-use Prim.Native.Nat.{ℕ, zero, suc, _+_, _*_, _<_}
-use mathlib.Core.Path.{_≡_}
-use mathlib.Core.Bool.{Bool, true, false, not, cond, _&&_}
+-- 01, "Bytes to scalars": the decoder, its refusals and its output.
+use Prim.Native.Nat.{ℕ, zero, suc, _+_}
+use mathlib.Core.Bool.{Bool, true, false, not, cond}
 use mathlib.Core.List.{List, [], _∷_, _++_}
-use lib.ListN.{length, getD, take, drop}
+use lib.ListN.{length, take, drop}
 use lib.Dec.{eqb}
-use Rattle.lists.specs.Scans.{within}
 use Rattle.refusal.specs.declared.Answer.{Answer}
 use Rattle.refusal.specs.declared.Refusal.the-variants.{IllFormed}
 use Rattle.refusal.specs.Answers.{Cause, answer, longCause, outCause}
-use Rattle.utf8.specs.Utf8.{Range, table37, scalarOf}
+use Rattle.utf8_sequences.specs.Utf8.{scalarOf}
+use Rattle.utf8_sequences.specs.Sequences.{sizeOf}
 
--- The entry of a first byte: the sequence length (0 for none) and the allowed second-byte range,
--- as one number, a byte each.
-abbrev pub packed : List Range → ℕ
-packed [] = 0
-packed (a ∷ []) = 1 * 65536
-packed (a ∷ b ∷ row) = (2 + length row) * 65536 + b .lo * 256 + b .hi
-
-abbrev pub opens : List Range → ℕ → Bool
-opens [] b = false
-opens (r ∷ row) b = within (r .lo) (r .hi) b
-
-abbrev pub leadIn : List (List Range) → ℕ → ℕ
-leadIn [] b = 0
-leadIn (row ∷ rows) b = cond (opens row b) (packed row) (leadIn rows b)
-
-unfoldable pub leadOf : ℕ → ℕ
-leadOf b = leadIn table37 b
-
--- The decoder uses a table of 256 entries, one for each first byte.
-pub record Leads (table : List ℕ) : Type 0 where
-  pub rule : (b : ℕ) → b < 256 → getD table b 0 ≡ leadOf b
-
--- the bytes start with a sequence of the row
-abbrev pub starts : List Range → List ℕ → Bool
-starts [] s = true
-starts (r ∷ row) [] = false
-starts (r ∷ row) (b ∷ s) = within (r .lo) (r .hi) b && starts row s
-
-abbrev pub sizeIn : List (List Range) → List ℕ → ℕ
-sizeIn [] s = 0
-sizeIn (row ∷ rows) s = cond (starts row s) (length row) (sizeIn rows s)
-
--- the length of the well-formed sequence that the bytes start with, 0 where they start with none
-unfoldable pub sizeOf : List ℕ → ℕ
-sizeOf s = sizeIn table37 s
-
--- What reading sequence after sequence finds: the scalars, the bytes that they take, and whether
--- these are all.
+-- What reading sequence after sequence finds: the scalars, the length of each one's sequence, the
+-- bytes that they take, and whether these are all.
 pub record Run : Type 0 where
   pub scalars : List ℕ
+  pub sizes : List ℕ
   pub taken : ℕ
   pub whole : Bool
 
 abbrev pub stop : Bool → Run
-stop whole = record { scalars = []; taken = 0; whole = whole }
+stop whole = record { scalars = []; sizes = []; taken = 0; whole = whole }
 
 abbrev pub more : ℕ → List ℕ → Run → Run
-more k s r = record { scalars = scalarOf (take k s) ∷ r .scalars; taken = k + r .taken; whole = r .whole }
+more k s r =
+    record {
+      scalars = scalarOf (take k s) ∷ r .scalars;
+      sizes = k ∷ r .sizes;
+      taken = k + r .taken;
+      whole = r .whole;
+    }
 
 -- At most `fuel` sequences. A sequence is a byte or more, so the number of bytes is enough.
 unfoldable pub run : ℕ → List ℕ → Run
@@ -80,10 +50,23 @@ bytesCauses bytes =
     ∷ longCause (length (scalarsOf bytes))
     ∷ []
 
--- Decoding: 1, 2, 6. `room` is the number of output cells.
-abbrev pub decodeCauses : List ℕ → ℕ → List Cause
-decodeCauses bytes room = bytesCauses bytes ++ (outCause (length (scalarsOf bytes)) room ∷ [])
+-- How many cells are lent for the scalars, and how many for the positions.
+pub record Room : Type 0 where
+  pub scalars : ℕ
+  pub positions : ℕ
+
+abbrev pub roomIn : (scalars positions : List ℕ) → Room
+roomIn scalars positions = record { scalars = length scalars; positions = length positions }
+
+-- Decoding: 1, 2, 6. 02, ticket 3: 6 also if the position row is under n+1 cells; the scalar row is
+-- looked at first.
+abbrev pub decodeCauses : List ℕ → Room → List Cause
+decodeCauses bytes room =
+    bytesCauses bytes
+    ++ (outCause (length (scalarsOf bytes)) (room .scalars)
+    ∷ outCause (length (scalarsOf bytes) + 1) (room .positions)
+    ∷ [])
 
 -- accepted with the number of scalars
-abbrev pub decoded : List ℕ → ℕ → Answer
+abbrev pub decoded : List ℕ → Room → Answer
 decoded bytes room = answer (decodeCauses bytes room) (length (scalarsOf bytes))

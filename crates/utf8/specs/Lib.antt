@@ -1,3 +1,3 @@
-pub mod Utf8
 pub mod Decoding
+pub mod Positions
 pub mod inner

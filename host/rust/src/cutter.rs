@@ -1,6 +1,7 @@
 use crate::{
+    decode,
     error::{accepted, Error},
-    ffi, scalars, Dictionary,
+    ffi, scalars, Decoded, Dictionary,
 };
 use std::mem;
 
@@ -52,18 +53,18 @@ const ANSWER_CELLS: usize = 4;
 /// Texts that wait to be cut in one call.
 #[derive(Default)]
 struct Joined<'t> {
-    lines: Vec<&'t str>,
+    lines: Vec<(&'t str, Decoded)>,
     cells: Vec<u32>,
     ends: Vec<u32>,
     longest: usize,
 }
 
 impl<'t> Joined<'t> {
-    fn push(&mut self, line: &'t str, cells: &[u32]) {
-        self.lines.push(line);
-        self.cells.extend(cells);
+    fn push(&mut self, line: &'t str, decoded: Decoded) {
+        self.cells.extend(decoded.scalars());
         self.ends.push(self.cells.len() as u32);
-        self.longest = self.longest.max(cells.len());
+        self.longest = self.longest.max(decoded.scalars().len());
+        self.lines.push((line, decoded));
     }
 }
 
@@ -81,11 +82,12 @@ impl Cutter {
 
     /// Cuts a text by the words of a dictionary. Joined, the tokens are the text. Refused with 2.
     pub fn cut<'t>(&mut self, dictionary: &Dictionary, text: &'t str, mode: Mode) -> Result<Cut<'t>, Error> {
-        let cells = scalars(text)?;
+        let decoded = decode(text.as_bytes())?;
+        let cells = decoded.scalars();
         self.ends.resize(self.ends.len().max(cells.len()), 0);
         let scratch = scratch_for(&mut self.scratch, cells.len());
-        let (count, edges) = ffi::cut(mode, &cells, dictionary.pool(), &mut self.ends, scratch)?;
-        Ok(Cut { tokens: tokens(text, &self.ends[..count]), edges })
+        let (count, edges) = ffi::cut(mode, cells, dictionary.pool(), &mut self.ends, scratch)?;
+        Ok(Cut { tokens: tokens(text, &decoded, &self.ends[..count]), edges })
     }
 
     /// Cuts many texts by the words of a dictionary: for each what [`Cutter::cut`] gives. The dictionary is checked once for
@@ -98,12 +100,12 @@ impl Cutter {
     ) -> Vec<Result<Cut<'t>, Error>> {
         let (mut cuts, mut joined) = (Vec::new(), Joined::default());
         for line in lines {
-            match scalars(line) {
-                Ok(cells) => {
-                    if joined.cells.len() + cells.len() > JOINED {
+            match decode(line.as_bytes()) {
+                Ok(decoded) => {
+                    if joined.cells.len() + decoded.scalars().len() > JOINED {
                         self.cut_joined(dictionary, mem::take(&mut joined), mode, &mut cuts);
                     }
-                    joined.push(line, &cells);
+                    joined.push(line, decoded);
                 }
                 Err(refused) => {
                     self.cut_joined(dictionary, mem::take(&mut joined), mode, &mut cuts);
@@ -137,10 +139,10 @@ impl Cutter {
         };
         ffi::cut_many(mode, rows).expect("rows that suffice");
         let mut used = 0;
-        for (line, told) in joined.lines.iter().zip(answers.chunks_exact(ANSWER_CELLS)) {
+        for ((line, decoded), told) in joined.lines.iter().zip(answers.chunks_exact(ANSWER_CELLS)) {
             let (count, edges) = (told[1] as usize, told[2] as usize);
-            let ends = &self.ends[used..used + count];
-            cuts.push(accepted(told[0], told[3] as usize, ()).map(|()| Cut { tokens: tokens(line, ends), edges }));
+            let tokens = tokens(line, decoded, &self.ends[used..used + count]);
+            cuts.push(accepted(told[0], told[3] as usize, ()).map(|()| Cut { tokens, edges }));
             used += count;
         }
     }
@@ -150,26 +152,30 @@ impl Cutter {
     pub fn check_claim(&mut self, dictionary: &Dictionary, text: &str, ends: &[usize]) -> Result<Verdict, Error> {
         // an end that no cell holds is over the text's length, as is the largest that one holds
         let claim: Vec<u32> = ends.iter().map(|&end| u32::try_from(end).unwrap_or(u32::MAX)).collect();
-        let cells = scalars(text)?;
+        self.check(dictionary, &scalars(text)?, &claim)
+    }
+
+    fn check(&mut self, dictionary: &Dictionary, cells: &[u32], claim: &[u32]) -> Result<Verdict, Error> {
         let scratch = scratch_for(&mut self.scratch, cells.len());
-        let (right, token) = ffi::check_claim(&cells, dictionary.pool(), &claim, scratch)?;
+        let (right, token) = ffi::check_claim(cells, dictionary.pool(), claim, scratch)?;
         Ok(if right { Verdict::Right } else { Verdict::Wrong(token) })
     }
 
     /// The same with the tokens themselves. A token that is not the part of the text at its place is wrong, as one at a
     /// wrong end is. Refused with 2.
     pub fn check_tokens(&mut self, dictionary: &Dictionary, text: &str, tokens: &[&str]) -> Result<Verdict, Error> {
-        let (mut rest, mut end) = (text, 0);
+        let decoded = decode(text.as_bytes())?;
+        let mut rest = text;
         let mut ends = Vec::with_capacity(tokens.len());
         for token in tokens {
             match rest.strip_prefix(*token) {
                 Some(behind) => rest = behind,
                 None => break,
             }
-            end += token.chars().count();
-            ends.push(end);
+            let end = decoded.positions().binary_search(&((text.len() - rest.len()) as u32));
+            ends.push(end.expect("a token ends with a character") as u32);
         }
-        let found = self.check_claim(dictionary, text, &ends)?;
+        let found = self.check(dictionary, decoded.scalars(), &ends)?;
         // tokens that are no part of the text are left out, so that the first of them is the token after the last end
         Ok(if ends.len() < tokens.len() && found == Verdict::Right { Verdict::Wrong(ends.len()) } else { found })
     }
@@ -183,16 +189,14 @@ fn scratch_for(scratch: &mut Vec<u32>, characters: usize) -> &mut [u32] {
 }
 
 /// The parts of a text between ends in characters, which rise to its length.
-fn tokens<'t>(text: &'t str, ends: &[u32]) -> Vec<Token<'t>> {
-    let mut places = text.char_indices().map(|(at, _)| at).chain([text.len()]);
-    let (mut chars, mut start) = (0, 0);
-    places.next();
+fn tokens<'t>(text: &'t str, decoded: &Decoded, ends: &[u32]) -> Vec<Token<'t>> {
+    let mut start = 0;
     ends.iter()
         .map(|&end| {
             let end = end as usize;
-            let byte_end = places.nth(end - chars - 1).expect("an end in the text");
+            let byte_end = decoded.positions()[end] as usize;
             let token = Token { text: &text[start..byte_end], end, byte_end };
-            (chars, start) = (end, byte_end);
+            start = byte_end;
             token
         })
         .collect()

@@ -9,8 +9,18 @@ extern "C" {
         bytes_len: usize,
         out: *mut u32,
         out_len: usize,
+        positions: *mut u32,
+        positions_len: usize,
         count: &mut usize,
         detail: &mut usize,
+    ) -> u32;
+    fn fetlockice_end_in_bytes(
+        positions: *const u32,
+        positions_len: usize,
+        n: usize,
+        end: usize,
+        found: &mut usize,
+        at: &mut usize,
     ) -> u32;
     fn fetlockice_clusters(
         text: *const u32,
@@ -212,11 +222,28 @@ extern "C" {
     ) -> u32;
 }
 
-pub fn decode(bytes: &[u8], out: &mut [u32]) -> Result<usize, Error> {
+pub fn decode(bytes: &[u8], out: &mut [u32], positions: &mut [u32]) -> Result<usize, Error> {
     let (mut count, mut detail) = (0, 0);
-    let number =
-        unsafe { fetlockice_decode(bytes.as_ptr(), bytes.len(), out.as_mut_ptr(), out.len(), &mut count, &mut detail) };
+    let number = unsafe {
+        fetlockice_decode(
+            bytes.as_ptr(),
+            bytes.len(),
+            out.as_mut_ptr(),
+            out.len(),
+            positions.as_mut_ptr(),
+            positions.len(),
+            &mut count,
+            &mut detail,
+        )
+    };
     accepted(number, detail, count)
+}
+
+/// An end in bytes, of a text of n characters with that position row. The call is never refused.
+pub fn end_in_bytes(positions: &[u32], n: usize, end: usize) -> Option<usize> {
+    let (mut found, mut at) = (0, 0);
+    unsafe { fetlockice_end_in_bytes(positions.as_ptr(), positions.len(), n, end, &mut found, &mut at) };
+    (found == 1).then_some(at)
 }
 
 pub fn clusters(text: &[u32], out: &mut [u32]) -> Result<usize, Error> {

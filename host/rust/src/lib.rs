@@ -21,26 +21,20 @@
 //! # Ok::<(), fetlockice::Error>(())
 //! ```
 mod cutter;
+mod decoded;
 mod dictionary;
 mod error;
 mod ffi;
 mod map;
 
 pub use cutter::{Cut, Cutter, Mode, Token, Verdict};
+pub use decoded::{decode, Decoded};
 pub use dictionary::{Dictionary, MAX_NODES};
 pub use error::Error;
 pub use map::{BreakMap, Breaks};
 
 /// The most scalars of a text.
 pub const MAX_SCALARS: usize = 65_535;
-
-/// The scalars of UTF-8 bytes. Refused with 1 and 2.
-pub fn decode(bytes: &[u8]) -> Result<Vec<u32>, Error> {
-    let mut out = vec![0; bytes.len().min(MAX_SCALARS)];
-    let count = ffi::decode(bytes, &mut out)?;
-    out.truncate(count);
-    Ok(out)
-}
 
 /// Where the clusters of a text end, in characters. Refused with 2.
 pub fn clusters(text: &str) -> Result<Vec<usize>, Error> {
@@ -69,5 +63,5 @@ pub fn clusters_with_winners(text: &str) -> Result<Vec<Cluster>, Error> {
 }
 
 fn scalars(text: &str) -> Result<Vec<u32>, Error> {
-    decode(text.as_bytes())
+    Ok(decode(text.as_bytes())?.into_scalars())
 }

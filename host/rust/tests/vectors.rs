@@ -111,8 +111,29 @@ fn told<T>(answer: Result<T, Error>, accepted: impl FnOnce(T) -> String) -> Stri
 #[test]
 fn decoding() {
     hold(lines("test_char_string", "decode"), 5000, |line| {
-        roomy(&line[2])?;
-        Some(told(decode(&bytes(&line[1])), |out| format!("{} {}", out.len(), spelled(&out))))
+        roomy(&line[2]).and(roomy(&line[3]))?;
+        Some(told(decode(&bytes(&line[1])), |decoded| {
+            let (scalars, positions) = (decoded.scalars(), decoded.positions());
+            let before = [0].iter().chain(positions);
+            let steps: Vec<u32> = positions.iter().zip(before).map(|(at, before)| at - before).collect();
+            format!("{} {} {}", scalars.len(), spelled(scalars), spelled(&steps))
+        }))
+    });
+}
+
+#[test]
+fn ends_in_bytes() {
+    hold(lines("test_char_string", "endbytes"), 30, |line| {
+        let ends = cells(&line[2]);
+        Some(told(decode(&bytes(&line[1])), |decoded| {
+            let place = |&end: &u32| decoded.end_in_bytes(end as usize).map_or("x".into(), |at| at.to_string());
+            let all: Vec<String> = ends.iter().map(place).collect();
+            if all.is_empty() {
+                "-".into()
+            } else {
+                all.join(",")
+            }
+        }))
     });
 }
 

@@ -1,12 +1,8 @@
 -- Assumes nothing.
-use Rattle.host_telling.proofs.Answers.{with-output}
+use Rattle.host_texts.proofs.Rows.{with-outputs}
 use borrow.Author.Needs.{needs}
 use Rattle.host_texts.proofs.decode.Statement.{statement}
 use Rattle.host_texts.proofs.decode.Tie as tie
-use Rattle.host_texts.proofs.decode.Reads as reads
-use Rattle.host_texts.proofs.decode.Lts as lts
-use Rattle.host_telling.proofs.tell.Reads as tell-reads
-use Rattle.utf8.proofs.decode.Reads as decode-reads
 
 decode-requires : tie.Need-decode-requires
 decode-requires c κs = search needs
@@ -17,10 +13,14 @@ tell-requires c κs = search needs
 same-length : tie.Need-same-length
 same-length c = search needs
 
+same-length-2 : tie.Need-same-length-2
+same-length-2 c = search needs
+
 returns : tie.Need-returns
 returns c =
-    let c5 = c .before .before .before .before .before in
-    with-output (c5 .decode .ensures .0) (c .tell .ensures) _ _ (c5 .decode .ensures .1)
+    let c7 = c .before .before .before .before .before .before .before in
+    with-outputs (c7 .decode .ensures .0) (c .tell .ensures) _ _ _ _ (c7 .decode .ensures .1 .0)
+    (c7 .decode .ensures .1 .1)
 
 pub decode-spec : {M : Type 1} → statement M
-decode-spec = tie.close (tie.spec decode-requires tell-requires same-length returns)
+decode-spec = tie.close (tie.spec decode-requires tell-requires same-length same-length-2 returns)

@@ -1,4 +1,5 @@
 -- Assumes nothing.
+use Rattle.utf8.specs.Decoding.{roomIn}
 use native.Mathlib.Omega.{arith}
 use mathlib.Core.Path.{sym}
 use lib.ListN.{length}
@@ -16,9 +17,9 @@ line-end-requires c κs = search needs
 slice-aggregate-keep : tie.Need-slice-aggregate-keep
 slice-aggregate-keep c =
     let c2 = c .before .before in
-    let c10 = c2 .before .before .before .before .before .before .before .before in
-    sym (length-take-le (c2 .line-end .result) (c10 .args .bytes .now)
-    (end-inside (c10 .args .bytes .now) (c2 .line-end .ensures)))
+    let c11 = c2 .before .before .before .before .before .before .before .before .before in
+    sym (length-take-le (c2 .line-end .result) (c11 .args .bytes .now)
+    (end-inside (c11 .args .bytes .now) (c2 .line-end .ensures)))
 
 keep-requires : tie.Need-keep-requires
 keep-requires c κs = search needs
@@ -30,24 +31,25 @@ returns : tie.Need-returns
 returns c =
     let c3 = c .before .before .before in
     let c6 = c3 .before .before .before in
-    let c14 = c6 .before .before .before .before .before .before .before .before in (
-      open-fed (c14 .args .bytes .now) (c14 .args .line .now) (c14 .args .kept) (c6 .line-end .ensures)
+    let c15 = c6 .before .before .before .before .before .before .before .before .before in (
+      open-fed (c15 .args .bytes .now) (c15 .args .line .now) (c15 .args .kept) (c6 .line-end .ensures)
           (c3 .keep .ensures .0) (c3 .keep .ensures .1) (c .if1 .taken)
-          (amount (told (lineWith (c14 .args .bytes .now) (c14 .args .line .now) (c14 .args .kept)) (c14 .args .pool .now)
-          (length (c14 .args .scalars .now)) (length (c14 .args .scratch .now)) (c14 .args .ends .now))
-          (c14 .args .out .now)),
+          (amount (told (lineWith (c15 .args .bytes .now) (c15 .args .line .now) (c15 .args .kept)) (c15 .args .pool .now)
+          (roomIn (c15 .args .scalars .now) (c15 .args .positions .now)) (length (c15 .args .scratch .now))
+          (c15 .args .ends .now)) (c15 .args .out .now)),
       (
-        line-is (c14 .args .bytes .now) (c14 .args .line .now) (c14 .args .kept) (c6 .line-end .ensures)
+        line-is (c15 .args .bytes .now) (c15 .args .line .now) (c15 .args .kept) (c6 .line-end .ensures)
             (c3 .keep .ensures .0) (c3 .keep .ensures .1),
         (
-          open-out (c14 .args .bytes .now) (c14 .args .line .now) (c14 .args .kept) (c6 .line-end .ensures)
+          open-out (c15 .args .bytes .now) (c15 .args .line .now) (c15 .args .kept) (c6 .line-end .ensures)
               (c3 .keep .ensures .0) (c3 .keep .ensures .1) (c .if1 .taken)
-              (told (lineWith (c14 .args .bytes .now) (c14 .args .line .now) (c14 .args .kept)) (c14 .args .pool .now)
-              (length (c14 .args .scalars .now)) (length (c14 .args .scratch .now)) (c14 .args .ends .now))
-              (c14 .args .out .now),
-          open-rows (c14 .args .bytes .now) (c14 .args .line .now) (c14 .args .kept)
-              (c6 .line-end .ensures) (c3 .keep .ensures .0) (c3 .keep .ensures .1) (c .if1 .taken) (c14 .args .pool .now)
-              (c14 .args .scalars .now) (c14 .args .ends .now) (c14 .args .scratch .now),
+              (told (lineWith (c15 .args .bytes .now) (c15 .args .line .now) (c15 .args .kept)) (c15 .args .pool .now)
+              (roomIn (c15 .args .scalars .now) (c15 .args .positions .now)) (length (c15 .args .scratch .now))
+              (c15 .args .ends .now)) (c15 .args .out .now),
+          open-rows (c15 .args .bytes .now) (c15 .args .line .now)
+              (c15 .args .kept) (c6 .line-end .ensures) (c3 .keep .ensures .0) (c3 .keep .ensures .1) (c .if1 .taken)
+              (c15 .args .pool .now) (c15 .args .scalars .now) (c15 .args .positions .now) (c15 .args .ends .now)
+              (c15 .args .scratch .now),
         ),
       ),
     )
@@ -58,12 +60,12 @@ front-requires c κs = search needs
 told-requires : tie.Need-told-requires
 told-requires c κs = search needs
 
-add-t16 : tie.Need-add-t16
-add-t16 c =
-    let c18 = c .before .before .before .before .before .before .before .before .before .before .before .before .before .before .before .before .before .before in
-    let c24 = c18 .before .before .before .before .before .before in
-    let c32 = c24 .before .before .before .before .before .before .before .before in
-    omega (arith, end-below (c32 .args .bytes .now) (c24 .line-end .ensures) (c18 .if1 .left))
+add-t17 : tie.Need-add-t17
+add-t17 c =
+    let c21 = c .before .before .before .before .before .before .before .before .before .before .before .before .before .before .before .before .before .before .before .before .before in
+    let c27 = c21 .before .before .before .before .before .before in
+    let c36 = c27 .before .before .before .before .before .before .before .before .before in
+    omega (arith, end-below (c36 .args .bytes .now) (c27 .line-end .ensures) (c21 .if1 .left))
 
 same-length-2 : tie.Need-same-length-2
 same-length-2 c = search needs
@@ -83,30 +85,33 @@ same-length-6 c = search needs
 same-length-7 : tie.Need-same-length-7
 same-length-7 c = search needs
 
+same-length-8 : tie.Need-same-length-8
+same-length-8 c = search needs
+
 returns-2 : tie.Need-returns-2
 returns-2 c =
-    let c10 = c .before .before .before .before .before .before .before .before .before .before in
-    let c16 = c10 .before .before .before .before .before .before in
-    let c18 = c16 .before .before in
-    let c21 = c18 .before .before .before in
+    let c12 = c .before .before .before .before .before .before .before .before .before .before .before .before in
+    let c19 = c12 .before .before .before .before .before .before .before in
+    let c21 = c19 .before .before in
     let c24 = c21 .before .before .before in
-    let c32 = c24 .before .before .before .before .before .before .before .before in (
-      end-fed (c32 .args .bytes .now) (c32 .args .line .now) (c32 .args .kept) (c24 .line-end .ensures)
-          (c21 .keep .ensures .0) (c21 .keep .ensures .1) (c18 .if1 .left) (c16 .front .ensures .0) (c32 .args .pool .now)
-          (c32 .args .scalars .now) (c32 .args .ends .now) (c32 .args .scratch .now) (c32 .args .out .now)
-          (c10 .told .ensures .0),
+    let c27 = c24 .before .before .before in
+    let c36 = c27 .before .before .before .before .before .before .before .before .before in (
+      end-fed (c36 .args .bytes .now) (c36 .args .line .now) (c36 .args .kept) (c27 .line-end .ensures)
+          (c24 .keep .ensures .0) (c24 .keep .ensures .1) (c21 .if1 .left) (c19 .front .ensures .0) (c36 .args .pool .now)
+          (c36 .args .scalars .now) (c36 .args .positions .now) (c36 .args .ends .now) (c36 .args .scratch .now)
+          (c36 .args .out .now) (c12 .told .ensures .0),
       (
-        line-is (c32 .args .bytes .now) (c32 .args .line .now) (c32 .args .kept) (c24 .line-end .ensures)
-            (c21 .keep .ensures .0) (c21 .keep .ensures .1),
+        line-is (c36 .args .bytes .now) (c36 .args .line .now) (c36 .args .kept) (c27 .line-end .ensures)
+            (c24 .keep .ensures .0) (c24 .keep .ensures .1),
         (
-          end-out (c32 .args .bytes .now) (c32 .args .line .now) (c32 .args .kept) (c24 .line-end .ensures)
-              (c21 .keep .ensures .0) (c21 .keep .ensures .1) (c18 .if1 .left) (c16 .front .ensures .0) (c32 .args .pool .now)
-              (c32 .args .scalars .now) (c32 .args .ends .now) (c32 .args .scratch .now) (c32 .args .out .now)
-              (c10 .told .ensures .1 .0),
-          end-rows (c32 .args .bytes .now) (c32 .args .line .now) (c32 .args .kept)
-              (c24 .line-end .ensures) (c21 .keep .ensures .0) (c21 .keep .ensures .1) (c18 .if1 .left) (c16 .front .ensures .0)
-              (c32 .args .pool .now) (c32 .args .scalars .now) (c32 .args .ends .now) (c32 .args .scratch .now)
-              (c32 .args .out .now) (c10 .told .ensures .1 .1),
+          end-out (c36 .args .bytes .now) (c36 .args .line .now) (c36 .args .kept) (c27 .line-end .ensures)
+              (c24 .keep .ensures .0) (c24 .keep .ensures .1) (c21 .if1 .left) (c19 .front .ensures .0) (c36 .args .pool .now)
+              (c36 .args .scalars .now) (c36 .args .positions .now) (c36 .args .ends .now) (c36 .args .scratch .now)
+              (c36 .args .out .now) (c12 .told .ensures .1 .0),
+          end-rows (c36 .args .bytes .now) (c36 .args .line .now)
+              (c36 .args .kept) (c27 .line-end .ensures) (c24 .keep .ensures .0) (c24 .keep .ensures .1) (c21 .if1 .left)
+              (c19 .front .ensures .0) (c36 .args .pool .now) (c36 .args .scalars .now) (c36 .args .positions .now)
+              (c36 .args .ends .now) (c36 .args .scratch .now) (c36 .args .out .now) (c12 .told .ensures .1 .1),
         ),
       ),
     )
@@ -122,11 +127,12 @@ feed-spec =
     returns
     front-requires
     told-requires
-    add-t16
+    add-t17
     same-length-2
     same-length-3
     same-length-4
     same-length-5
     same-length-6
     same-length-7
+    same-length-8
     returns-2)

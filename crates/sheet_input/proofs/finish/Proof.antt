@@ -1,4 +1,5 @@
 -- Assumes nothing.
+use Rattle.utf8.specs.Decoding.{roomIn}
 use lib.ListN.{length, take}
 use Rattle.sheet_texts.specs.Texts.{written, amount}
 use Rattle.sheet_input.specs.Feeding.{told}
@@ -9,18 +10,21 @@ use Rattle.sheet_input.proofs.finish.Tie as tie
 
 returns : tie.Need-returns
 returns c =
-    let c7 = c .before .before .before .before .before .before .before in (
-      no-line (c7 .args .line .now) (c7 .args .kept) (c7 .args .pool .now) (c7 .args .scalars .now)
-          (c7 .args .ends .now) (c7 .args .scratch .now) (c .if1 .taken)
-          (amount (told (take (c7 .args .kept) (c7 .args .line .now)) (c7 .args .pool .now)
-          (length (c7 .args .scalars .now)) (length (c7 .args .scratch .now)) (c7 .args .ends .now)) (c7 .args .out .now)),
+    let c8 = c .before .before .before .before .before .before .before .before in (
+      no-line (c8 .args .line .now) (c8 .args .kept) (c8 .args .pool .now) (c8 .args .scalars .now)
+          (c8 .args .positions .now) (c8 .args .ends .now) (c8 .args .scratch .now) (c .if1 .taken)
+          (amount (told (take (c8 .args .kept) (c8 .args .line .now)) (c8 .args .pool .now)
+          (roomIn (c8 .args .scalars .now) (c8 .args .positions .now)) (length (c8 .args .scratch .now))
+          (c8 .args .ends .now)) (c8 .args .out .now)),
       (
-        no-text (c7 .args .line .now) (c7 .args .kept) (c7 .args .pool .now) (c7 .args .scalars .now)
-            (c7 .args .ends .now) (c7 .args .scratch .now) (c .if1 .taken) (c7 .args .out .now)
-            (written (told (take (c7 .args .kept) (c7 .args .line .now)) (c7 .args .pool .now)
-            (length (c7 .args .scalars .now)) (length (c7 .args .scratch .now)) (c7 .args .ends .now)) (c7 .args .out .now)),
-        no-rows (c7 .args .line .now) (c7 .args .kept) (c7 .args .pool .now) (c7 .args .scalars .now)
-            (c7 .args .ends .now) (c7 .args .scratch .now) (c .if1 .taken),
+        no-text (c8 .args .line .now) (c8 .args .kept) (c8 .args .pool .now) (c8 .args .scalars .now)
+            (c8 .args .positions .now) (c8 .args .ends .now) (c8 .args .scratch .now) (c .if1 .taken) (c8 .args .out .now)
+            (written (told (take (c8 .args .kept) (c8 .args .line .now)) (c8 .args .pool .now)
+            (roomIn (c8 .args .scalars .now) (c8 .args .positions .now)) (length (c8 .args .scratch .now))
+            (c8 .args .ends .now)) (c8 .args .out .now)),
+        no-rows (c8 .args .line .now) (c8 .args .kept) (c8 .args .pool .now)
+            (c8 .args .scalars .now) (c8 .args .positions .now) (c8 .args .ends .now) (c8 .args .scratch .now)
+            (c .if1 .taken),
       ),
     )
 
@@ -45,22 +49,26 @@ same-length-4 c = search needs
 same-length-5 : tie.Need-same-length-5
 same-length-5 c = search needs
 
+same-length-6 : tie.Need-same-length-6
+same-length-6 c = search needs
+
 returns-2 : tie.Need-returns-2
 returns-2 c =
-    let c10 = c .before .before .before .before .before .before .before .before .before .before in
-    let c16 = c10 .before .before .before .before .before .before in
-    let c17 = c16 .before in
-    let c24 = c17 .before .before .before .before .before .before .before in (
-      last-size (c24 .args .line .now) (c24 .args .kept) (c24 .args .pool .now) (c24 .args .scalars .now)
-          (c24 .args .ends .now) (c24 .args .scratch .now) (c17 .if1 .left) (c16 .front .ensures .0) (c24 .args .out .now)
-          (c10 .told .ensures .0),
+    let c12 = c .before .before .before .before .before .before .before .before .before .before .before .before in
+    let c19 = c12 .before .before .before .before .before .before .before in
+    let c20 = c19 .before in
+    let c28 = c20 .before .before .before .before .before .before .before .before in (
+      last-size (c28 .args .line .now) (c28 .args .kept) (c28 .args .pool .now) (c28 .args .scalars .now)
+          (c28 .args .positions .now) (c28 .args .ends .now) (c28 .args .scratch .now) (c20 .if1 .left)
+          (c19 .front .ensures .0) (c28 .args .out .now) (c12 .told .ensures .0),
       (
-        last-out (c24 .args .line .now) (c24 .args .kept) (c24 .args .pool .now) (c24 .args .scalars .now)
-            (c24 .args .ends .now) (c24 .args .scratch .now) (c17 .if1 .left) (c16 .front .ensures .0) (c24 .args .out .now)
-            (c10 .told .ensures .1 .0),
-        last-rows (c24 .args .line .now) (c24 .args .kept) (c24 .args .pool .now)
-            (c24 .args .scalars .now) (c24 .args .ends .now) (c24 .args .scratch .now) (c17 .if1 .left) (c16 .front .ensures .0)
-            (c10 .told .ensures .1 .1),
+        last-out (c28 .args .line .now) (c28 .args .kept) (c28 .args .pool .now) (c28 .args .scalars .now)
+            (c28 .args .positions .now) (c28 .args .ends .now) (c28 .args .scratch .now) (c20 .if1 .left)
+            (c19 .front .ensures .0) (c28 .args .out .now) (c12 .told .ensures .1 .0),
+        last-rows (c28 .args .line .now)
+            (c28 .args .kept) (c28 .args .pool .now) (c28 .args .scalars .now) (c28 .args .positions .now)
+            (c28 .args .ends .now) (c28 .args .scratch .now) (c20 .if1 .left) (c19 .front .ensures .0)
+            (c12 .told .ensures .1 .1),
       ),
     )
 
@@ -76,4 +84,5 @@ finish-spec =
     same-length-3
     same-length-4
     same-length-5
+    same-length-6
     returns-2)

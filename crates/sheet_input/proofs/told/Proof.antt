@@ -25,17 +25,20 @@ same-length-4 c = search needs
 same-length-5 : tie.Need-same-length-5
 same-length-5 c = search needs
 
+same-length-6 : tie.Need-same-length-6
+same-length-6 c = search needs
+
 returns : tie.Need-returns
 returns c =
     let c2 = c .before .before in
-    let c13 = c2 .before .before .before .before .before .before .before .before .before .before .before in
-    let c24 = c13 .before .before .before .before .before .before .before .before .before .before .before in (
-      told-size (c13 .answer-line .ensures .0) (c13 .answer-line .ensures .1 .ends-are) (c24 .args .out .now)
+    let c15 = c2 .before .before .before .before .before .before .before .before .before .before .before .before .before in
+    let c28 = c15 .before .before .before .before .before .before .before .before .before .before .before .before .before in (
+      told-size (c15 .answer-line .ensures .0) (c15 .answer-line .ensures .1 .ends-are) (c28 .args .out .now)
           (c2 .write-reply .ensures .0),
       (
-        told-is (c13 .answer-line .ensures .0) (c13 .answer-line .ensures .1 .ends-are) (c24 .args .out .now)
+        told-is (c15 .answer-line .ensures .0) (c15 .answer-line .ensures .1 .ends-are) (c28 .args .out .now)
             (c2 .write-reply .ensures .1),
-        c13 .answer-line .ensures .1,
+        c15 .answer-line .ensures .1,
       ),
     )
 
@@ -50,4 +53,5 @@ told-spec =
     same-length-3
     same-length-4
     same-length-5
+    same-length-6
     returns)

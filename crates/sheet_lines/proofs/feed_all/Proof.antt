@@ -20,10 +20,10 @@ moves bytes at n k e h =
     (omega arith, omega arith)
 
 abbrev Inv-loop : tie.InvT-loop
-Inv-loop bytes line₀ kept pool₀ scalars₀ ends₀ scratch₀ out₀ n₀ at₀ line pool scalars ends scratch out n at = Unit {0}
+Inv-loop bytes line₀ kept pool₀ scalars₀ positions₀ ends₀ scratch₀ out₀ n₀ at₀ line pool scalars positions ends scratch out n at = Unit {0}
 
 abbrev μ-loop : tie.MeasureT-loop
-μ-loop bytes line₀ kept pool₀ scalars₀ ends₀ scratch₀ out₀ n₀ at₀ line pool scalars ends scratch out n at = length bytes - at
+μ-loop bytes line₀ kept pool₀ scalars₀ positions₀ ends₀ scratch₀ out₀ n₀ at₀ line pool scalars positions ends scratch out n at = length bytes - at
 
 loop-holds : tie.Need-loop-holds Inv-loop μ-loop
 loop-holds c = tt
@@ -52,18 +52,21 @@ returns c = search needs
 add-at : tie.Need-add-at Inv-loop μ-loop
 add-at c =
     let c6 = c .before .before .before .before .before .before in
-    let c14 = c6 .before .before .before .before .before .before .before .before in
-    let c15 = c14 .before in
-    let c17 = c15 .before .before in
-    let m = moves (c17 .args .bytes .now) (c15 .loop .at) _ _ (c6 .step .ensures .1 .0) (c14 .loop-test .taken) in let b = c17 .good in omega arith
+    let c15 = c6 .before .before .before .before .before .before .before .before .before in
+    let c16 = c15 .before in
+    let c18 = c16 .before .before in
+    let m = moves (c18 .args .bytes .now) (c16 .loop .at) _ _ (c6 .step .ensures .1 .0) (c15 .loop-test .taken) in
+    let b = c18 .good in
+    omega arith
 
 loop-less : tie.Need-loop-less Inv-loop μ-loop
 loop-less c =
     let c6 = c .before .before .before .before .before .before in
-    let c14 = c6 .before .before .before .before .before .before .before .before in
-    let c15 = c14 .before in
-    let c17 = c15 .before .before in
-    let m = moves (c17 .args .bytes .now) (c15 .loop .at) _ _ (c6 .step .ensures .1 .0) (c14 .loop-test .taken) in omega arith
+    let c15 = c6 .before .before .before .before .before .before .before .before .before in
+    let c16 = c15 .before in
+    let c18 = c16 .before .before in
+    let m = moves (c18 .args .bytes .now) (c16 .loop .at) _ _ (c6 .step .ensures .1 .0) (c15 .loop-test .taken) in
+    omega arith
 
 loop-again : tie.Need-loop-again Inv-loop μ-loop
 loop-again c = tt

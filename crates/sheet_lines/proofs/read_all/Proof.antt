@@ -6,10 +6,10 @@ use Rattle.sheet_lines.proofs.read_all.Statement.{statement}
 use Rattle.sheet_lines.proofs.read_all.Tie as tie
 
 abbrev Inv-loop : tie.InvT-loop
-Inv-loop line₀ pool₀ scalars₀ ends₀ scratch₀ out₀ buffer₀ kept₀ turns₀ line pool scalars ends scratch out buffer kept turns = 65536 ≡ length buffer
+Inv-loop line₀ pool₀ scalars₀ positions₀ ends₀ scratch₀ out₀ buffer₀ kept₀ turns₀ line pool scalars positions ends scratch out buffer kept turns = 65536 ≡ length buffer
 
 abbrev μ-loop : tie.MeasureT-loop
-μ-loop line₀ pool₀ scalars₀ ends₀ scratch₀ out₀ buffer₀ kept₀ turns₀ line pool scalars ends scratch out buffer kept turns = turns
+μ-loop line₀ pool₀ scalars₀ positions₀ ends₀ scratch₀ out₀ buffer₀ kept₀ turns₀ line pool scalars positions ends scratch out buffer kept turns = turns
 
 large-buffer-requires : tie.Need-large-buffer-requires Inv-loop μ-loop
 large-buffer-requires c κs = search needs

@@ -7,7 +7,7 @@ use Rattle.utf8.specs.Decoding.{scalarsOf}
 use Rattle.trie_pool.specs.Meaning.{meaning}
 use Rattle.trie_check.specs.Refusals.{held}
 use Rattle.newmm_answers.specs.Answers.{accepts, firstCauses, cutOf}
-use Rattle.sheet_replies.proofs.Replying.{scalars-are, ended-stop, out-stop, clear-stop, lent-fits, lent-size, ended-text, out-text, clear-text}
+use Rattle.sheet_replies.proofs.Replying.{decoded-are, ended-stop, out-stop, clear-stop, lent-fits, lent-size, ended-text, out-text, clear-text}
 use borrow.Author.Needs.{needs}
 use Rattle.sheet_replies.proofs.cut.Statement.{statement}
 use Rattle.sheet_replies.proofs.cut.Tie as tie
@@ -23,17 +23,17 @@ enum-known-decoded-2 c = search needs
 
 slice-reshare-prefix-cut : tie.Need-slice-reshare-prefix-cut
 slice-reshare-prefix-cut c =
-    let c5 = c .before .before .before .before .before in
-    let c12 = c5 .before .before .before .before .before .before .before in
-    lent-fits (c12 .args .text .now) (c12 .args .scalars .now) (c5 .decode .ensures .0) (c5 .decode .ensures .1)
+    let c7 = c .before .before .before .before .before .before .before in
+    let c16 = c7 .before .before .before .before .before .before .before .before .before in
+    lent-fits (c16 .args .text .now) (c16 .args .scalars .now) (c16 .args .positions .now) (c7 .decode .ensures)
     (c .before .decoded2 .given .1)
 
 slice-aggregate-cut : tie.Need-slice-aggregate-cut
 slice-aggregate-cut c =
     let c2 = c .before .before in
-    let c6 = c2 .before .before .before .before in
-    let c13 = c6 .before .before .before .before .before .before .before in
-    lent-size (c13 .args .text .now) (c13 .args .scalars .now) (c6 .decode .ensures .0) (c6 .decode .ensures .1)
+    let c8 = c2 .before .before .before .before .before .before in
+    let c17 = c8 .before .before .before .before .before .before .before .before .before in
+    lent-size (c17 .args .text .now) (c17 .args .scalars .now) (c17 .args .positions .now) (c8 .decode .ensures)
     (c2 .decoded2 .given .1)
 
 cut-requires : tie.Need-cut-requires
@@ -45,33 +45,38 @@ ended-requires c κs = search needs
 same-length : tie.Need-same-length
 same-length c = search needs
 
+same-length-2 : tie.Need-same-length-2
+same-length-2 c = search needs
+
 returns : tie.Need-returns
 returns c =
-    let c5 = c .before .before .before .before .before in
-    let c12 = c5 .before .before .before .before .before .before .before in (
-      ended-stop (c12 .args .text .now) (c12 .args .scalars .now) (c5 .decode .ensures .0) (c5 .decode .ensures .1)
+    let c7 = c .before .before .before .before .before .before .before in
+    let c16 = c7 .before .before .before .before .before .before .before .before .before in (
+      ended-stop (c16 .args .text .now) (c16 .args .scalars .now) (c16 .args .positions .now) (c7 .decode .ensures)
           (c .before .decoded .given .1)
-          (accepts (c12 .args .mode) (scalarsOf (c12 .args .text .now)) (meaning (c12 .args .pool .now))
-          (length (c12 .args .scratch .now)) (length (c12 .args .ends .now))),
+          (accepts (c16 .args .mode) (scalarsOf (c16 .args .text .now)) (meaning (c16 .args .pool .now))
+          (length (c16 .args .scratch .now)) (length (c16 .args .ends .now))),
       (
-        scalars-are (c12 .args .text .now) (c12 .args .scalars .now) (c5 .decode .ensures .0) (c5 .decode .ensures .1),
+        decoded-are (c16 .args .text .now) (c16 .args .scalars .now) (c16 .args .positions .now)
+            (c7 .decode .ensures) .0,
         (
-          out-stop (c12 .args .text .now) (c12 .args .scalars .now) (c5 .decode .ensures .0) (c5 .decode .ensures .1)
-              (c .before .decoded .given .1)
-              (accepts (c12 .args .mode) (scalarsOf (c12 .args .text .now)) (meaning (c12 .args .pool .now))
-              (length (c12 .args .scratch .now)) (length (c12 .args .ends .now)))
-              (cutOf (c12 .args .mode) (held (meaning (c12 .args .pool .now))) (scalarsOf (c12 .args .text .now)) .ends)
-              (c12 .args .ends .now),
-          clear-stop (c12 .args .text .now) (c12 .args .scalars .now) (c5 .decode .ensures .0)
-              (c5 .decode .ensures .1) (c .before .decoded .given .1)
-              (answer (firstCauses (scalarsOf (c12 .args .text .now)) (meaning (c12 .args .pool .now))
-              (length (c12 .args .scratch .now))) 0) (c12 .args .scratch .now),
+          decoded-are (c16 .args .text .now) (c16 .args .scalars .now) (c16 .args .positions .now)
+              (c7 .decode .ensures) .1,
+          (
+            out-stop (c16 .args .text .now) (c16 .args .scalars .now) (c16 .args .positions .now) (c7 .decode .ensures)
+                (c .before .decoded .given .1)
+                (accepts (c16 .args .mode) (scalarsOf (c16 .args .text .now)) (meaning (c16 .args .pool .now))
+                (length (c16 .args .scratch .now)) (length (c16 .args .ends .now)))
+                (cutOf (c16 .args .mode) (held (meaning (c16 .args .pool .now))) (scalarsOf (c16 .args .text .now)) .ends)
+                (c16 .args .ends .now),
+            clear-stop (c16 .args .text .now) (c16 .args .scalars .now) (c16 .args .positions .now)
+                (c7 .decode .ensures) (c .before .decoded .given .1)
+                (answer (firstCauses (scalarsOf (c16 .args .text .now)) (meaning (c16 .args .pool .now))
+                (length (c16 .args .scratch .now))) 0) (c16 .args .scratch .now),
+          ),
         ),
       ),
     )
-
-same-length-2 : tie.Need-same-length-2
-same-length-2 c = search needs
 
 same-length-3 : tie.Need-same-length-3
 same-length-3 c = search needs
@@ -79,29 +84,39 @@ same-length-3 c = search needs
 same-length-4 : tie.Need-same-length-4
 same-length-4 c = search needs
 
+same-length-5 : tie.Need-same-length-5
+same-length-5 c = search needs
+
+same-length-6 : tie.Need-same-length-6
+same-length-6 c = search needs
+
 returns-2 : tie.Need-returns-2
 returns-2 c =
     let c5 = c .before .before .before .before .before in
     let c10 = c5 .before .before .before .before .before in
-    let c14 = c10 .before .before .before .before in
-    let c21 = c14 .before .before .before .before .before .before .before in (
-      ended-text (c21 .args .text .now) (c21 .args .scalars .now) (c14 .decode .ensures .0) (c14 .decode .ensures .1)
-          (c10 .decoded2 .given .1) (c21 .args .mode) (c21 .args .pool .now) (length (c21 .args .scratch .now))
-          (length (c21 .args .ends .now)) (c5 .cut .ensures .0) (c .ended .ensures),
+    let c16 = c10 .before .before .before .before .before .before in
+    let c25 = c16 .before .before .before .before .before .before .before .before .before in (
+      ended-text (c25 .args .text .now) (c25 .args .scalars .now) (c25 .args .positions .now) (c16 .decode .ensures)
+          (c10 .decoded2 .given .1) (c25 .args .mode) (c25 .args .pool .now) (length (c25 .args .scratch .now))
+          (length (c25 .args .ends .now)) (c5 .cut .ensures .0) (c .ended .ensures),
       (
-        scalars-are (c21 .args .text .now) (c21 .args .scalars .now) (c14 .decode .ensures .0)
-            (c14 .decode .ensures .1),
+        decoded-are (c25 .args .text .now) (c25 .args .scalars .now) (c25 .args .positions .now)
+            (c16 .decode .ensures) .0,
         (
-          out-text (c21 .args .text .now) (c21 .args .scalars .now) (c14 .decode .ensures .0) (c14 .decode .ensures .1)
-              (c10 .decoded2 .given .1)
-              (λ (w : List ℕ). accepts (c21 .args .mode) w (meaning (c21 .args .pool .now)) (length (c21 .args .scratch .now))
-              (length (c21 .args .ends .now)))
-              (λ (w : List ℕ). cutOf (c21 .args .mode) (held (meaning (c21 .args .pool .now))) w .ends) (c21 .args .ends .now)
-              (c5 .cut .ensures .1 .0),
-          clear-text (c21 .args .text .now) (c21 .args .scalars .now) (c14 .decode .ensures .0)
-              (c14 .decode .ensures .1) (c10 .decoded2 .given .1)
-              (λ (w : List ℕ). answer (firstCauses w (meaning (c21 .args .pool .now)) (length (c21 .args .scratch .now))) 0)
-              (c21 .args .scratch .now) (c5 .cut .ensures .1 .1),
+          decoded-are (c25 .args .text .now) (c25 .args .scalars .now) (c25 .args .positions .now)
+              (c16 .decode .ensures) .1,
+          (
+            out-text (c25 .args .text .now) (c25 .args .scalars .now) (c25 .args .positions .now) (c16 .decode .ensures)
+                (c10 .decoded2 .given .1)
+                (λ (w : List ℕ). accepts (c25 .args .mode) w (meaning (c25 .args .pool .now)) (length (c25 .args .scratch .now))
+                (length (c25 .args .ends .now)))
+                (λ (w : List ℕ). cutOf (c25 .args .mode) (held (meaning (c25 .args .pool .now))) w .ends) (c25 .args .ends .now)
+                (c5 .cut .ensures .1 .0),
+            clear-text (c25 .args .text .now) (c25 .args .scalars .now) (c25 .args .positions .now)
+                (c16 .decode .ensures) (c10 .decoded2 .given .1)
+                (λ (w : List ℕ). answer (firstCauses w (meaning (c25 .args .pool .now)) (length (c25 .args .scratch .now))) 0)
+                (c25 .args .scratch .now) (c5 .cut .ensures .1 .1),
+          ),
         ),
       ),
     )
@@ -118,8 +133,10 @@ cut-spec =
     cut-requires
     ended-requires
     same-length
-    returns
     same-length-2
+    returns
     same-length-3
     same-length-4
+    same-length-5
+    same-length-6
     returns-2)

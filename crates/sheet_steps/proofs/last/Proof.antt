@@ -11,8 +11,8 @@ finish-requires c κs = search needs
 
 returns : tie.Need-returns
 returns c =
-    let s = c .before .before .before .before .before .before .before in
-    (finished [] (s .args .line .now) (s .args .pool .now) (s .args .scalars .now) (s .args .ends .now) (s .args .scratch .now) (s .args .out .now) (s .args .kept) (omega arith) (omega arith) (omega arith) (omega arith) (omega arith) (omega arith) _ _ (c .finish .ensures .0) (c .finish .ensures .1 .0), c .finish .ensures)
+    let s = c .before .before .before .before .before .before .before .before in
+    (finished [] (s .args .line .now) (s .args .pool .now) (s .args .scalars .now) (s .args .positions .now) (s .args .ends .now) (s .args .scratch .now) (s .args .out .now) (s .args .kept) (omega arith) (omega arith) (omega arith) (omega arith) (omega arith) (omega arith) (omega arith) _ _ (c .finish .ensures .0) (c .finish .ensures .1 .0), c .finish .ensures)
 
 pub last-spec : {M : Type 1} → statement M
 last-spec = tie.close (tie.spec finish-requires returns)

@@ -7,10 +7,11 @@ use Rattle.test_char_string.proofs.replay.Statement.{statement}
 use Rattle.test_char_string.proofs.replay.Tie as tie
 
 abbrev Inv-loop : tie.InvT-loop
-Inv-loop input bytes₀ cells₀ at₀ t5 bytes cells at = (length bytes ≡ length bytes₀) × (length cells ≡ length cells₀)
+Inv-loop input bytes₀ cells₀ positions₀ at₀ t6 bytes cells positions at =
+    (length bytes ≡ length bytes₀) × (length cells ≡ length cells₀) × (length positions ≡ length positions₀)
 
 abbrev μ-loop : tie.MeasureT-loop
-μ-loop input bytes₀ cells₀ at₀ t5 bytes cells at = length input - at
+μ-loop input bytes₀ cells₀ positions₀ at₀ t6 bytes cells positions at = length input - at
 
 loop-holds : tie.Need-loop-holds Inv-loop μ-loop
 loop-holds c = search needs
@@ -42,6 +43,9 @@ same-length c = search needs
 same-length-2 : tie.Need-same-length-2 Inv-loop μ-loop
 same-length-2 c = search needs
 
+same-length-3 : tie.Need-same-length-3 Inv-loop μ-loop
+same-length-3 c = search needs
+
 returns : tie.Need-returns Inv-loop μ-loop
 returns c = search needs
 
@@ -61,4 +65,5 @@ replay-spec =
     loop-again
     same-length
     same-length-2
+    same-length-3
     returns)

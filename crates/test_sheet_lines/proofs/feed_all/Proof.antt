@@ -21,14 +21,14 @@ moves bytes part at most n k m w e h =
     (omega arith, omega arith)
 
 abbrev Inv-loop : tie.InvT-loop
-Inv-loop bytes most written₀ line₀ pool₀ scalars₀ ends₀ scratch₀ out₀ used₀ kept₀ at₀ written line pool scalars ends scratch out used kept at =
-    (length line ≡ length line₀) × (length pool ≡ length pool₀) × (length scalars ≡ length scalars₀) × (length ends ≡ length ends₀) × (length scratch ≡ length scratch₀) × (length out ≡ length out₀) × (length written ≡ length written₀)
+Inv-loop bytes most written₀ line₀ pool₀ scalars₀ positions₀ ends₀ scratch₀ out₀ used₀ kept₀ at₀ written line pool scalars positions ends scratch out used kept at =
+    (length line ≡ length line₀) × (length pool ≡ length pool₀) × (length scalars ≡ length scalars₀) × (length positions ≡ length positions₀) × (length ends ≡ length ends₀) × (length scratch ≡ length scratch₀) × (length out ≡ length out₀) × (length written ≡ length written₀)
 
 abbrev μ-loop : tie.MeasureT-loop
-μ-loop bytes most written₀ line₀ pool₀ scalars₀ ends₀ scratch₀ out₀ used₀ kept₀ at₀ written line pool scalars ends scratch out used kept at = length bytes - at
+μ-loop bytes most written₀ line₀ pool₀ scalars₀ positions₀ ends₀ scratch₀ out₀ used₀ kept₀ at₀ written line pool scalars positions ends scratch out used kept at = length bytes - at
 
 loop-holds : tie.Need-loop-holds Inv-loop μ-loop
-loop-holds c = (refl, refl, refl, refl, refl, refl, refl)
+loop-holds c = (refl, refl, refl, refl, refl, refl, refl, refl)
 
 sub-front : tie.Need-sub-front Inv-loop μ-loop
 sub-front c = search needs
@@ -53,33 +53,42 @@ keep-requires c κs = search needs
 
 add-at : tie.Need-add-at Inv-loop μ-loop
 add-at c =
-    let c19 = c .before .before .before .before .before .before .before .before .before .before .before .before .before .before .before .before .before .before .before in
-    let c26 = c19 .before .before .before .before .before .before .before in
-    let c28 = c26 .before .before in
-    let c29 = c28 .before in
-    let c38 = c29 .before .before .before .before .before .before .before .before .before in
-    let m = moves (c38 .args .bytes .now) _ (c29 .loop .at) (c38 .args .most) _ _ (c38 .pre) (c26 .front .ensures .0)
-    (c19 .feed .ensures .0) (c28 .loop-test .taken) in
-    let b = c38 .good in
+    let c21 = c .before .before .before .before .before .before .before .before .before .before .before .before .before .before .before .before .before .before .before .before .before in
+    let c29 = c21 .before .before .before .before .before .before .before .before in
+    let c31 = c29 .before .before in
+    let c32 = c31 .before in
+    let c42 = c32 .before .before .before .before .before .before .before .before .before .before in
+    let m = moves (c42 .args .bytes .now) _ (c32 .loop .at) (c42 .args .most) _ _ (c42 .pre) (c29 .front .ensures .0)
+    (c21 .feed .ensures .0) (c31 .loop-test .taken) in
+    let b = c42 .good in
     omega arith
 
 loop-less : tie.Need-loop-less Inv-loop μ-loop
 loop-less c =
-    let c19 = c .before .before .before .before .before .before .before .before .before .before .before .before .before .before .before .before .before .before .before in
-    let c26 = c19 .before .before .before .before .before .before .before in
-    let c28 = c26 .before .before in
-    let c29 = c28 .before in
-    let c38 = c29 .before .before .before .before .before .before .before .before .before in
-    let m = moves (c38 .args .bytes .now) _ (c29 .loop .at) (c38 .args .most) _ _ (c38 .pre) (c26 .front .ensures .0)
-    (c19 .feed .ensures .0) (c28 .loop-test .taken) in
+    let c21 = c .before .before .before .before .before .before .before .before .before .before .before .before .before .before .before .before .before .before .before .before .before in
+    let c29 = c21 .before .before .before .before .before .before .before .before in
+    let c31 = c29 .before .before in
+    let c32 = c31 .before in
+    let c42 = c32 .before .before .before .before .before .before .before .before .before .before in
+    let m = moves (c42 .args .bytes .now) _ (c32 .loop .at) (c42 .args .most) _ _ (c42 .pre) (c29 .front .ensures .0)
+    (c21 .feed .ensures .0) (c31 .loop-test .taken) in
     omega arith
 
 loop-again : tie.Need-loop-again Inv-loop μ-loop
 loop-again c =
-    let c19 = c .before .before .before .before .before .before .before .before .before .before .before .before .before .before .before .before .before .before .before in
-    let c29 = c19 .before .before .before .before .before .before .before .before .before .before in
-    let v = c29 .loop .inv in
-    (c19 .feed .kept .1 .0 ∙ v .0, search needs, search needs, search needs, search needs, search needs, search needs)
+    let c21 = c .before .before .before .before .before .before .before .before .before .before .before .before .before .before .before .before .before .before .before .before .before in
+    let c32 = c21 .before .before .before .before .before .before .before .before .before .before .before in
+    let v = c32 .loop .inv in (
+      c21 .feed .kept .1 .0
+          ∙ v .0,
+      search needs,
+      search needs,
+      search needs,
+      search needs,
+      search needs,
+      search needs,
+      search needs,
+    )
 
 finish-requires : tie.Need-finish-requires Inv-loop μ-loop
 finish-requires c κs = search needs
@@ -111,6 +120,9 @@ same-length-6 c = search needs
 same-length-7 : tie.Need-same-length-7 Inv-loop μ-loop
 same-length-7 c = search needs
 
+same-length-8 : tie.Need-same-length-8 Inv-loop μ-loop
+same-length-8 c = search needs
+
 returns : tie.Need-returns Inv-loop μ-loop
 returns c = search needs
 
@@ -141,4 +153,5 @@ feed-all-spec =
     same-length-5
     same-length-6
     same-length-7
+    same-length-8
     returns)

@@ -1,0 +1,61 @@
+-- Assumes nothing.
+use Prim.Native.Nat.{_-_}
+use native.Mathlib.Omega.{arith}
+use mathlib.Core.Path.{sym, _∙_}
+use lib.ListN.{length}
+use Rattle.utf8.proofs.Runs.{Read, read-none, read-inside, read-more, read-broken, read-done}
+use borrow.Author.Needs.{needs}
+use Rattle.utf8.proofs.count_by_table.Statement.{statement}
+use Rattle.utf8.proofs.count_by_table.Tie as tie
+
+abbrev Inv-loop : tie.InvT-loop
+Inv-loop s table at₀ n₀ at n = Read s at n
+
+abbrev μ-loop : tie.MeasureT-loop
+μ-loop s table at₀ n₀ at n = length s - at
+
+lead-table-requires : tie.Need-lead-table-requires Inv-loop μ-loop
+lead-table-requires c κs = search needs
+
+loop-holds : tie.Need-loop-holds Inv-loop μ-loop
+loop-holds c = read-none _
+
+next-size-requires : tie.Need-next-size-requires Inv-loop μ-loop
+next-size-requires c κs = search needs
+
+returns : tie.Need-returns Inv-loop μ-loop
+returns c =
+    let c3 = c .before .before .before in
+    let c4 = c3 .before in
+    read-broken (c4 .loop .inv) (c3 .loop-test .taken) (sym (c .before .next-size .ensures) ∙ c .if1 .taken)
+
+add-at : tie.Need-add-at Inv-loop μ-loop
+add-at c = let z = read-inside _ _ _ (c .before .before .before .before .loop .inv .inside) (c .before .next-size .ensures) in omega arith
+
+add-n : tie.Need-add-n Inv-loop μ-loop
+add-n c = search needs
+
+loop-less : tie.Need-loop-less Inv-loop μ-loop
+loop-less c = let z = read-inside _ _ _ (c .before .before .before .before .loop .inv .inside) (c .before .next-size .ensures) in omega arith
+
+loop-again : tie.Need-loop-again Inv-loop μ-loop
+loop-again c = read-more _ (c .before .before .before .before .loop .inv) (c .before .next-size .ensures) (omega (arith, c .if1 .left))
+
+returns-2 : tie.Need-returns-2 Inv-loop μ-loop
+returns-2 c = read-done (c .before .loop .inv) (c .loop-test .left)
+
+pub count-by-table-spec : {M : Type 1} → statement M
+count-by-table-spec =
+    tie.close
+    (tie.spec
+    Inv-loop
+    μ-loop
+    lead-table-requires
+    loop-holds
+    next-size-requires
+    returns
+    add-at
+    add-n
+    loop-less
+    loop-again
+    returns-2)

@@ -1,0 +1,4 @@
+pub mod FirstBytes
+pub mod Sizes
+pub mod Quick
+pub mod Pieces
