@@ -3,6 +3,8 @@ use refusal::Answer;
 use refusal::MAX_SCALARS;
 use refusal::Refusal;
 ghost use mathlib.Core.Path.{_≡_};
+ghost use Prim.Native.Nat.{ℕ, _≤_};
+ghost use lib.ListN.{getD};
 ghost use Rattle.char_string_scalars.specs.Scalars.{isScalar, firstNonScalar, checked};
 
 pub fn is_scalar(x: u32) -> bool
@@ -17,10 +19,29 @@ pub fn is_scalar(x: u32) -> bool
     x <= 0x10FFFF
 }
 
+// The highest cell, 0 where there is none.
+fn highest(cells: &[u32]) -> u32
+    ensures { λ r. ⌜ ((a : ℕ) → getD (now (cells .entry)) a 0 ≤ r) ⌝ }
+{
+    let mut most: u32 = 0;
+    let mut i: usize = 0;
+    while i < cells.len() {
+        let x = cells[i];
+        i += 1;
+        if most < x {
+            most = x;
+        }
+    }
+    most
+}
+
 // The index of the first cell that isn't a scalar value, or the length where all are.
 pub fn first_non_scalar(cells: &[u32]) -> usize
     ensures { λ r. ⌜ r ≡ firstNonScalar (now (cells .entry)) ⌝ }
 {
+    if highest(cells) < 0xD800 {
+        return cells.len();
+    }
     let mut i = 0;
     while i < cells.len() {
         if !is_scalar(cells[i]) {

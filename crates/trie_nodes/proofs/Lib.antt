@@ -1,2 +1,5 @@
-pub mod Decide
-pub mod Standing
+pub mod Falls
+pub mod Ors
+pub mod Cells
+pub mod Walks
+pub mod Ends

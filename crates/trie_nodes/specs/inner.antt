@@ -1,2 +1,3 @@
 -- Words of inner contracts. No public contract needs them.
-pub mod Checks
+pub mod Falls
+pub mod Walking

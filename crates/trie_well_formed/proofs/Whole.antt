@@ -13,8 +13,9 @@ use Rattle.trie_pool.specs.Cells.{scalarAt, firstAt, countAt, used}
 use Rattle.trie_pool.specs.inner.Sound.{Shaped, Plain, Sound}
 use Rattle.trie_pool.specs.Levels.{hop, levelEnd}
 use Rattle.trie_pool.proofs.Shape.{within}
-use Rattle.trie_nodes.specs.inner.Checks.{Decides, Nodes}
-use Rattle.trie_nodes.proofs.Decide.{clash}
+use Rattle.trie_node.specs.inner.Checks.{Decides}
+use Rattle.trie_nodes.specs.inner.Walking.{Nodes}
+use Rattle.trie_node.proofs.Decide.{clash}
 
 -- ---- levels
 

@@ -20,7 +20,7 @@ ghost use Rattle.trie_pool.specs.Cells.{nodeCells, scalarAt};
 ghost use Rattle.trie_pool.specs.inner.Sound.{Shaped};
 ghost use Rattle.trie_pool.specs.Levels.{levelEnd};
 ghost use Rattle.trie_pool.specs.Rules.{wellFormed};
-ghost use Rattle.trie_nodes.specs.inner.Checks.{Decides};
+ghost use Rattle.trie_node.specs.inner.Checks.{Decides};
 
 // Whether none of the nodes from 1 to k has a trimmed scalar.
 fn starts_ok(p: &[u32], k: usize) -> bool
@@ -58,14 +58,13 @@ fn shallow(p: &[u32], n: usize) -> bool
 fn blank(p: &[u32], k: usize) -> bool
     ensures { λ r. ⌜ Decides r ((i : ℕ) → k ≤ i → getD (now (p .entry)) i 0 ≡ 0) ⌝ }
 {
+    let mut all: u32 = 0;
     let mut i = k;
     while i < p.len() {
-        if p[i] != 0 {
-            return false;
-        }
+        all = all | p[i];
         i += 1;
     }
-    true
+    all == 0
 }
 
 // Whether the cells of a pool are a plain dictionary: all rules hold. One walk over the nodes sees

@@ -1,122 +1,73 @@
 -- Assumes nothing.
-use Prim.Native.Nat.{_-_}
 use native.Mathlib.Omega.{arith}
 use borrow.Author.Tests.{not-true, not-false}
-use Rattle.trie_nodes.proofs.Decide.{denied}
-use Rattle.trie_pool.proofs.Shape.{count-is}
-use Rattle.trie_nodes.proofs.Standing.{Inv, begin, turn, refuse, refuse-aside, done}
+use Rattle.trie_node.proofs.Decide.{denied}
+use Rattle.trie_nodes.proofs.Ends.{root-of, zeros-in, finish}
 use borrow.Author.Needs.{needs}
 use Rattle.trie_nodes.proofs.nodes_ok.Statement.{statement}
 use Rattle.trie_nodes.proofs.nodes_ok.Tie as tie
 use Rattle.trie_nodes.proofs.nodes_ok.Reads as reads
 use Rattle.trie_nodes.proofs.nodes_ok.Lts as lts
-use Rattle.cells.proofs.wide.Reads as wide-reads
-use Rattle.trie_nodes.proofs.aside_zero.Reads as aside-zero-reads
-use Rattle.trie_nodes.proofs.each_ok.Reads as each-ok-reads
+use Rattle.trie_nodes.proofs.leaves.Reads as leaves-reads
+use Rattle.trie_nodes.proofs.none_aside.Reads as none-aside-reads
+use Rattle.trie_nodes.proofs.parents.Reads as parents-reads
+use Rattle.trie_nodes.proofs.root_ok.Reads as root-ok-reads
 
-abbrev Inv-loop : tie.InvT-loop
-Inv-loop p n i₀ s₀ i s = Inv p n i s
+root-ok-requires : tie.Need-root-ok-requires
+root-ok-requires c κs = omega (arith, c .before .pre .0, c .before .pre .2)
 
-abbrev μ-loop : tie.MeasureT-loop
-μ-loop p n i₀ s₀ i s = n - i
+returns : tie.Need-returns
+returns c = denied (λ h. c .before .root-ok .ensures .no′ (not-true _ (c .if1 .taken)) (root-of h))
 
-loop-holds : tie.Need-loop-holds Inv-loop μ-loop
-loop-holds c = begin _ _ (c .before .pre .0)
+parents-requires : tie.Need-parents-requires
+parents-requires c κs =
+    let c3 = c .before .before .before in
+    (c3 .pre .0, c3 .pre .1, c3 .pre .2, c .before .root-ok .ensures .yes′ (not-false _ (c .if1 .left)) .1)
 
-each-ok-requires : tie.Need-each-ok-requires Inv-loop μ-loop
-each-ok-requires c κs = (c .loop-test .taken, c .before .loop .inv .fits, omega (arith, c .before .before .before .pre .1))
+returns-2 : tie.Need-returns-2
+returns-2 c = denied (c .before .before .parents .ensures .wrong (c .if2 .taken))
 
-returns : tie.Need-returns Inv-loop μ-loop
-returns c =
+leaves-requires : tie.Need-leaves-requires
+leaves-requires c κs =
+    let c2 = c .before .before in
+    let c6 = c2 .before .before .before .before in
+    (c6 .pre .1, c6 .pre .2, c2 .parents .ensures .right (c .if2 .left), c .if2 .left)
+
+returns-3 : tie.Need-returns-3
+returns-3 c = denied (c .before .before .leaves .ensures .wrong (c .if3 .taken))
+
+none-aside-requires : tie.Need-none-aside-requires
+none-aside-requires c κs = search needs
+
+returns-4 : tie.Need-returns-4
+returns-4 c =
+    let c2 = c .before .before in
+    let c4 = c2 .before .before in
+    denied (λ h. c .before .none-aside .ensures .no′ (not-true _ (c .if4 .taken))
+    (zeros-in (c4 .leaves .ensures .walk) (c2 .if3 .left) h))
+
+returns-5 : tie.Need-returns-5
+returns-5 c =
     let c2 = c .before .before in
     let c3 = c2 .before in
     let c5 = c3 .before .before in
-    denied (refuse (c5 .args .p .now) (c5 .args .n) (c3 .loop .i) (c3 .loop .s) (c3 .loop .inv) (c2 .loop-test .taken)
-    (c .before .each-ok .ensures .no′ (not-true _ (c .if1 .taken))))
-
-aside-zero-requires : tie.Need-aside-zero-requires Inv-loop μ-loop
-aside-zero-requires c κs = search needs
-
-returns-2 : tie.Need-returns-2 Inv-loop μ-loop
-returns-2 c =
-    let c4 = c .before .before .before .before in
-    let c5 = c4 .before in
-    let c7 = c5 .before .before in
-    denied (refuse-aside (c7 .args .p .now) (c7 .args .n) (c5 .loop .i) (c4 .loop-test .taken)
-    (c .before .aside-zero .ensures .no′ (not-true _ (c .if2 .taken))))
-
-mul-wide : tie.Need-mul-wide Inv-loop μ-loop
-mul-wide c = search needs
-
-add-wide : tie.Need-add-wide Inv-loop μ-loop
-add-wide c = search needs
-
-mul-wide-2 : tie.Need-mul-wide-2 Inv-loop μ-loop
-mul-wide-2 c = search needs
-
-shared-slice-read-wide : tie.Need-shared-slice-read-wide Inv-loop μ-loop
-shared-slice-read-wide c = search needs
-
-wide-requires : tie.Need-wide-requires Inv-loop μ-loop
-wide-requires c κs = search needs
-
-add-s : tie.Need-add-s Inv-loop μ-loop
-add-s c =
-    let c4 = c .before .before .before .before in
-    let c5 = c4 .before in
-    let c7 = c5 .before .before in
-    let c9 = c7 .before .before in
-    omega (
-      arith,
-      c5 .each-ok .ensures .yes′ (not-false _ (c4 .if1 .left)) .fits,
-      count-is (c9 .args .p .now)
-          (c7 .loop .i),
-      c .wide .ensures,
-    )
-
-add-i : tie.Need-add-i Inv-loop μ-loop
-add-i c = search needs
-
-loop-less : tie.Need-loop-less Inv-loop μ-loop
-loop-less c = omega (arith, c .before .before .before .before .before .before .loop-test .taken)
-
-loop-again : tie.Need-loop-again Inv-loop μ-loop
-loop-again c =
-    let c2 = c .before .before in
-    let c3 = c2 .before in
-    let c4 = c3 .before in
-    let c5 = c4 .before in
-    let c6 = c5 .before in
-    let c7 = c6 .before in
-    let c9 = c7 .before .before in
-    turn (c9 .args .p .now) (c9 .args .n) (c7 .loop .i) (c7 .loop .s) _ (c7 .loop .inv) (c6 .loop-test .taken)
-    (c5 .each-ok .ensures .yes′ (not-false _ (c4 .if1 .left)))
-    (c3 .aside-zero .ensures .yes′ (not-false _ (c2 .if2 .left))) (c .wide .ensures)
-
-returns-3 : tie.Need-returns-3 Inv-loop μ-loop
-returns-3 c =
-    let c3 = c .before .before .before in
-    done (c3 .args .p .now) (c3 .args .n) (c .before .loop .i) (c .before .loop .s) (c .before .loop .inv)
-    (c3 .pre .0) (c .loop-test .left)
+    let c9 = c5 .before .before .before .before in
+    let c10 = c9 .before in
+    let c12 = c10 .before .before in
+    finish (c5 .leaves .ensures) (c3 .if3 .left) (c12 .pre .0) (c12 .pre .1) (c12 .pre .3)
+    (c10 .root-ok .ensures .yes′ (not-false _ (c9 .if1 .left)) .0)
+    (c2 .none-aside .ensures .yes′ (not-false _ (c .before .if4 .left)))
 
 pub nodes-ok-spec : {M : Type 1} → statement M
 nodes-ok-spec =
     tie.close
     (tie.spec
-    Inv-loop
-    μ-loop
-    loop-holds
-    each-ok-requires
+    root-ok-requires
     returns
-    aside-zero-requires
+    parents-requires
     returns-2
-    mul-wide
-    add-wide
-    mul-wide-2
-    shared-slice-read-wide
-    wide-requires
-    add-s
-    add-i
-    loop-less
-    loop-again
-    returns-3)
+    leaves-requires
+    returns-3
+    none-aside-requires
+    returns-4
+    returns-5)

@@ -2,7 +2,7 @@
 use mathlib.Core.Path.{_∙_}
 use Prim.Native.Nat.{_-_}
 use native.Mathlib.Omega.{arith}
-use Rattle.trie_nodes.proofs.Decide.{granted}
+use Rattle.trie_node.proofs.Decide.{granted}
 use Rattle.trie_well_formed.proofs.Whole.{Levels, level-on, level-done, stay, ends-start}
 use borrow.Author.Needs.{needs}
 use Rattle.trie_well_formed.proofs.shallow.Statement.{statement}

@@ -5,7 +5,7 @@ use Prim.Native.Nat.{ℕ, _+_, _-_, _<_}
 use native.Mathlib.Omega.{arith}
 use Rattle.char_string_white_space.specs.Trimmed.{isTrimmed}
 use Rattle.trie_pool.specs.Cells.{scalarAt}
-use Rattle.trie_nodes.proofs.Decide.{denied, granted}
+use Rattle.trie_node.proofs.Decide.{denied, granted}
 use Rattle.trie_well_formed.proofs.Whole.{starts-more, starts-not}
 use borrow.Author.Needs.{needs}
 use Rattle.trie_well_formed.proofs.starts_ok.Statement.{statement}

@@ -52,7 +52,9 @@ returns-6 c =
     (blank-of _ _ (at-n _ _ (c7 .wide .ensures) (d .sound)) (d .plain)))
 
 nodes-ok-requires : tie.Need-nodes-ok-requires
-nodes-ok-requires c κs = search needs
+nodes-ok-requires c κs =
+    let c7 = c .before .before .before .before .before .before .before in
+    (omega arith, omega arith, omega arith, sym (c7 .wide .ensures))
 
 returns-7 : tie.Need-returns-7
 returns-7 c =

@@ -3,7 +3,7 @@ use mathlib.Core.Path.{_≡_}
 use mathlib.Core.Bool.{Bool, true, false}
 use Prim.Native.Nat.{ℕ}
 use native.Mathlib.Omega.{arith}
-use Rattle.trie_nodes.specs.inner.Checks.{Decides}
+use Rattle.trie_node.specs.inner.Checks.{Decides}
 
 pub denied : {P : Type 0} → (P → ⊥) → Decides false P
 denied f = record { yes′ = λ e. let z : _≡_ {A = ℕ} 0 1 = cc in absurd (omega arith); no′ = λ e p. f p }

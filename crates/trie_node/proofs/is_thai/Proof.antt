@@ -1,8 +1,8 @@
 -- Assumes nothing.
 use native.Mathlib.Omega.{arith}
-use Rattle.trie_nodes.proofs.Decide.{denied, granted}
-use Rattle.trie_nodes.proofs.is_thai.Statement.{statement}
-use Rattle.trie_nodes.proofs.is_thai.Tie as tie
+use Rattle.trie_node.proofs.Decide.{denied, granted}
+use Rattle.trie_node.proofs.is_thai.Statement.{statement}
+use Rattle.trie_node.proofs.is_thai.Tie as tie
 
 returns : tie.Need-returns
 returns c = denied (λ h. omega (arith, h .0, c .if1 .taken))
