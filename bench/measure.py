@@ -40,6 +40,8 @@ ROWS = (
     + [(op, texts, words) for op in ("plain", "safe") for words in ("small", "all") for texts in (LINES, LONG)]
     + [("batch", texts, words) for words in ("small", "all") for texts in (LINES, ALL)]
 )
+# how many times the nodes it uses a roomy pool is lent with
+ROOM = 8
 # what the other sides do text by text
 ONE_BY_ONE = {"batch": "plain"}
 OTHERS = [("libthai", "plain"), ("icu", "plain"), ("icu", "decode")]
@@ -102,6 +104,14 @@ def load_pools():
     return found
 
 
+def make_roomy():
+    """The same pools lent with more nodes, which are 0."""
+    for words in ("small", "all"):
+        pool = open(os.path.join(WORK, words + ".pool"), "rb").read()
+        with open(os.path.join(WORK, words + "-roomy.pool"), "wb") as file:
+            file.write(pool + bytes((ROOM - 1) * len(pool)))
+
+
 def limit_memory():
     resource.setrlimit(resource.RLIMIT_AS, (RUST_BYTES, RUST_BYTES))
 
@@ -139,11 +149,12 @@ def measure_rows():
     wanted += [(side, (op, texts, "")) for side, op in OTHERS for texts in (LINES, LONG)]
     wanted += [(side, ("batch", ALL, "")) for side in ("libthai", "icu")]
     wanted += [("ours", ("plain", JOINED, words)) for words in ("small", "all")]
-    wanted += [("ours", (op, LONG, words)) for words in ("small", "all") for op in ("check", "read", "read-wide")]
+    lent = ("small", "all", "small-roomy", "all-roomy")
+    wanted += [("ours", (op, LONG, words)) for words in lent for op in ("check", "read", "read-wide")]
     wanted += [("ours", ("check", texts, words)) for texts, words in FIRSTS]
     wanted += [("ours", ("winners", texts, "small")) for texts in (LINES, LONG)]
     wanted += [("ours", ("sheet", texts, words)) for words in ("small", "all") for texts in (LINES, LONG)]
-    wanted += [("ours", (op, LONG, words)) for words in ("small", "all") for op in ("cut", "claim", "map", "next", "next-bare")]
+    wanted += [("ours", (op, LONG, words)) for words in ("small", "all") for op in ("cut", "reasons", "claim", "map", "next", "next-bare")]
     if os.path.exists(DRIVERS["before"]):
         wanted += [("before", (op, LONG, "all")) for op in ("places", "check")]
     times = rounds(wanted)
@@ -191,6 +202,7 @@ def sizes():
 def main():
     print("adding the words one by one", flush=True)
     loads = load_pools()
+    make_roomy()
     for what in ROWS:
         print("comparing", *what, flush=True)
         if not hold(what):

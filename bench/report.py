@@ -9,6 +9,8 @@ ROOT = os.path.dirname(os.path.dirname(os.path.abspath(__file__)))
 WORK = os.path.join(ROOT, "target", "bench")
 LINES, LONG = "lines.lines", "long.txt"
 ALL, JOINED = "texts.lines", "joined.txt"
+# how many times the nodes it uses a roomy pool is lent with
+ROOM = 8
 NAMES = {
     "decode": "decoding",
     "clusters": "clusters",
@@ -159,13 +161,15 @@ def others(r):
 def pools(r):
     head = ["words", "nodes", "check", "read, cell by cell", "check / read", "read, wide", "check / wide", "check, instr. a node"]
     rows = []
-    for words in ("small", "all"):
-        nodes = r.loads[words]["nodes"]
+    for words, room in (("small", 1), ("all", 1), ("small-roomy", ROOM), ("all-roomy", ROOM)):
+        held = words.split("-")[0]
+        nodes = room * r.loads[held]["nodes"]
         check, read, wide = (r.time("ours", op, LONG, words) for op in ("check", "read", "read-wide"))
         per = r.count("ours", "check", LONG, words) / nodes
         took = ["%s µs" % ns(x / 1000) for x in (check, read, wide)]
         ratios = ["%.2f" % (check / read), "%.2f" % (check / wide)]
-        rows.append([r.words(words), "{:,}".format(nodes), took[0], took[1], ratios[0], took[2], ratios[1], "%.1f" % per])
+        name = r.words(held) + (", lent with %d times the nodes" % room if room > 1 else "")
+        rows.append([name, "{:,}".format(nodes), took[0], took[1], ratios[0], took[2], ratios[1], "%.1f" % per])
     return table(head, rows)
 
 
@@ -187,12 +191,12 @@ def of_case(r, case, words):
     return {row["n"]: row for row in r.growth if (row["case"], row["words"]) == (case, words)}
 
 
-def claims(r):
-    """A claim of our own ends against the plain cut that gives them, both on scalars and without the check of the pool."""
-    head = ["words", "cut, ns", "instr.", "claim, ns", "instr.", "claim / cut", "by instr."]
+def against_cut(r, op):
+    """A call on the long text against the plain cut, both on scalars and without the check of the pool."""
+    head = ["words", "cut, ns", "instr.", op + ", ns", "instr.", op + " / cut", "by instr."]
     per, rows = r.sizes[LONG]["characters"], []
     for words in ("small", "all"):
-        costs = [[of("ours", op, LONG, words) - of("ours", "check", LONG, words) for of in (r.time, r.count)] for op in ("cut", "claim")]
+        costs = [[of("ours", x, LONG, words) - of("ours", "check", LONG, words) for of in (r.time, r.count)] for x in ("cut", op)]
         shown = [ns(x / per) for cost in costs for x in cost]
         rows.append([r.words(words)] + shown + ["%.2f" % (costs[1][k] / costs[0][k]) for k in (0, 1)])
     return table(head, rows)
@@ -308,12 +312,13 @@ def limits(r):
         yield row("growth, a character at 65,535 against 4,000: " + name, 1.2, ratios, both=True)
     for words in ("all", "small"):
         ratios = [of("ours", "check", LONG, words) / of("ours", "read", LONG, words) for of in (r.time, r.count)]
-        yield row("the check of the pool against a plain read of its cells, %s words" % r.words(words), 3, ratios)
+        yield row("the check of the pool against a plain read of its cells, %s words" % r.words(words), 1, ratios)
     for words in ("all", "small"):
         ratios = [of("ours", "sheet", LONG, words) / of("ours", "safe", LONG, words) for of in (r.time, r.count)]
         yield row("the profile sheet against safe mode, one long text, %s words" % r.words(words), 1.05, ratios)
-        ratios = [(of("ours", "claim", LONG, words) - of("ours", "check", LONG, words)) / (of("ours", "cut", LONG, words) - of("ours", "check", LONG, words)) for of in (r.time, r.count)]
-        yield row("a claim of our own ends against the plain cut, the check left out, %s words" % r.words(words), 1, ratios)
+        for op, name, limit in (("claim", "a claim of our own ends", 1), ("reasons", "the cut with reasons", 1.5)):
+            ratios = [(of("ours", op, LONG, words) - of("ours", "check", LONG, words)) / (of("ours", "cut", LONG, words) - of("ours", "check", LONG, words)) for of in (r.time, r.count)]
+            yield row("%s against the plain cut, the check left out, %s words" % (name, r.words(words)), limit, ratios)
         name = "the map of a text's ends against its plain cut, the check left out, %s words" % r.words(words)
         yield row(name, 0.05, map_of_ends(r, words))
         took = a_break(r, "next", words)[0]
@@ -356,7 +361,8 @@ def sections(r):
     yield "## The three modes", modes(r)
     yield "## libthai and ICU", others(r)
     yield "## The check of the pool", ["Refusal 4 costs one check in every call that is lent a pool.", "", *pools(r)]
-    yield "## Checking a claim", [*claims(r), "", "Instructions a character, the check of the pool included:", "", *claims_grown(r)]
+    yield "## The cut with reasons", against_cut(r, "reasons")
+    yield "## Checking a claim", [*against_cut(r, "claim"), "", "Instructions a character, the check of the pool included:", "", *claims_grown(r)]
     yield "## Maps of breaks", ["Of the long text. A next break is a call from each break to the one behind it.", "", *maps(r)]
     yield "## Loading and memory", ["Ours adds the words one by one. The pool is as long as its nodes need.", "", *memory(r)]
     yield "## Growth", ["![cost a character against the text's length](cost.svg)", "", *growth(r)]

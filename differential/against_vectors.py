@@ -1,6 +1,6 @@
 """Holds the Rust against the model's lines in tests/vectors/model.txt, or against another file: differential/against_vectors.py [VECTORS]
 
-Takes the lines of clusters, prefix, dict and cut. The Rust refuses nothing, so a refused call is left out, and a
+Takes the lines of clusters, prefix, dict, cut and reasons. The Rust refuses nothing, so a refused call is left out, and a
 refused step of a dictionary script, which changes nothing, is taken out of it. It has no classes: a script that gives
 another than 0 is left out, and a cut or lookup by words with classes is compared.
 """
@@ -10,7 +10,7 @@ import sys
 
 import sides
 
-OPS = ("clusters", "prefix", "dict", "cut")
+OPS = ("clusters", "prefix", "dict", "cut", "reasons")
 MODEL = os.path.join(sides.ROOT, "tests", "vectors", "model.txt")
 
 

@@ -33,6 +33,29 @@ SHEETS = [
 ]
 
 
+# Cases of ticket 2, with the ends and reasons that 02 gives for them.
+REASONS = [
+    ("plain", [], "12,5.a", [(4, 2), (5, 4), (6, 2)]),
+    ("plain", [], "\r", [(1, 5)]),
+    ("plain", [], "\r\r\n", [(1, 4), (3, 2)]),
+    ("plain", [], "", []),
+    ("plain", ["ขค"], "กขค", [(3, 5)]),
+    ("plain", ["ขค", "ขคง"], "กขคง", [(1, 3), (4, 1)]),
+    # both stopping reasons hold at 1
+    ("plain", ["abc"], "กabc", [(1, 3), (4, 1)]),
+    ("plain", ["กา"], "็กา 12", [(1, 3), (3, 1), (4, 2), (6, 2)]),
+    ("safe", [], "a" * 140, [(100, 2), (140, 2)]),
+    # "to the end" is that of the part
+    ("safe", [], KO * 105 + " " + KO * 34, [(6, 5), (105, 4), (106, 2), (140, 5)]),
+    ("sheet", [], KO * 105 + " " + KO * 34, [(105, 4), (106, 2), (140, 5)]),
+    ("plain", ["bc"], "abc", [(3, 2)]),
+    ("plain", ["ab"], "abc", [(2, 1), (3, 2)]),
+    # one or two consonants are a word, and no place to stop at
+    ("plain", ["ข"], "ขค", [(1, 1), (2, 5)]),
+    ("plain", ["ข"], "กขค", [(3, 5)]),
+]
+
+
 def edges():
     """Texts in which about 50 edges stand at once: from one place, from two, and from every place."""
     yield [KO * 2, KO * 3], KO * 30

@@ -508,6 +508,16 @@ class LongWords:
         return lines.cut(rng.choice(["plain", "safe"]), rng.sample(held, rng.randint(1, 4)), text)
 
 
+class Reasons:
+    """The cuts of the other groups, with the reason of each token."""
+    op, weight, size = "reasons", 24, None
+    cuts = [SpacedCuts, ShortCuts, ShortNonThai, ShortClassCuts, BoundaryCuts, RandomCuts, SafeCuts, SheetBoundaries, SheetCuts, DenseCuts, LongWords]
+
+    def line(self, rng, i):
+        group = rng.choice(self.cuts)
+        return "reasons" + group().line(rng, rng.randrange(group.size) if group.size else i)[len("cut"):]
+
+
 class RealClusters:
     op, weight, size = "clusters", 5, None
 
@@ -529,7 +539,7 @@ class RealCuts:
         return lines.cut(rng.choice(["plain", "safe", "sheet"]), real.words_in(text[:3000]), text[:3000])
 
 
-MADE = [ShortClusters, LookaheadClusters, AllThaiClusters, RandomClusters, ShortScripts, RandomScripts, Prefixes, CrowdedScripts, CrowdedPrefixes, EachBlank, EditFiles, SpacedScripts, SpacedPrefixes, SpacedCuts, ShortCuts, ShortNonThai, ShortClassCuts, BoundaryCuts, RandomCuts, SafeCuts, SheetBoundaries, SheetCuts, DenseCuts, LongWords]
+MADE = [ShortClusters, LookaheadClusters, AllThaiClusters, RandomClusters, ShortScripts, RandomScripts, Prefixes, CrowdedScripts, CrowdedPrefixes, EachBlank, EditFiles, SpacedScripts, SpacedPrefixes, SpacedCuts, ShortCuts, ShortNonThai, ShortClassCuts, BoundaryCuts, RandomCuts, SafeCuts, SheetBoundaries, SheetCuts, DenseCuts, LongWords, Reasons]
 REAL = [RealClusters, RealCuts]
 
 

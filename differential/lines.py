@@ -67,5 +67,5 @@ def dict_script(steps):
     return "dict\t%d\t%s" % (8 * nodes, ";".join([step if step in "f#n" else step + cells(word) for step, word in steps]))
 
 
-def cut(mode, held, of):
-    return "cut\t%s\t%s\t%s\t*\t*" % (mode, words(held), cells(of))
+def cut(mode, held, of, op="cut"):
+    return "%s\t%s\t%s\t%s\t*\t*" % (op, mode, words(held), cells(of))

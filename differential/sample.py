@@ -1,5 +1,6 @@
 """Keeps a sample of the made cases with the Rust's answers in tests/vectors/rust.txt, and one in the profile "sheet", put
-together from the Rust's plain cuts, in tests/vectors/sheet.txt: differential/sample.py
+together from the Rust's plain cuts, in tests/vectors/sheet.txt; and one with reasons, told by the branches of the Rust, in
+tests/vectors/rust_reasons.txt: differential/sample.py
 
 The scripts in tests/ put their lines behind their own. They are the same each time. The Rust is what differential/setup has
 built. No real text and no real words are in it.
@@ -43,6 +44,7 @@ SHEETS = {
     generate.SheetBoundaries: (generate.SheetBoundaries.size, 2000),
     generate.SheetCuts: (60, 700),
 }
+REASONS = {generate.Reasons: (600, 300)}
 
 
 def sampled(kept):
@@ -70,6 +72,16 @@ def hold_parts(answered, in_sheet):
             raise SystemExit("ticket 10 was planned with other ends of %r" % text)
 
 
+def hold_reasons(answered):
+    """Stops where reasons of parts that are joined differ from the Rust's safe mode, or from those of the cases of ticket 2."""
+    line = sheet.against_safe(list(answered.items()), sides.rust)
+    if line:
+        raise SystemExit("the parts joined and the Rust's safe mode differ on %s" % line)
+    for mode, held, text, pairs in boundaries.REASONS:
+        if answered[lines.cut(mode, held, text, "reasons")].split(" ")[1] != (",".join("%d:%d" % pair for pair in pairs) or "-"):
+            raise SystemExit("02 gives other reasons for %r" % text)
+
+
 def keep(name, answered):
     with open(os.path.join(sides.ROOT, "tests", "vectors", name), "w", encoding="ascii") as out:
         out.writelines("%s\t=>\t%s\n" % pair for pair in answered)
@@ -79,10 +91,15 @@ def keep(name, answered):
 def main():
     given, in_sheet = list(sampled(KEPT)), list(dict.fromkeys(sampled(SHEETS)))
     answered, joined = list(zip(given, sides.rust(given))), list(zip(in_sheet, sides.rust(in_sheet)))
+    with_reasons = [lines.cut(mode, held, text, "reasons") for mode, held, text, _ in boundaries.REASONS]
+    with_reasons = list(dict.fromkeys(with_reasons + list(sampled(REASONS))))
+    told = list(zip(with_reasons, sides.rust(with_reasons)))
     hold_to_document(dict(answered))
+    hold_reasons(dict(told))
     hold_parts(answered, dict(joined))
     keep("rust.txt", answered)
     keep("sheet.txt", joined)
+    keep("rust_reasons.txt", told)
 
 
 main()

@@ -16,7 +16,7 @@ class Text:
     """A line's text on its way: what remains of it, its parts, and the edges of its samples."""
 
     def __init__(self, line):
-        _, mode, self.words, scalars, _, _ = line.split("\t")
+        self.op, mode, self.words, scalars, _, _ = line.split("\t")
         self.behind, self.rest, self.parts, self.edges = BEHIND[mode], lines.text(scalars), [], 0
 
     def sample(self):
@@ -34,7 +34,8 @@ class Text:
 
     def take_at_longest(self, answer):
         """The answer is that of the sample's plain cut. Of equally long tokens the last is the longest."""
-        ends, edges = read(answer)
+        told, edges = read(answer)
+        ends = [int(end) for end in told]
         starts = [0] + ends[:-1]
         longest = max(end - start for start, end in zip(starts, ends))
         self.take(BEGIN + max(start for start, end in zip(starts, ends) if end - start == longest))
@@ -42,13 +43,19 @@ class Text:
 
 
 def read(answer):
-    """The ends and the edges of an answer."""
-    _, ends, edges = answer.split(" ")
-    return [int(end) for end in ends.split(",")] if ends != "-" else [], int(edges)
+    """What an answer tells of each token, and its edges."""
+    _, told, edges = answer.split(" ")
+    return told.split(",") if told != "-" else [], int(edges)
 
 
-def plain_line(words, text):
-    return "cut\tplain\t%s\t%s\t*\t*" % (words, lines.cells(text))
+def moved(token, start):
+    """A token of a part that starts there: its end, with what is told behind it."""
+    end, mark, reason = token.partition(":")
+    return "%d%s%s" % (start + int(end), mark, reason)
+
+
+def plain_line(op, words, text):
+    return "%s\tplain\t%s\t%s\t*\t*" % (op, words, lines.cells(text))
 
 
 def parted(given, plain):
@@ -60,7 +67,7 @@ def parted(given, plain):
         spaced, bare = [text for text in long if text.spaced()], [text for text in long if not text.spaced()]
         for text in spaced:
             text.take_at_space()
-        for text, answer in zip(bare, plain([plain_line(text.words, text.sample()) for text in bare])):
+        for text, answer in zip(bare, plain([plain_line("cut", text.words, text.sample()) for text in bare])):
             text.take_at_longest(answer)
     for text in texts:
         if text.rest:
@@ -69,23 +76,23 @@ def parted(given, plain):
 
 
 def answers(given, plain):
-    """The answers to lines of cuts in parts."""
+    """The answers to lines of cuts in parts, with reasons or without."""
     texts = parted(given, plain)
-    cut = iter(plain([plain_line(text.words, part) for text in texts for part in text.parts]))
+    cut = iter(plain([plain_line(text.op, text.words, part) for text in texts for part in text.parts]))
     told = []
     for text in texts:
-        ends, edges, start = [], text.edges, 0
+        tokens, edges, start = [], text.edges, 0
         for part in text.parts:
             found, recorded = read(next(cut))
-            ends += [start + end for end in found]
+            tokens += [moved(token, start) for token in found]
             edges, start = edges + recorded, start + len(part)
-        told.append("ok %s %d" % (",".join(map(str, ends)) or "-", edges))
+        told.append("ok %s %d" % (",".join(tokens) or "-", edges))
     return told
 
 
 def against_safe(answered, plain):
     """The first line in safe mode whose answer isn't that of its parts, or None."""
-    safe = [(line, answer) for line, answer in answered if line.startswith("cut\tsafe\t")]
+    safe = [(line, answer) for line, answer in answered if line.startswith(("cut\tsafe\t", "reasons\tsafe\t"))]
     for (line, answer), joined in zip(safe, answers([line for line, _ in safe], plain)):
         if answer != joined:
             return line

@@ -72,7 +72,7 @@ def candidates(line):
         # Behind the operation and the mode stand the words and the text.
         at = 1 if fields[0] == "prefix" else 2
         words, text = held_words(fields[at]), lines.text(fields[at + 1])
-        make = lines.prefix if at == 1 else lambda held, of: lines.cut(fields[1], held, of)
+        make = lines.prefix if at == 1 else lambda held, of: lines.cut(fields[1], held, of, fields[0])
         for held in smaller(words):
             yield make(held, text)
         for other in texts(text):

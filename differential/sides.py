@@ -17,13 +17,16 @@ PROGRAMS = {
     "cut plain": ["test_cut"],
     "cut safe": ["test_cut"],
     "cut sheet": ["test_cut"],
+    "reasons plain": ["test_reasons"],
+    "reasons safe": ["test_reasons"],
+    "reasons sheet": ["test_reasons"],
 }
 
 
 def kind(line):
     """The operation of a line, and the mode of a cut."""
     fields = line.split("\t", 2)
-    return "cut " + fields[1] if fields[0] == "cut" else fields[0]
+    return " ".join(fields[:2]) if fields[0] in ("cut", "reasons") else fields[0]
 
 
 @functools.cache
@@ -46,10 +49,10 @@ def run(path, lines):
 
 def rust(lines):
     """The Rust's answers. The profile "sheet" is put together from its plain cuts."""
-    in_parts = [line for line in lines if kind(line) == "cut sheet"]
+    in_parts = [line for line in lines if kind(line).endswith(" sheet")]
     joined = iter(sheet.answers(in_parts, lambda given: run(RUST, given)))
-    own = iter(run(RUST, [line for line in lines if kind(line) != "cut sheet"]))
-    return [next(joined if kind(line) == "cut sheet" else own) for line in lines]
+    own = iter(run(RUST, [line for line in lines if not kind(line).endswith(" sheet")]))
+    return [next(joined if kind(line).endswith(" sheet") else own) for line in lines]
 
 
 def program(kind):

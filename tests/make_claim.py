@@ -217,4 +217,5 @@ def main():
     vectors.write("test_claim", lines)
 
 
-main()
+if __name__ == "__main__":
+    main()

@@ -16,6 +16,7 @@ size_t search_places(const uint32_t *pool, size_t pool_len, const uint32_t *text
 #pragma weak fetlockice_cut_sheet
 #pragma weak fetlockice_check_claim
 #pragma weak fetlockice_cut_many_plain
+#pragma weak fetlockice_reasons_plain
 #pragma weak fetlockice_break_map
 #pragma weak fetlockice_next_break
 
@@ -30,6 +31,7 @@ enum op {
     SHEET,
     BATCH,
     CUT,
+    REASONS,
     CLAIM,
     MAP,
     NEXT,
@@ -39,9 +41,9 @@ enum op {
     READ,
     READ_WIDE
 };
-static const char *const names[] = {"decode", "clusters",  "winners", "prefix", "places", "plain",
-                                    "safe",   "sheet",     "batch",   "cut",    "claim",  "map",
-                                    "next",   "next-bare", "check",   "edit",   "read",   "read-wide"};
+static const char *const names[] = {"decode",    "clusters", "winners", "prefix",  "places", "plain", "safe",
+                                    "sheet",     "batch",    "cut",     "reasons", "claim",  "map",   "next",
+                                    "next-bare", "check",    "edit",    "read",    "read-wide"};
 
 static enum op op;
 static uint32_t *pool, *out, *won, *scratch, *cells, *positions, *text_ends, *told, **scalars, **ends;
@@ -94,6 +96,14 @@ static size_t cut_scalars(size_t i, uint32_t *to) {
     accepted(fetlockice_cut_plain(scalars[i], n, pool, pool_len, to, n, scratch, FETLOCKICE_SCRATCH_CELLS(n), &count, &edges,
                                   &detail));
     return count;
+}
+
+/* The same with reasons: pairs. */
+static size_t reasons(size_t i) {
+    size_t n = lengths[i], count, edges, detail;
+    accepted(fetlockice_reasons_plain(scalars[i], n, pool, pool_len, out, 2 * n, scratch, FETLOCKICE_SCRATCH_CELLS(n), &count,
+                                      &edges, &detail));
+    return 2 * count;
 }
 
 /* The check of these ends, which are right. */
@@ -183,6 +193,7 @@ static size_t answer(size_t i) {
     case SHEET: return cut(i);
     case BATCH: return batch();
     case CUT: return cut_scalars(i, out);
+    case REASONS: return reasons(i);
     case CLAIM: return claim(i);
     case MAP: return map(i);
     case NEXT:
@@ -272,7 +283,7 @@ static void prepare(const char *path) {
     }
     scratch_len = FETLOCKICE_SCRATCH_CELLS(longest);
     cells = room(4 * all);
-    out = room(4 * (all + 255));
+    out = room(4 * (2 * all + 255));
     won = room(4 * longest);
     scratch = room(4 * scratch_len);
     text_ends = room(4 * text_count);

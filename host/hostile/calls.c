@@ -22,16 +22,22 @@ static const unsigned refusals[OPS] = {
     [CUT_PLAIN] = 1 << 2 | 1 << 3 | 1 << 4 | 1 << 5 | 1 << 6,
     [CUT_SAFE] = 1 << 2 | 1 << 3 | 1 << 4 | 1 << 5 | 1 << 6,
     [CUT_SHEET] = 1 << 2 | 1 << 3 | 1 << 4 | 1 << 5 | 1 << 6,
+    [REASONS_PLAIN] = 1 << 2 | 1 << 3 | 1 << 4 | 1 << 5 | 1 << 6,
+    [REASONS_SAFE] = 1 << 2 | 1 << 3 | 1 << 4 | 1 << 5 | 1 << 6,
+    [REASONS_SHEET] = 1 << 2 | 1 << 3 | 1 << 4 | 1 << 5 | 1 << 6,
     [CHECK_CLAIM] = 1 << 2 | 1 << 3 | 1 << 4 | 1 << 5,
 };
 
 int writes_output(enum op op) {
-    return op == DECODE || op == CLUSTERS || op == WINNERS || op == PREFIX_LENGTHS || cuts(op);
+    return op == DECODE || op == CLUSTERS || op == WINNERS || op == PREFIX_LENGTHS || cuts(op) || tells_reasons(op);
 }
 int writes_pool(enum op op) { return op == FRESH || adds(op) || op == REMOVE; }
 int adds(enum op op) { return op == ADD || op == ADD_CLASS; }
 int cuts(enum op op) { return op == CUT_PLAIN || op == CUT_SAFE || op == CUT_SHEET; }
-int uses_scratch(enum op op) { return cuts(op) || op == CHECK_CLAIM; }
+int tells_reasons(enum op op) { return op == REASONS_PLAIN || op == REASONS_SAFE || op == REASONS_SHEET; }
+int uses_scratch(enum op op) { return cuts(op) || tells_reasons(op) || op == CHECK_CLAIM; }
+enum op cut_of(enum op op) { return tells_reasons(op) ? (enum op)(op - REASONS_PLAIN + CUT_PLAIN) : op; }
+size_t cells_of(enum op op, size_t count) { return tells_reasons(op) ? 2 * count : count; }
 
 /* Edges, a token or a place beside the count. */
 static int tells_two(enum op op) { return uses_scratch(op) || op == END_IN_BYTES; }
@@ -61,8 +67,25 @@ static uint32_t add_class(const struct call *c, uint32_t *pool, const void *word
     return fetlockice_add_class(pool, c->cells, word, c->n, c->word_class, &to->count, &to->detail);
 }
 
+/* With reasons, in each mode, half of the even rows as rows of records. */
+static uint32_t told(const struct call *c, const void *text, uint32_t *pool, uint32_t *out, uint32_t *scratch,
+                     struct numbers *to) {
+    struct fetlockice_record *records = (struct fetlockice_record *)out;
+    int mode = (int)(c->op - REASONS_PLAIN);
+    if (c->room % 4 == 0)
+        return (mode == 0   ? fetlockice_records_plain
+                : mode == 1 ? fetlockice_records_safe
+                            : fetlockice_records_sheet)(text, c->n, pool, c->cells, records, c->room / 2, scratch,
+                                                        c->scratch, &to->count, &to->edges, &to->detail);
+    return (mode == 0   ? fetlockice_reasons_plain
+            : mode == 1 ? fetlockice_reasons_safe
+                        : fetlockice_reasons_sheet)(text, c->n, pool, c->cells, out, c->room, scratch, c->scratch,
+                                                    &to->count, &to->edges, &to->detail);
+}
+
 static uint32_t exported(const struct call *c, const void *text, uint32_t *pool, const uint32_t *claim, uint32_t *out,
                          uint32_t *more, uint32_t *scratch, struct numbers *to) {
+    if (tells_reasons(c->op)) return told(c, text, pool, out, scratch, to);
     switch (c->op) {
     case DECODE: return fetlockice_decode(text, c->n, out, c->room, more, c->more, &to->count, &to->detail);
     case END_IN_BYTES: return fetlockice_end_in_bytes(text, c->n, c->characters, c->end, &to->count, &to->edges);
@@ -105,8 +128,9 @@ static void check_rows(const struct call *c, const struct rows *rows, const stru
     check_kept(&rows->claim, 0, "a claim was written");
     size_t pool_kept = writes_pool(c->op) && a->number == 0 ? 32 * nodes_of(c->cells) : 0;
     check_kept(&rows->pool, pool_kept, "a pool was written that must be kept");
-    must(a->count <= c->room || !writes_output(c->op), "more was told of than the output has cells");
-    check_kept(&rows->out, writes_output(c->op) ? 4 * a->count : 0, "an output was written that must be kept");
+    size_t written = writes_output(c->op) ? cells_of(c->op, a->count) : 0;
+    must(written <= c->room, "more was told of than the output has cells");
+    check_kept(&rows->out, 4 * written, "an output was written that must be kept");
     must(second(c, a) <= c->more, "more was told of than the second output has cells");
     check_kept(&rows->more, 4 * second(c, a), "a second output was written that must be kept");
     int untouched = !uses_scratch(c->op) || (a->number >= 2 && a->number <= 5);
@@ -158,7 +182,8 @@ struct answer call_twice(const struct call *c) {
     must(a.number == b.number && a.count == b.count && a.word_class == b.word_class && a.edges == b.edges &&
              a.detail == b.detail,
          "two calls told different numbers");
-    must(!writes_output(c->op) || memcmp(a.out, b.out, 4 * a.count) == 0, "two calls wrote different outputs");
+    must(!writes_output(c->op) || memcmp(a.out, b.out, 4 * cells_of(c->op, a.count)) == 0,
+         "two calls wrote different outputs");
     must(memcmp(a.more, b.more, 4 * second(c, &a)) == 0, "two calls wrote different second outputs");
     size_t same = c->op == FRESH ? (a.number == 0 ? 32 * nodes_of(c->cells) : 0) : 4 * c->cells;
     must(memcmp(a.pool, b.pool, same) == 0, "two calls left different pools");

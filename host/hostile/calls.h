@@ -21,6 +21,9 @@ enum op {
     CUT_PLAIN,
     CUT_SAFE,
     CUT_SHEET,
+    REASONS_PLAIN,
+    REASONS_SAFE,
+    REASONS_SHEET,
     CHECK_CLAIM,
     OPS
 };
@@ -52,7 +55,14 @@ int writes_output(enum op op);
 int writes_pool(enum op op);
 int adds(enum op op);
 int cuts(enum op op);
+int tells_reasons(enum op op);
 int uses_scratch(enum op op);
+
+/* The cut in the same mode. */
+enum op cut_of(enum op op);
+
+/* How many output cells a count takes: two where reasons are told. */
+size_t cells_of(enum op op, size_t count);
 
 /* Calls twice, with different leftovers in output, scratch and numbers and at different places. Everything that must be
  * kept was, and the two answers are equal, bit by bit. */

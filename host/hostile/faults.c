@@ -33,6 +33,9 @@ uint32_t __real_fetlockice_word_count(const uint32_t *, size_t, size_t *, size_t
 uint32_t __real_fetlockice_cut_plain(CUT);
 uint32_t __real_fetlockice_cut_safe(CUT);
 uint32_t __real_fetlockice_cut_sheet(CUT);
+uint32_t __real_fetlockice_reasons_plain(CUT);
+uint32_t __real_fetlockice_reasons_safe(CUT);
+uint32_t __real_fetlockice_reasons_sheet(CUT);
 uint32_t __real_fetlockice_check_claim(CLAIM);
 uint32_t __real_fetlockice_cut_many_plain(MANY);
 uint32_t __real_fetlockice_cut_many_safe(MANY);
@@ -244,4 +247,28 @@ uint32_t __wrap_fetlockice_next_break(size_t n, const uint64_t *map, size_t map_
     uint32_t number = __real_fetlockice_next_break(n, map, map_len, position, found, at, detail);
     if (FAULT == 35 && number == 0 && (map[position / 64] >> position % 64 & 1) != 0) *found = 1, *at = position;
     return number;
+}
+
+/* 46: "to a non-Thai run" wherever the search stops at a word; 47: the last cell of an odd row is written */
+uint32_t __wrap_fetlockice_reasons_plain(CUT) {
+    uint32_t number = __real_fetlockice_reasons_plain(CUT_WITH);
+    for (size_t i = 0; FAULT == 46 && number == 0 && i < *count; i++)
+        if (out[2 * i + 1] == FETLOCKICE_TO_WORD) out[2 * i + 1] = FETLOCKICE_TO_NON_THAI;
+    if (FAULT == 47 && number == 0 && room % 2 == 1) out[room - 1] ^= 1;
+    return number;
+}
+
+/* 48: "to the end" of the text alone; 49: refusal 6 counts cells */
+uint32_t __wrap_fetlockice_reasons_safe(CUT) {
+    uint32_t number = __real_fetlockice_reasons_safe(CUT_WITH);
+    for (size_t i = 0; FAULT == 48 && number == 0 && i + 1 < *count; i++)
+        if (out[2 * i + 1] == FETLOCKICE_TO_END) out[2 * i + 1] = FETLOCKICE_TO_NON_THAI;
+    if (FAULT == 49 && number == FETLOCKICE_OUTPUT_TOO_SHORT) *detail *= 2;
+    return number;
+}
+
+/* 50: the profile "sheet" is safe mode */
+uint32_t __wrap_fetlockice_reasons_sheet(CUT) {
+    if (FAULT == 50) return __real_fetlockice_reasons_safe(CUT_WITH);
+    return __real_fetlockice_reasons_sheet(CUT_WITH);
 }

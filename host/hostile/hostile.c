@@ -7,6 +7,7 @@
 #include "maps.h"
 #include "model.h"
 #include "parts.h"
+#include "reasons.h"
 #include "rows.h"
 #include <signal.h>
 #include <stdio.h>
@@ -49,16 +50,16 @@ static struct refusal due(const struct call *c, int is_dict) {
 /* Refusal 6 is given exactly where the output, or the second one, is a cell too short. */
 static void check_fit(const struct call *c, const struct answer *a) {
     struct call fit = *c;
-    size_t needed = a->number == 6 ? a->detail : a->count;
+    size_t needed = a->number == 6 ? a->detail : a->count, cells = cells_of(c->op, needed);
     size_t room = c->op == WINNERS && c->more < c->room ? c->more : c->room;
-    must(a->number != 6 || a->detail > room, "6 where the output has the room");
-    fit.room = fit.more = needed;
+    must(a->number != 6 || cells > room, "6 where the output has the room");
+    fit.room = fit.more = cells;
     struct answer b = call_twice(&fit);
     must(b.number == 0 && b.count == needed && (a->number == 6 || b.edges == a->edges),
          "an output with just the room is refused");
-    must(a->number == 6 || memcmp(a->out, b.out, 4 * needed) == 0, "the room changes the answer");
+    must(a->number == 6 || memcmp(a->out, b.out, 4 * cells) == 0, "the room changes the answer");
     if (needed == 0) return;
-    fit.room = needed - 1;
+    fit.room = cells - 1;
     b = call_twice(&fit);
     must(b.number == 6 && b.detail == needed, "an output a cell too short is not refused");
     if (c->op != WINNERS) return;
@@ -224,6 +225,9 @@ static void check_accepted(const struct call *c, const struct answer *a) {
     case CUT_PLAIN:
     case CUT_SAFE:
     case CUT_SHEET: check_cut(c, a); break;
+    case REASONS_PLAIN:
+    case REASONS_SAFE:
+    case REASONS_SHEET: check_reasons(c, a); break;
     case CHECK_CLAIM: check_verdict(c, a); break;
     default: check_change(c, a); break;
     }
@@ -253,7 +257,7 @@ static struct call make_call(enum op op, int *is_dict) {
     else if (op != FRESH && op != WORD_COUNT)
         c.n = make_sheet(text, pool, *is_dict);
     if (op == ADD_CLASS) c.word_class = make_class();
-    if (writes_output(op)) c.room = make_room(op == PREFIX_LENGTHS ? below(4) : c.n);
+    if (writes_output(op)) c.room = make_room(op == PREFIX_LENGTHS ? below(4) : cells_of(op, c.n));
     if (op == WINNERS) c.more = make_room(c.n);
     if (uses_scratch(op)) c.scratch = below(4) == 0 ? make_room(9 * c.n + 128) : 9 * c.n + 128 + below(4);
     if (op == CHECK_CLAIM) claim_for(&c);
@@ -272,8 +276,8 @@ static void step(void) {
     if (a.number == 6 && c.op != DECODE) check_fit(&c, &a);
     if (a.number != 0) return;
     if (cuts(c.op)) memcpy(ends, a.out, 4 * a.count);
-    check_accepted(&c, &a);
     if (writes_output(c.op) && c.op != DECODE) check_fit(&c, &a);
+    check_accepted(&c, &a);
     if (cuts(c.op)) check_parts(&c, &a, ends);
 }
 

@@ -181,6 +181,14 @@ long wrong_token(const uint32_t *text, size_t n, const unsigned char *is_end, co
     return b == n ? -1 : (long)ends;
 }
 
+uint32_t reason_of(const uint32_t *text, size_t n, const unsigned char *is_end, const uint32_t *pool, size_t b,
+                   size_t e) {
+    if (words_at(text, n, is_end, pool, b, e).all > 0) return 1;
+    if (non_thai(text + b, n - b) > 0) return 2;
+    if (e == n) return 5;
+    return words_at(text, n, is_end, pool, e, 0).stopping > 0 ? 3 : 4;
+}
+
 size_t words_of(const uint32_t *pool) {
     size_t n = 0;
     for (size_t i = 1; i < pool[0]; i++) n += pool[8 * i + 3] != 0;

@@ -40,6 +40,10 @@ size_t lacking(const uint32_t *pool, const uint32_t *word, size_t n, uint32_t *m
 long wrong_token(const uint32_t *text, size_t n, const unsigned char *is_end, const uint32_t *pool,
                  const uint32_t *claim, size_t ends);
 
+/* Why the token from b to e of such a text ends there: 1 to 5. */
+uint32_t reason_of(const uint32_t *text, size_t n, const unsigned char *is_end, const uint32_t *pool, size_t b,
+                   size_t e);
+
 /* How many words a dictionary has, and the sum of their marks. */
 size_t words_of(const uint32_t *pool);
 uint64_t marks_of(const uint32_t *pool);

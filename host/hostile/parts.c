@@ -1,7 +1,7 @@
 #include "parts.h"
 #include "rows.h"
 
-enum { BEGIN = 100, END = 140, LONGEST = 3000 };
+enum { BEGIN = 100, END = 140 };
 
 /* The plain cut of n characters of the text, from start on. */
 static struct answer plain_cut(const struct call *c, size_t start, size_t n) {
@@ -23,11 +23,12 @@ static size_t longest(const struct answer *a) {
     return start;
 }
 
-/* How long the first part is of 140 characters or more, from start on. */
-static size_t first_part(const struct call *c, size_t start, size_t *edges) {
+size_t part_size(const struct call *c, size_t start, size_t *edges) {
     const uint32_t *rest = (const uint32_t *)c->text + start;
+    enum op cut = cut_of(c->op);
+    if (cut == CUT_PLAIN || c->n - start < END) return c->n - start;
     for (size_t i = END; i > BEGIN; i--)
-        if (rest[i - 1] == ' ') return c->op == CUT_SHEET ? i : i - BEGIN;
+        if (rest[i - 1] == ' ') return cut == CUT_SHEET ? i : i - BEGIN;
     struct answer sample = plain_cut(c, start + BEGIN, END - BEGIN);
     *edges += sample.edges;
     return BEGIN + longest(&sample);
@@ -37,7 +38,7 @@ void check_parts(const struct call *c, const struct answer *a, const uint32_t *e
     size_t start = 0, done = 0, edges = 0;
     if (c->op == CUT_PLAIN || c->n < END || c->n > LONGEST) return;
     while (start < c->n) {
-        size_t n = c->n - start < END ? c->n - start : first_part(c, start, &edges);
+        size_t n = part_size(c, start, &edges);
         struct answer part = plain_cut(c, start, n);
         must(part.count <= a->count - done, "fewer ends than the parts have");
         for (size_t i = 0; i < part.count; i++)

@@ -14,8 +14,8 @@
  * Lent memory. A row that a call takes as const is only read. A refused call changes no output and no pool. An
  * accepted one writes the first *count cells of the output, and *count + 1 of the positions, and keeps the rest. Scratch
  * is untouched after refusals 2 to 5, and all zero after refusal 6 and after an accepted call, every lent cell of it; on
- * entry it may hold anything. What a cut of many texts writes stands at its declaration. Nothing is kept from one call
- * to the next, nothing is allocated and nothing is freed.
+ * entry it may hold anything. What a cut with reasons and one of many texts write stands at their declarations. Nothing
+ * is kept from one call to the next, nothing is allocated and nothing is freed.
  *
  * THE CALLER'S DUTIES. Everything else about the contents is the library's to answer.
  *
@@ -56,7 +56,7 @@ extern "C" {
 #define FETLOCKICE_MAX_NODES 1048576
 
 /* The bytes of stack that a call takes at most. Measured on x86-64, over hostile and deepest inputs: fetlockice_remove
- * 32,840, as it goes down a word of 255 scalars by recursion; fetlockice_winners 3,648, fetlockice_decode 1,464, the
+ * 32,840, as it goes down a word of 255 scalars by recursion; fetlockice_winners 3,648, fetlockice_decode 1,496, the
  * others under 1,100. */
 #define FETLOCKICE_MAX_STACK 98304
 
@@ -77,7 +77,8 @@ enum fetlockice_answer {
     FETLOCKICE_NOT_A_SCALAR = 3,      /* a cell isn't a Unicode scalar value; the index of the first */
     FETLOCKICE_NOT_A_DICTIONARY = 4,  /* the pool isn't a dictionary; 0 */
     FETLOCKICE_SCRATCH_TOO_SHORT = 5, /* scratch has fewer than 9n+128 cells; 9n+128 */
-    FETLOCKICE_OUTPUT_TOO_SHORT = 6,  /* the output has fewer cells than the answer; the cells needed */
+    FETLOCKICE_OUTPUT_TOO_SHORT = 6,  /* the output has fewer cells than the answer; the cells needed (with reasons:
+                                         room for fewer tokens; how many there are) */
     FETLOCKICE_WORD_TOO_LONG = 7,     /* the word is over 255 scalars after trimming; its trimmed length */
     FETLOCKICE_TOO_FEW_NODES = 8,     /* the pool has too few free nodes; the nodes missing */
     FETLOCKICE_WRONG_POSITION = 10,   /* a position is wrong; it, or its index where it is one of a list */
@@ -161,6 +162,66 @@ uint32_t fetlockice_cut_safe(const uint32_t *text, size_t text_len, const uint32
 uint32_t fetlockice_cut_sheet(const uint32_t *text, size_t text_len, const uint32_t *pool, size_t pool_len,
                               uint32_t *out, size_t out_len, uint32_t *scratch, size_t scratch_len, size_t *count,
                               size_t *edges, size_t *detail);
+
+/* Why a token ends where it does. */
+enum fetlockice_reason {
+    FETLOCKICE_WORD = 1,        /* a word of the dictionary */
+    FETLOCKICE_NON_THAI = 2,    /* a run of letters, digits or blanks, or a line's end, where no word starts */
+    FETLOCKICE_TO_WORD = 3,     /* neither starts there: skipped to a word */
+    FETLOCKICE_TO_NON_THAI = 4, /* the same, skipped to such a run, where no word starts that is a place to stop at */
+    FETLOCKICE_TO_END = 5       /* the same, skipped to the end of the text, or of its part */
+};
+
+/* A token: where it ends, in characters, and why, one of enum fetlockice_reason. */
+struct fetlockice_record {
+    uint32_t end;
+    uint32_t reason;
+};
+typedef char fetlockice_record_is_a_pair[sizeof(struct fetlockice_record) == 2 * sizeof(uint32_t) ? 1 : -1];
+
+/* Cuts the text plainly, as fetlockice_cut_plain does, and tells the reason of each token. Writes two cells for each
+ * token: its end, and its reason by the rule at its start. *count: how many tokens; *edges: the edges recorded. A row
+ * of pairs_len cells has room for half as many tokens; an odd last cell is kept. The first 2 * *count cells are written,
+ * the others kept. The ends, the edges and the refusals are those of the cut, but refusal 6 counts tokens, not cells.
+ * Refusals 2, 3, 4, 5, 6. */
+uint32_t fetlockice_reasons_plain(const uint32_t *text, size_t text_len, const uint32_t *pool, size_t pool_len,
+                                  uint32_t *pairs, size_t pairs_len, uint32_t *scratch, size_t scratch_len,
+                                  size_t *count, size_t *edges, size_t *detail);
+
+/* The same in safe mode. A reason is about the part: "to the end" means the end of the part. */
+uint32_t fetlockice_reasons_safe(const uint32_t *text, size_t text_len, const uint32_t *pool, size_t pool_len,
+                                 uint32_t *pairs, size_t pairs_len, uint32_t *scratch, size_t scratch_len,
+                                 size_t *count, size_t *edges, size_t *detail);
+
+/* The same by the profile "sheet". */
+uint32_t fetlockice_reasons_sheet(const uint32_t *text, size_t text_len, const uint32_t *pool, size_t pool_len,
+                                  uint32_t *pairs, size_t pairs_len, uint32_t *scratch, size_t scratch_len,
+                                  size_t *count, size_t *edges, size_t *detail);
+
+/* The same with a row of records. A record is two cells without padding, so a row of records is a row of pairs. */
+static inline uint32_t fetlockice_records_plain(const uint32_t *text, size_t text_len, const uint32_t *pool,
+                                                size_t pool_len, struct fetlockice_record *records,
+                                                size_t records_len, uint32_t *scratch, size_t scratch_len,
+                                                size_t *count, size_t *edges, size_t *detail) {
+    return fetlockice_reasons_plain(text, text_len, pool, pool_len, (uint32_t *)records, 2 * records_len, scratch,
+                                    scratch_len, count, edges, detail);
+}
+
+static inline uint32_t fetlockice_records_safe(const uint32_t *text, size_t text_len, const uint32_t *pool,
+                                               size_t pool_len, struct fetlockice_record *records,
+                                               size_t records_len, uint32_t *scratch, size_t scratch_len,
+                                               size_t *count, size_t *edges, size_t *detail) {
+    return fetlockice_reasons_safe(text, text_len, pool, pool_len, (uint32_t *)records, 2 * records_len, scratch,
+                                   scratch_len, count, edges, detail);
+}
+
+static inline uint32_t fetlockice_records_sheet(const uint32_t *text, size_t text_len, const uint32_t *pool,
+                                                size_t pool_len, struct fetlockice_record *records,
+                                                size_t records_len, uint32_t *scratch, size_t scratch_len,
+                                                size_t *count, size_t *edges, size_t *detail) {
+    return fetlockice_reasons_sheet(text, text_len, pool, pool_len, (uint32_t *)records, 2 * records_len, scratch,
+                                    scratch_len, count, edges, detail);
+}
 
 /* Checks ends that another program gives for the plain cut of the text, by the words of the pool. The claim is right
  * exactly if its ends rise strictly to the length, and each token either is a word of the pool that ends at a cluster

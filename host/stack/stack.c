@@ -16,7 +16,7 @@ static ucontext_t here, there;
 static void (*call)(void);
 
 static uint8_t bytes[4 * LONG];
-static uint32_t pool[CELLS], text[LONG + 1], word[1024], out[LONG + 1], positions[LONG + 1], won[LONG + 1],
+static uint32_t pool[CELLS], text[LONG + 1], word[1024], out[2 * LONG + 2], positions[LONG + 1], won[LONG + 1],
     claim[LONG + 1];
 static uint32_t scratch[FETLOCKICE_SCRATCH_CELLS(LONG)];
 static uint32_t text_ends[TEXTS], answers[FETLOCKICE_ANSWER_CELLS * TEXTS];
@@ -48,6 +48,19 @@ static void sheet(void) {
     fetlockice_cut_sheet(text, text_len, pool, pool_len, out, out_len, scratch, scratch_len, &count, &edges, &detail);
 }
 
+static void reasons_plain(void) {
+    fetlockice_reasons_plain(text, text_len, pool, pool_len, out, 2 * out_len, scratch, scratch_len, &count, &edges,
+                             &detail);
+}
+static void reasons_safe(void) {
+    fetlockice_reasons_safe(text, text_len, pool, pool_len, out, 2 * out_len, scratch, scratch_len, &count, &edges,
+                            &detail);
+}
+static void reasons_sheet(void) {
+    fetlockice_reasons_sheet(text, text_len, pool, pool_len, out, 2 * out_len, scratch, scratch_len, &count, &edges,
+                             &detail);
+}
+
 static void judge(void) {
     fetlockice_check_claim(text, text_len, pool, pool_len, claim, claim_len, scratch, scratch_len, &count, &edges,
                            &detail);
@@ -70,14 +83,16 @@ static void breaks(void) { fetlockice_break_map(text_len, claim, claim_len, map,
 static void up_to(void) { fetlockice_breaks_up_to(text_len, map, map_len, position, &count, &detail); }
 static void next(void) { fetlockice_next_break(text_len, map, map_len, position, &count, &edges, &detail); }
 
-static void (*const calls[])(void) = {decode,     end_in_bytes, clusters,   winners, fresh, add,  add_class, drop,
-                                      contains,   class_of,     lengths,    words,   plain, safe, sheet,     judge,
-                                      many_plain, many_safe,    many_sheet, breaks,  up_to, next};
+static void (*const calls[])(void) = {
+    decode,   end_in_bytes, clusters,  winners,    fresh,  add,   add_class,     drop,         contains,
+    class_of, lengths,      words,     plain,      safe,   sheet, reasons_plain, reasons_safe, reasons_sheet,
+    judge,    many_plain,   many_safe, many_sheet, breaks, up_to, next};
 static const char *const names[] = {
-    "decode",         "end_in_bytes", "clusters",     "winners",        "fresh",          "add",
-    "add_class",      "remove",       "contains",     "contains_class", "prefix_lengths", "word_count",
-    "cut_plain",      "cut_safe",     "cut_sheet",    "check_claim",    "cut_many_plain", "cut_many_safe",
-    "cut_many_sheet", "break_map",    "breaks_up_to", "next_break"};
+    "decode",      "end_in_bytes",   "clusters",      "winners",        "fresh",          "add",
+    "add_class",   "remove",         "contains",      "contains_class", "prefix_lengths", "word_count",
+    "cut_plain",   "cut_safe",       "cut_sheet",     "reasons_plain",  "reasons_safe",   "reasons_sheet",
+    "check_claim", "cut_many_plain", "cut_many_safe", "cut_many_sheet", "break_map",      "breaks_up_to",
+    "next_break"};
 enum {
     DECODE,
     END_IN_BYTES,
@@ -94,6 +109,9 @@ enum {
     CUT_PLAIN,
     CUT_SAFE,
     CUT_SHEET,
+    REASONS_PLAIN,
+    REASONS_SAFE,
+    REASONS_SHEET,
     CHECK_CLAIM,
     CUT_MANY_PLAIN,
     CUT_MANY_SAFE,
@@ -197,7 +215,9 @@ static void on_texts(size_t len) {
         out_len = room ? len : draw((uint32_t)len + 1);
         scratch_len = room < 2 ? FETLOCKICE_SCRATCH_CELLS(len < LONG ? len : LONG) : draw(9 * (uint32_t)len + 128);
         if (scratch_len > FETLOCKICE_SCRATCH_CELLS(LONG)) scratch_len = FETLOCKICE_SCRATCH_CELLS(LONG);
-        make(CLUSTERS), make(WINNERS), make(PREFIX_LENGTHS), make(CUT_SAFE), make(CUT_SHEET), make(CUT_PLAIN);
+        make(CLUSTERS), make(WINNERS), make(PREFIX_LENGTHS);
+        make(REASONS_SAFE), make(REASONS_SHEET), make(REASONS_PLAIN);
+        make(CUT_SAFE), make(CUT_SHEET), make(CUT_PLAIN);
         claims();
         part(len);
         make(CUT_MANY_PLAIN), make(CUT_MANY_SAFE), make(CUT_MANY_SHEET);

@@ -4,6 +4,7 @@ mod claims;
 mod cuts;
 mod many;
 mod maps;
+mod reasons;
 mod texts;
 mod words;
 
@@ -17,6 +18,9 @@ pub use many::fetlockice_cut_many_sheet;
 pub use maps::fetlockice_break_map;
 pub use maps::fetlockice_breaks_up_to;
 pub use maps::fetlockice_next_break;
+pub use reasons::fetlockice_reasons_plain;
+pub use reasons::fetlockice_reasons_safe;
+pub use reasons::fetlockice_reasons_sheet;
 pub use texts::fetlockice_clusters;
 pub use texts::fetlockice_decode;
 pub use texts::fetlockice_end_in_bytes;

@@ -28,7 +28,7 @@ use Rattle.newmm_answers.proofs.Checks.{at-most, known, room}
 use Rattle.newmm_answers.proofs.Cuts.{few-ends}
 use Rattle.newmm_answers.specs.declared.CutAnswer.{CutAnswer}
 use Rattle.newmm_answers.specs.declared.CutAnswer.the-variants as variants
-use Rattle.newmm_answers.specs.Answers.{cutOf, scratchFor, outCauses, firstCauses, accepts, told, cutAnswer, outAfter, cleared}
+use Rattle.newmm_answers.specs.Answers.{cutOf, scratchFor, outCauses, firstCauses, accepts, told, cutAnswer, outAfter, cleared, scratchAfter}
 use Rattle.newmm_answers.specs.Calls.{Call, call, answerOf, outOf, scratchOf, Cuts}
 use Rattle.newmm_segment.specs.inner.Written.{Ready, Written}
 use Rattle.newmm_segment.proofs.Samples.{front, behind, fits}
@@ -54,7 +54,7 @@ pub record Lent (text pool row : List ℕ) (cells n : ℕ) : Type 0 where
   pub blank : row ≡ replicate {A = ℕ} cells 0
 
 module _ {text pool row : List ℕ} {cells n : ℕ} (p : Lent text pool row cells n) where
-  words : held (meaning pool) ≡ holds (take (8 * n) pool)
+  pub words : held (meaning pool) ≡ holds (take (8 * n) pool)
   words = held-part pool n (p .nodes) (known (p .passes))
 
   room-is : scratchFor (length text) ≤ cells
@@ -70,33 +70,46 @@ module _ {text pool row : List ℕ} {cells n : ℕ} (p : Lent text pool row cell
         blank = zeros-blank cells;
       })
 
--- the ends stand at the front of scratch
-pub record Ended (mode : Mode) (text pool row : List ℕ) (cells : ℕ) (r : Ends) : Type 0 where
+-- what a call makes of a text: as many cells as there are ends, and as many edges
+pub record Like (made : Mode → Words → List ℕ → Cut) : Type 0 where
+  pub many : (mode : Mode) (words : Words) (text : List ℕ) → length (made mode words text .ends) ≡ length (cutOf mode words text .ends)
+  pub edges : (mode : Mode) (words : Words) (text : List ℕ) → made mode words text .edges ≡ cutOf mode words text .edges
+
+pub the-cut : Like cutOf
+the-cut = record { many = λ mode words text. refl; edges = λ mode words text. refl }
+
+-- it stands at the front of scratch
+pub record Ended (made : Mode → Words → List ℕ → Cut) (mode : Mode) (text pool row : List ℕ) (cells : ℕ) (r : Ends) : Type 0 where
+  pub like : Like made
   pub blank-row : List ℕ
   pub n : ℕ
   pub lent : Lent text pool blank-row cells n
-  pub written : Written (cutOf mode (holds (take (8 * n) pool)) text) blank-row row r
+  pub written : Written (made mode (holds (take (8 * n) pool)) text) blank-row row r
 
-module _ {mode : Mode} {text pool row : List ℕ} {cells : ℕ} {r : Ends} (z : Ended mode text pool row cells r) where
+module _ {made : Mode → Words → List ℕ → Cut} {mode : Mode} {text pool row : List ℕ} {cells : ℕ} {r : Ends} (z : Ended made mode text pool row cells r) where
   abbrev whole : Cut
-  whole = cutOf mode (held (meaning pool)) text
+  whole = made mode (held (meaning pool)) text
 
-  v : Written whole (replicate {A = ℕ} cells 0) row r
+  pub v : Written whole (replicate {A = ℕ} cells 0) row r
   v =
-      subst (λ (c : Cut). Written c (replicate {A = ℕ} cells 0) row r) (ap (λ (f : Words). cutOf mode f text) (sym (words (z .lent))))
-      (subst (λ (l : List ℕ). Written (cutOf mode (holds (take (8 * z .n) pool)) text) l row r) (z .lent .blank) (z .written))
+      subst (λ (c : Cut). Written c (replicate {A = ℕ} cells 0) row r) (ap (λ (f : Words). made mode f text) (sym (words (z .lent))))
+      (subst (λ (l : List ℕ). Written (made mode (holds (take (8 * z .n) pool)) text) l row r) (z .lent .blank) (z .written))
+
+  -- as many as the cut has ends
+  ends-are : r .ends ≡ length (cutOf mode (held (meaning pool)) text .ends)
+  ends-are = v .ends ∙ z .like .many mode (held (meaning pool)) text
 
   inside : r .ends ≤ cells
-  inside = omega (arith, v .ends, few-ends mode (held (meaning pool)) text, room-is (z .lent))
+  inside = omega (arith, ends-are, few-ends mode (held (meaning pool)) text, room-is (z .lent))
 
   pub ends-fit : r .ends ≤ length row
-  ends-fit = fits v (omega (arith, few-ends mode (held (meaning pool)) text, room-is (z .lent), length-replicate {A = ℕ} cells 0))
+  ends-fit = fits v (omega (arith, v .ends, inside, length-replicate {A = ℕ} cells 0))
 
   pub ends-lent : length (take (r .ends) row) ≡ r .ends
   ends-lent = length-take-le (r .ends) row ends-fit
 
   -- the ends are cleared again
-  all-zero : {row′ : List ℕ} → row′ ≡ replicate {A = ℕ} (r .ends) 0 ++ drop (r .ends) row → row′ ≡ replicate {A = ℕ} cells 0
+  pub all-zero : {row′ : List ℕ} → row′ ≡ replicate {A = ℕ} (r .ends) 0 ++ drop (r .ends) row → row′ ≡ replicate {A = ℕ} cells 0
   all-zero e =
       let d : cells ≡ r .ends + (cells - r .ends) = omega (arith, inside) in
       let y : drop (length (whole .ends)) (replicate {A = ℕ} cells 0) ≡ replicate {A = ℕ} (cells - r .ends) 0 =
@@ -108,37 +121,50 @@ module _ {mode : Mode} {text pool row : List ℕ} {cells : ℕ} {r : Ends} (z : 
       e ∙ ap (λ (x : List ℕ). replicate {A = ℕ} (r .ends) 0 ++ x) (behind v ∙ y)
       ∙ replicate-append-replicate {A = ℕ} (r .ends) (cells - r .ends) 0 ∙ ap (λ (k : ℕ). replicate {A = ℕ} k 0) (sym d)
 
-  late : (room : ℕ) → accepts mode text (meaning pool) cells room ≡ answer (outCauses (whole .ends) room) (length (whole .ends))
-  late room = accepted-first (firstCauses text (meaning pool) cells) (outCauses (whole .ends) room) 0 (length (whole .ends)) (z .lent .passes .accepted)
+  late : (room : ℕ) → accepts mode text (meaning pool) cells room ≡ answer (outCauses (cutOf mode (held (meaning pool)) text .ends) room) (length (cutOf mode (held (meaning pool)) text .ends))
+  late room =
+      accepted-first (firstCauses text (meaning pool) cells) (outCauses (cutOf mode (held (meaning pool)) text .ends) room) 0 (length (cutOf mode (held (meaning pool)) text .ends)) (z .lent .passes .accepted)
 
-  accepts-no : (room : ℕ) → room < r .ends → accepts mode text (meaning pool) cells room ≡ Refused (OutputTooShort (r .ends))
-  accepts-no room h =
-      late room
-      ∙ ap (λ (b : Bool). cond b (Refused (OutputTooShort (length (whole .ends)))) (Accepted (length (whole .ends)))) (lt-ltb room (length (whole .ends)) (omega (arith, v .ends)))
-      ∙ ap (λ (k : ℕ). Refused (OutputTooShort k)) (sym (v .ends))
+  tested : (room : ℕ) {b : Bool} → ltb room (r .ends) ≡ b → accepts mode text (meaning pool) cells room ≡ cond b (Refused (OutputTooShort (r .ends))) (Accepted (r .ends))
+  tested room e =
+      late room ∙ ap (λ (n : ℕ). cond (ltb room n) (Refused (OutputTooShort n)) (Accepted n)) (sym ends-are)
+      ∙ ap (λ (b : Bool). cond b (Refused (OutputTooShort (r .ends))) (Accepted (r .ends))) e
 
-  accepts-yes : (room : ℕ) → r .ends ≤ room → accepts mode text (meaning pool) cells room ≡ Accepted (r .ends)
-  accepts-yes room h =
-      late room
-      ∙ ap (λ (b : Bool). cond b (Refused (OutputTooShort (length (whole .ends)))) (Accepted (length (whole .ends)))) (le-ltb room (length (whole .ends)) (omega (arith, v .ends)))
-      ∙ ap Accepted (sym (v .ends))
+  pub accepts-no : (room : ℕ) → room < r .ends → accepts mode text (meaning pool) cells room ≡ Refused (OutputTooShort (r .ends))
+  accepts-no room h = tested room (lt-ltb room (r .ends) h)
+
+  pub accepts-yes : (room : ℕ) → r .ends ≤ room → accepts mode text (meaning pool) cells room ≡ Accepted (r .ends)
+  accepts-yes room h = tested room (le-ltb room (r .ends) h)
+
+  -- what is answered with room enough, and without
+  pub answers-yes : (room : ℕ) → r .ends ≤ room → variants.Ends (r .ends) (r .edges) ≡ cutAnswer mode text (meaning pool) cells room
+  answers-yes room h =
+      ap (variants.Ends (r .ends)) (v .edges ∙ z .like .edges mode (held (meaning pool)) text)
+      ∙ sym (ap (λ (a : Answer). told a (cutOf mode (held (meaning pool)) text .edges)) (accepts-yes room h))
+
+  pub answers-no : (room : ℕ) → room < r .ends → variants.Refused (OutputTooShort (r .ends)) ≡ cutAnswer mode text (meaning pool) cells room
+  answers-no room h = sym (ap (λ (a : Answer). told a (cutOf mode (held (meaning pool)) text .edges)) (accepts-no room h))
+
+-- scratch of a call that passes
+pub scratch-zero : {text pool : List ℕ} (scratch : List ℕ) → Passes text pool (length scratch) → scratchAfter text (meaning pool) scratch ≡ replicate {A = ℕ} (length scratch) 0
+scratch-zero scratch p = ap (λ (x : Answer). cleared x scratch) (p .accepted)
 
 -- refusal 6, and an accepted call: what is answered and left
-module _ {mode : Mode} {text pool row : List ℕ} (scratch out : List ℕ) {r : Ends} (z : Ended mode text pool row (length scratch) r) where
+module _ {mode : Mode} {text pool row : List ℕ} (scratch out : List ℕ) {r : Ends} (z : Ended cutOf mode text pool row (length scratch) r) where
   zeroed : {row′ : List ℕ} → row′ ≡ replicate {A = ℕ} (r .ends) 0 ++ drop (r .ends) row → row′ ≡ scratchOf (call text pool out scratch mode)
-  zeroed e = all-zero z e ∙ sym (ap (λ (x : Answer). cleared x scratch) (z .lent .passes .accepted))
+  zeroed e = all-zero z e ∙ sym (scratch-zero scratch (z .lent .passes))
 
   pub short-cuts : {row′ : List ℕ} → length out < r .ends → row′ ≡ replicate {A = ℕ} (r .ends) 0 ++ drop (r .ends) row
       → Cuts (call text pool out scratch mode) (variants.Refused (OutputTooShort (r .ends))) out row′
   short-cuts h e = (
-    sym (ap (λ (a : Answer). told a (whole z .edges)) (accepts-no z (length out) h)),
+    answers-no z (length out) h,
     (sym (ap (λ (a : Answer). output a (whole z .ends) out) (accepts-no z (length out) h)), zeroed e),
   )
 
   pub done-cuts : {out′ row′ : List ℕ} → r .ends ≤ length out → out′ ≡ take (r .ends) (take (r .ends) row) ++ drop (r .ends) out
       → row′ ≡ replicate {A = ℕ} (r .ends) 0 ++ drop (r .ends) row → Cuts (call text pool out scratch mode) (variants.Ends (r .ends) (r .edges)) out′ row′
   done-cuts h f e = (
-    ap (variants.Ends (r .ends)) (v z .edges) ∙ sym (ap (λ (a : Answer). told a (whole z .edges)) (accepts-yes z (length out) h)),
+    answers-yes z (length out) h,
     (
       f ∙ ap (λ (x : List ℕ). take (r .ends) x ++ drop (r .ends) out) (front (v z))
           ∙ ap (λ (x : List ℕ). x ++ drop (r .ends) out) (ap (λ (k : ℕ). take k (whole z .ends)) (v z .ends) ∙ take-length (whole z .ends))
@@ -174,15 +200,22 @@ module _ (scratch : List ℕ) {text pool row : List ℕ} (p : Passes text pool (
 -- ---- the whole call
 
 module _ (mode : Mode) (text pool scratch : List ℕ) {a : Answer} (is : a ≡ answer (firstCauses text (meaning pool) (length scratch)) (length text)) where
+  module _ {r : Refusal} (no′ : a ≡ Refused r) where
+    refused : (m : ℕ) → answer (firstCauses text (meaning pool) (length scratch)) m ≡ Refused r
+    refused m = sym (still (firstCauses text (meaning pool) (length scratch)) (length text) m (sym is ∙ no′))
+
+    -- whatever the room
+    pub refused-all : (room : ℕ) → accepts mode text (meaning pool) (length scratch) room ≡ Refused r
+    refused-all room = refused-first (firstCauses text (meaning pool) (length scratch)) (outCauses (cutOf mode (held (meaning pool)) text .ends) room) 0 _ (refused 0)
+
+    pub refused-told : (room : ℕ) → variants.Refused r ≡ cutAnswer mode text (meaning pool) (length scratch) room
+    refused-told room = sym (ap (λ (x : Answer). told x (cutOf mode (held (meaning pool)) text .edges)) (refused-all room))
+
+    pub scratch-kept : scratch ≡ scratchAfter text (meaning pool) scratch
+    scratch-kept = sym (ap (λ (x : Answer). cleared x scratch) (refused 0))
+
   pub early-cuts : (out : List ℕ) {r : Refusal} → a ≡ Refused r → Cuts (call text pool out scratch mode) (variants.Refused r) out scratch
-  early-cuts out {r} no′ =
-      let refused : (m : ℕ) → answer (firstCauses text (meaning pool) (length scratch)) m ≡ Refused r =
-      λ m. sym (still (firstCauses text (meaning pool) (length scratch)) (length text) m (sym is ∙ no′)) in
-      let all : accepts mode text (meaning pool) (length scratch) (length out) ≡ Refused r =
-      refused-first (firstCauses text (meaning pool) (length scratch)) (outCauses (cutOf mode (held (meaning pool)) text .ends) (length out)) 0 _ (refused 0) in (
-        sym (ap (λ (x : Answer). told x (cutOf mode (held (meaning pool)) text .edges)) all),
-        (
-          sym (ap (λ (x : Answer). output x (cutOf mode (held (meaning pool)) text .ends) out) all),
-          sym (ap (λ (x : Answer). cleared x scratch) (refused 0)),
-        ),
-      )
+  early-cuts out no′ = (
+    refused-told no′ (length out),
+    (sym (ap (λ (x : Answer). output x (cutOf mode (held (meaning pool)) text .ends) out) (refused-all no′ (length out))), scratch-kept no′),
+  )

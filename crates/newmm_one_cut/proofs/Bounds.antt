@@ -17,7 +17,8 @@ use Rattle.tcc.specs.Flags.{endFlags}
 use Rattle.tcc.proofs.Marks.{ends-long}
 use Rattle.newmm_word_step.specs.inner.Walks.{givenBy}
 use Rattle.newmm_edges.specs.declared.Progress.{Progress}
-use Rattle.newmm_one_cut.specs.inner.Strips.{Fresh, Done}
+use Rattle.newmm_one_cut.specs.declared.Ends.{Ends}
+use Rattle.newmm_one_cut.specs.inner.Strips.{Fresh, Marked, Done}
 use Rattle.newmm_one_cut.proofs.Rounds.{Round, b-inside, ends-few, committed-low}
 
 first-marks : (row : List ℕ) (m x : ℕ) → getD row (5 * m) 0 ≡ 1 → ((x ≡ 0 → ⊥) → getD row (5 * m + x) 0 ≡ 0) → member x (0 ∷ []) ≡ not (eqb (getD row (5 * m + x) 0) 0)
@@ -55,22 +56,35 @@ module _ {text pool row : List ℕ} {m b committed ends : ℕ} {p : Progress} (r
   unfolding cut
   edges-final = ap (λ (x : State). x .count) final
 
-  pub ends-fit : ends ≤ length row
-  ends-fit = omega (arith, ends-few r, committed-low r, b-inside r, r .size-is, r .exact)
-
-  pub done : (row₀ row′ : List ℕ) → Fresh text pool row₀ → length row ≡ length row₀ → row′ ≡ take ends row ++ replicate (length row - ends) 0
-      → Done (givenBy text pool) row₀ row′ (record { ends = ends; edges = p .total })
-  done row₀ row′ f sz e =
-      let n : ends ≡ length (cut (givenBy text pool) .ends) = r .ends-is ∙ ap length (sym ends-final) in
-      let d : drop ends row₀ ≡ replicate (length row - ends) 0 =
-      zeros-are (drop ends row₀) (λ k. getD-drop ends row₀ k 0 ∙ f .blank (ends + k)) ∙ ap (λ (i : ℕ). replicate {A = ℕ} i 0) (length-drop ends row₀ ∙ ap (λ (i : ℕ). i - ends) (sym sz))
-      in
+  pub marked : Marked (givenBy text pool) text row (record { ends = ends; edges = p .total })
+  marked =
       record {
-        ends = n;
+        ends = r .ends-is ∙ ap length (sym ends-final);
         edges = r .total-is ∙ sym edges-final;
-        is = e ∙ ap (λ (l : List ℕ). l ++ replicate {A = ℕ} (length row - ends) 0) (r .ends-are ∙ sym ends-final) ∙ ap (λ (l : List ℕ). cut (givenBy text pool) .ends ++ l) (sym d)
-            ∙ ap (λ (i : ℕ). cut (givenBy text pool) .ends ++ drop i row₀) n;
+        size = r .exact ∙ ap (λ (k : ℕ). 8 * k + 50) (r .size-is);
+        few = omega (arith, ends-few r, committed-low r, b-inside r, r .size-is);
+        front = r .ends-are ∙ sym ends-final;
+        flags-are = ap (λ (k : ℕ). take (7 * k - 6 * k) (drop (6 * k) row)) (sym (r .size-is)) ∙ r .flags-are;
       }
+
+-- all but the front of a row is cleared, as it was before
+pub cleared-behind : {text pool row₀ row′ : List ℕ} (row front : List ℕ) (k : ℕ) → Fresh text pool row₀ → length row ≡ length row₀ → k ≡ length front → take k row ≡ front
+    → row′ ≡ take k row ++ replicate {A = ℕ} (length row - k) 0 → row′ ≡ front ++ drop (length front) row₀
+cleared-behind {row₀ = row₀} row front k f sz n is e =
+    let d : drop k row₀ ≡ replicate {A = ℕ} (length row - k) 0 =
+    zeros-are (drop k row₀) (λ j. getD-drop k row₀ j 0 ∙ f .blank (k + j)) ∙ ap (λ (i : ℕ). replicate {A = ℕ} i 0) (length-drop k row₀ ∙ ap (λ (i : ℕ). i - k) (sym sz))
+    in
+    e ∙ ap (λ (l : List ℕ). l ++ replicate {A = ℕ} (length row - k) 0) is ∙ ap (λ (l : List ℕ). front ++ l) (sym d) ∙ ap (λ (i : ℕ). front ++ drop i row₀) n
+
+module _ {text pool row₀ row : List ℕ} {r : Ends} (f : Fresh text pool row₀) (d : Marked (givenBy text pool) text row r) where
+  pub same-size : length row ≡ length row₀
+  same-size = d .size ∙ sym (f .size)
+
+  pub ends-fit : r .ends ≤ length row
+  ends-fit = omega (arith, d .few, d .size)
+
+  pub done : {row′ : List ℕ} → row′ ≡ take (r .ends) row ++ replicate {A = ℕ} (length row - r .ends) 0 → Done (givenBy text pool) row₀ row′ r
+  done e = record { ends = d .ends; edges = d .edges; is = cleared-behind row (cut (givenBy text pool) .ends) (r .ends) f same-size (d .ends) (d .front) e }
 
 -- ---- at the start
 

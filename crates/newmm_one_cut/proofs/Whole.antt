@@ -34,14 +34,12 @@ module _ {text pool row : List ℕ} (l : Lent text pool row) where
         blank = λ k. elim (decLt k e) [ yes h ↦ getD-take e row k 0 h ∙ l .blank k h | no n ↦ List·getD-eq-default (take e row) 0 {n = k} (omega (arith, part-size)) ];
       }
 
+  -- what stands in front of the part as it was stands in front of the row as it was
+  pub in-front : {row′ : List ℕ} (front : List ℕ) → length front ≤ length text → row′ ≡ front ++ drop (length front) (take e row) → row′ ++ drop e row ≡ front ++ drop (length front) row
+  in-front front m is =
+      ap (λ (x : List ℕ). x ++ drop e row) is ∙ append-assoc front (drop (length front) (take e row)) (drop e row)
+      ∙ ap (λ (x : List ℕ). front ++ x)
+      (sym (drop-append-le (length front) (take e row) (drop e row) (omega (arith, part-size))) ∙ ap (drop (length front)) (take-append-drop e row))
+
   pub whole : {row′ : List ℕ} {r : Ends} → Done (givenBy text pool) (take e row) row′ r → Done (givenBy text pool) row (row′ ++ drop e row) r
-  whole {row′} d =
-      let k = length (cut (givenBy text pool) .ends) in
-      let m = ends-most (givenBy text pool) in
-      record {
-        ends = d .ends;
-        edges = d .edges;
-        is = ap (λ (x : List ℕ). x ++ drop e row) (d .is) ∙ append-assoc (cut (givenBy text pool) .ends) (drop k (take e row)) (drop e row)
-            ∙ ap (λ (x : List ℕ). cut (givenBy text pool) .ends ++ x)
-            (sym (drop-append-le k (take e row) (drop e row) (omega (arith, part-size))) ∙ ap (drop k) (take-append-drop e row));
-      }
+  whole d = record { ends = d .ends; edges = d .edges; is = in-front (cut (givenBy text pool) .ends) (ends-most (givenBy text pool)) (d .is) }

@@ -17,7 +17,7 @@ ghost use lib.ListN.{set};
 ghost use Rattle.newmm_rules.specs.NonDictionary.{tokenEnd};
 ghost use Rattle.newmm_bfs.specs.inner.Strips.{Sized, candidateCell};
 ghost use Rattle.newmm_word_step.specs.inner.Walks.{givenBy};
-ghost use Rattle.newmm_one_cut.specs.inner.Strips.{NextIs, TokenAt, Fresh, Lent, Done};
+ghost use Rattle.newmm_one_cut.specs.inner.Strips.{NextIs, TokenAt, Fresh, Lent, Marked, Done};
 
 // The number of ends, and the number of edges recorded in the whole call.
 pub struct Ends {
@@ -55,10 +55,11 @@ fn put_token(text: &[u32], pool: &[u32], row: &mut [u32], m: usize, b: usize, en
     e
 }
 
-// The cut, in a row of just the cells that it takes.
-fn cut_strips(text: &[u32], pool: &[u32], row: &mut [u32]) -> Ends
+// The cut, in a row of just the cells that it takes: its ends stand at the front then, and the flags
+// of the cluster ends in their strip. The other cells may hold anything.
+pub fn cut_marked(text: &[u32], pool: &[u32], row: &mut [u32]) -> Ends
     requires { ⌜ Fresh (now text) (now pool) (now row) ⌝ }
-    ensures { λ r. ⌜ Done (givenBy (now (text .entry)) (now (pool .entry))) (now (row .entry)) (now (row .exit)) r ⌝ }
+    ensures { λ r. ⌜ Marked (givenBy (now (text .entry)) (now (pool .entry))) (now (text .entry)) (now (row .exit)) r ⌝ }
 {
     let n = text.len();
     let m = n + 1;
@@ -107,11 +108,20 @@ fn cut_strips(text: &[u32], pool: &[u32], row: &mut [u32]) -> Ends
             total,
         };
     }
-    clear_from(row, ends);
     Ends {
         ends,
         edges: p.total,
     }
+}
+
+// The same, and all but the ends is cleared.
+fn cut_strips(text: &[u32], pool: &[u32], row: &mut [u32]) -> Ends
+    requires { ⌜ Fresh (now text) (now pool) (now row) ⌝ }
+    ensures { λ r. ⌜ Done (givenBy (now (text .entry)) (now (pool .entry))) (now (row .entry)) (now (row .exit)) r ⌝ }
+{
+    let r = cut_marked(text, pool, row);
+    clear_from(row, r.ends);
+    r
 }
 
 // The plain cut of a text: its ends stand at the front of the row then, and the rest of it is as it

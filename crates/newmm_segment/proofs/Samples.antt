@@ -23,7 +23,7 @@ use Rattle.newmm_rules.proofs.Samples.{Fits, Right, sample-long, cut-inside}
 use Rattle.newmm_answers.specs.Answers.{plainCut}
 use Rattle.newmm_segment.specs.declared.Part.{Part}
 use Rattle.newmm_segment.specs.declared.PartEnd.{PartEnd}
-use Rattle.newmm_segment.specs.inner.Written.{Rising, Ready, Written, shiftedCut, Sampled, firstOf, FirstPart}
+use Rattle.newmm_segment.specs.inner.Written.{Rising, Ready, Written, shiftedCut, Sampled, firstOf, FirstTold, shiftedEnds}
 
 -- a text that is no longer finds all that it asks
 pub lent : {text pool row : List ℕ} → Ready text pool row → (part : List ℕ) → length part ≤ length text → Lent part pool row
@@ -117,6 +117,10 @@ module _ {rest pool row : List ℕ} (ready : Ready rest pool row) (long : 140 �
 
 -- ---- the first part
 
+-- the ends of a part are as many, shifted
+pub ends-many : (plain : Cutter) (start : ℕ) (part : List ℕ) → length (shiftedEnds plain start part) ≡ length (plain part .ends)
+ends-many plain start part = map-long (λ (e : ℕ). start + e) (plain part .ends)
+
 pub by-fits : (by : ℕ) → 1 ≤ by → by ≤ 101 → Fits (λ (i : ℕ). i + by)
 by-fits by h l = record { some = λ i k. omega arith; inside = λ i k. omega arith }
 
@@ -138,14 +142,15 @@ module _ {rest pool row : List ℕ} (ready : Ready rest pool row) (long : 140 �
   pub part-size : length (take size rest) ≡ size
   part-size = length-take-le size rest (omega (arith, part-inside .1))
 
-  pub first-is : {r : Ends} {row₁ row′ : List ℕ} (start : ℕ) → row₁ ≡ row → Written (shiftedCut start (plainCut (holds pool) (take size rest))) row₁ row′ r
-      → FirstPart (λ (i : ℕ). i + by) (plainCut (holds pool)) rest start row row′ (record { size = size; ends = r .ends; edges = p .edges + r .edges })
-  first-is {r} {row₁} {row′} start same w =
+  -- a part that is written as `told` says, as many cells as it has ends
+  pub first-told : (told : ℕ → List ℕ → List ℕ) → ((start : ℕ) (part : List ℕ) → length (told start part) ≡ length (plainCut (holds pool) part .ends))
+      → {r : Ends} {row₁ row′ : List ℕ} (start : ℕ) → row₁ ≡ row → Written (record { ends = told start (take size rest); edges = plainCut (holds pool) (take size rest) .edges }) row₁ row′ r
+      → FirstTold (λ (i : ℕ). i + by) (plainCut (holds pool)) told rest start row row′ (record { size = size; ends = r .ends; edges = p .edges + r .edges })
+  first-told told as-many {r} {row₁} {row′} start same w =
       let t : take size rest ≡ firstOf (λ (i : ℕ). i + by) (plainCut (holds pool)) rest = ap (λ (k : ℕ). take k rest) (s .at) in
-      let l = map-long (λ (e : ℕ). start + e) (plainCut (holds pool) (take size rest) .ends) in
       record {
         size = s .at;
-        ends = w .ends ∙ l ∙ ap (λ (q : List ℕ). length (plainCut (holds pool) q .ends)) t;
+        ends = w .ends ∙ as-many start (take size rest) ∙ ap (λ (q : List ℕ). length (plainCut (holds pool) q .ends)) t;
         edges = (λ i. s .edges i + (w .edges ∙ ap (λ (q : List ℕ). plainCut (holds pool) q .edges) t) i);
-        is = w .is ∙ (λ i. shifted start (plainCut (holds pool) (t i) .ends) ++ drop (sym (w .ends) i) (same i));
+        is = w .is ∙ (λ i. told start (t i) ++ drop (sym (w .ends) i) (same i));
       }

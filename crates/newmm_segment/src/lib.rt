@@ -21,10 +21,10 @@ ghost use Rattle.newmm_segment.specs.inner.Written.{Rising, Ready, Writt
 
 // Safe mode cuts right behind the index of the last space in the sample, which isn't shifted by the
 // sample's begin.
-const UNSHIFTED: usize = 1;
+pub const UNSHIFTED: usize = 1;
 
 // The profile "sheet" cuts right behind that space itself.
-const BEHIND_SPACE: usize = 101;
+pub const BEHIND_SPACE: usize = 101;
 
 // Where a part ends, `at` behind `from`, and the edges that were recorded to find that.
 pub struct PartEnd {
@@ -69,7 +69,7 @@ fn longest_start(row: &mut [u32], count: usize) -> usize
 // `space_cut` behind the index of the last one in the sample. That is 1 where the index isn't
 // shifted by the sample's begin, and 101 where it is: more could lie behind the text's end.
 // The row comes back as it was.
-fn cut_at(rest: &[u32], pool: &[u32], row: &mut [u32], space_cut: usize) -> PartEnd
+pub fn cut_at(rest: &[u32], pool: &[u32], row: &mut [u32], space_cut: usize) -> PartEnd
     requires { ⌜ Ready (now rest) (now pool) (now row) × (textScanEnd ≤ length (now rest)) ⌝ }
     ensures { λ r. ⌜ Sampled (λ (i : ℕ). i + «space_cut») (plainCut (holds (now (pool .entry))))
         (now (rest .entry)) r ⌝ }

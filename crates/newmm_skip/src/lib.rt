@@ -13,7 +13,7 @@ ghost use Rattle.newmm_word_step.specs.inner.Walks.{givenBy};
 ghost use Rattle.newmm_word_step.specs.inner.Places.{Place};
 
 // Whether the word is one or two consonants.
-fn is_short(word: &[u32]) -> bool
+pub fn is_short(word: &[u32]) -> bool
     ensures { λ r. ⌜ r ≡ isShort (now (word .entry)) ⌝ }
 {
     if 2 < word.len() {

@@ -1,12 +1,10 @@
 // The line program: adds and removes words, and cuts texts by them, a reply for each line of
 // standard input. A read or a write that fails stops it at once, and a line on standard error tells
 // which and why.
-mod io_calls;
-
-use io_calls::Got;
-use io_calls::read_some;
-use io_calls::write_whole;
 use sheet_bytes::front;
+use sheet_io::Got;
+use sheet_io::read_some;
+use sheet_io::write_whole;
 use sheet_steps::LINE;
 use sheet_steps::POOL;
 use sheet_steps::POSITIONS;
@@ -67,7 +65,7 @@ fn end_run(
     out: &mut [u8; REPLY],
 ) {
     let n = last(line, kept, pool, scalars, positions, ends, scratch, out);
-    write_whole(front(out, n));
+    write_whole(front(out, n), b"sheet_lines: writing standard output");
 }
 
 // A proved loop has to end, and nothing says that the input does: it has more turns than any run
@@ -85,7 +83,7 @@ fn read_all(
     let mut kept = 0;
     let mut turns = u64::MAX;
     while turns > 0 {
-        let got = read_some(&mut buffer);
+        let got = read_some(&mut buffer, b"sheet_lines: reading standard input");
         let Got::Bytes(n) = got else {
             return Line::Failed;
         };
@@ -138,7 +136,10 @@ fn feed_all(
             scratch,
             out,
         );
-        if !write_whole(front(out, fed.written)) {
+        if !write_whole(
+            front(out, fed.written),
+            b"sheet_lines: writing standard output",
+        ) {
             return Line::Failed;
         }
         n = fed.kept;

@@ -18,7 +18,7 @@ ghost use Rattle.sheet_replies.specs.Replies.{reported as reportedOf, en
 ghost use Rattle.sheet_replies.specs.Replies.{RowsAfter};
 
 // The most bytes that a line may have, without its line feed.
-const MAX_LINE: usize = 1024;
+pub const MAX_LINE: usize = 1024;
 
 // What a line asks.
 pub enum Asked {
@@ -30,7 +30,7 @@ pub enum Asked {
 }
 
 // `+` adds, `-` removes, `=` cuts plainly, `~` safely.
-fn asks(line: &[u8]) -> Asked
+pub fn asks(line: &[u8]) -> Asked
     ensures { λ r. ⌜ r ≡ askedOf (now (line .entry)) ⌝ }
 {
     if line.len() == 0 {
@@ -64,7 +64,7 @@ fn reported(answer: Answer) -> Reply
     }
 }
 
-fn ended(answer: CutAnswer) -> Reply
+pub fn ended(answer: CutAnswer) -> Reply
     ensures { λ r. ⌜ r ≡ endedBy answer ⌝ }
 {
     match answer {

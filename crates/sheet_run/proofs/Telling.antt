@@ -134,7 +134,7 @@ any-number (suc most) n = go (ltb n 10) (any-number most (n / 10))
     go true h = omega arith
     go false h = omega (arith, length-append (decimalIn most (n / 10)) ((48 + n % 10) ∷ []))
 
-four : (e : ℕ) → e ≤ 1023 → length (decimal e) ≤ 4
+pub four : (e : ℕ) → e ≤ 1023 → length (decimal e) ≤ 4
 four e h = let z : 10 ^ 4 ≡ 10000 = refl in short-number 20 3 e (omega arith)
 
 other-ends : {a z : ℕ} (es : List ℕ) → Climbs a es z → z ≤ 1023 → length (behindOther es) ≤ 5 * length es
@@ -152,7 +152,7 @@ ends-size (e ∷ es) (up l r) h =
 number-size : (n : ℕ) → length (decimal n ++ (10 ∷ [])) ≤ 5115
 number-size n = omega (arith, length-append (decimal n) (10 ∷ []), any-number 20 n)
 
-refusal-size : (r : Refusal) (ends : List ℕ) → length (lineOf (Refused r) ends) ≤ 5115
+pub refusal-size : (r : Refusal) (ends : List ℕ) → length (lineOf (Refused r) ends) ≤ 5115
 refusal-size r ends =
     let a = decimal (numberOf r) in
     let b = decimal (detailOf r) in
@@ -166,7 +166,7 @@ refusal-size r ends =
       length-append (33 ∷ 32 ∷ []) a,
     )
 
-report-size : (a : Answer) → length (lineOf (reported a) []) ≤ 5115
+pub report-size : (a : Answer) → length (lineOf (reported a) []) ≤ 5115
 report-size (answers.Accepted n) = number-size n
 report-size (answers.Refused r) = refusal-size r []
 
@@ -188,10 +188,10 @@ text-size text short words (Cut mode) = go (runAll text .whole) refl
 
 -- ---- lines of any length
 
-line-fits : (line : List ℕ) → length line ≤ 1024 → length (textOf line) ≤ 1023
+pub line-fits : (line : List ℕ) → length line ≤ 1024 → length (textOf line) ≤ 1023
 line-fits line h = omega (arith, length-drop 1 line)
 
-long : (line : List ℕ) → 1024 < length line → asked line ≡ Nothing
+pub long : (line : List ℕ) → 1024 < length line → asked line ≡ Nothing
 long line h = sym (asked-long line (λ e. omega arith) h)
 
 -- With a pool of 2,048 nodes that holds the words, 1,023 cells for scalars and for ends, and 9,335

@@ -27,15 +27,15 @@ holds-none row = record { size = refl-size; is = refl-row }
     refl-row = sym (ap (λ (l : List ℕ). laid l row) nothing)
 
 -- what is behind a text in a row is behind it once it is longer
-behind : (a row : List ℕ) (k : ℕ) → length a ≤ k → drop k (a ++ drop (length a) row) ≡ drop k row
+pub behind : (a row : List ℕ) (k : ℕ) → length a ≤ k → drop k (a ++ drop (length a) row) ≡ drop k row
 behind a row k h =
     let e : k ≡ length a + (k - length a) = omega arith in
     ap (λ (i : ℕ). drop i (a ++ drop (length a) row)) e ∙ drop-append-add a (drop (length a) row) (k - length a) ∙ drop-drop (k - length a) (length a) row ∙ ap (λ (i : ℕ). drop i row) (sym e)
 
-length-laid : (a row : List ℕ) → length a ≤ length row → length (laid a row) ≡ length row
+pub length-laid : (a row : List ℕ) → length a ≤ length row → length (laid a row) ≡ length row
 length-laid a row h = omega (arith, length-append a (drop (length a) row), length-drop (length a) row)
 
-cut-twice : (n : ℕ) (a b : List ℕ) → take n (take n a ++ b) ≡ take n (a ++ b)
+pub cut-twice : (n : ℕ) (a b : List ℕ) → take n (take n a ++ b) ≡ take n (a ++ b)
 cut-twice n a b =
     elim (decLt n (length a)) [
       | yes l ↦ take-at (take n a) b n (length-take-le n a (omega arith)) ∙ sym (take-append-le n a b (omega arith))

@@ -19,7 +19,8 @@ pub enum Reply {
     Refused(Refusal),
 }
 
-fn keep_number(out: &mut [u8], used: usize, n: usize) -> usize
+// Adds a number in decimal, as `keep` adds bytes.
+pub fn keep_number(out: &mut [u8], used: usize, n: usize) -> usize
     ensures { λ r. ⌜ r ≡ length (kept (now (out .entry)) used (decimal n)) ⌝ }
     ensures { λ _. ⌜ now (out .exit) ≡ laid (kept (now (out .entry)) used (decimal n)) (now (out .entry)) ⌝ }
 {

@@ -1,4 +1,4 @@
--- Demand 3 holds. Assumes nothing.
+-- Demand 3 holds, by one proof for all cutting calls. Assumes nothing.
 use Prim.Native.Nat.{ℕ, _+_, _*_, _≤_}
 use native.Mathlib.Omega.{arith}
 use mathlib.Core.Path.{_≡_, refl, sym, _∙_, ap, subst}
@@ -23,19 +23,23 @@ use Rattle.newmm_answers.specs.declared.CutAnswer.the-variants.{Ends}
 use Rattle.newmm_answers.specs.Answers.{cutOf, cutCauses, accepts, told, cutAnswer, outAfter}
 use Rattle.newmm_answers.specs.Calls.{Call, answerOf, outOf}
 use Rattle.newmm_answers.proofs.Told.{told-ends, accepted-is}
-use Rattle.theorems_demands.specs.Demand3.{Demand3Any, Demand3}
+use Rattle.theorems_demands.specs.Demand3.{Operation, Demand3AnyFor, Demand3For, cutting, Demand3Any, Demand3}
 use Rattle.theorems_demands.proofs.Reaching.{means}
 
 pub all-pass : (rs : List Cause) (n : ℕ) → None rs → answer rs n ≡ Accepted n
 all-pass [] n t = refl
 all-pass (r ∷ rs) n t = ap (λ (b : Bool). cond b (Refused (r .refusal)) (answer rs n)) (t .0) ∙ all-pass rs n (t .1)
 
+-- the ends of an accepted call stand at the front of its output
+front-of : (mode : Mode) (text : List ℕ) (pool : Option Words) (n cells : ℕ) (out : List ℕ) → accepts mode text pool cells (length out) ≡ Accepted n
+    → take n (outAfter mode text pool cells out) ≡ cutOf mode (held pool) text .ends
+front-of mode text pool n cells out h =
+    ap (λ (r : Answer). take n (output r (cutOf mode (held pool) text .ends) out)) h
+    ∙ take-at (cutOf mode (held pool) text .ends) (drop (length (cutOf mode (held pool) text .ends)) out) n (accepted-is (cutCauses mode text pool cells (length out)) _ n h)
+
 module _ (mode : Mode) (text : List ℕ) (words : Words) (n : ℕ) where
-  -- the ends of an accepted call stand at the front of its output
   pub front-is : (cells : ℕ) (out : List ℕ) → accepts mode text (some words) cells (length out) ≡ Accepted n → take n (outAfter mode text (some words) cells out) ≡ cutOf mode words text .ends
-  front-is cells out h =
-      ap (λ (r : Answer). take n (output r (cutOf mode words text .ends) out)) h
-      ∙ take-at (cutOf mode words text .ends) (drop (length (cutOf mode words text .ends)) out) n (accepted-is (cutCauses mode text (some words) cells (length out)) _ n h)
+  front-is cells out h = front-of mode text (some words) n cells out h
 
   -- with scratch and room enough, one accepted call makes the other accepted
   other-accepted : (cells cells′ room room′ : ℕ) → accepts mode text (some words) cells room ≡ Accepted n → 9 * length text + 128 ≤ cells′ → n ≤ room′
@@ -47,24 +51,57 @@ module _ (mode : Mode) (text : List ℕ) (words : Words) (n : ℕ) where
       (r .0, (r .1 .0, (refl, (le-ltb cells′ (9 * length text + 128) s, (le-ltb room′ (length (cutOf mode words text .ends)) (omega arith), tt)))))
       ∙ ap Accepted e
 
+-- what a cutting call has that demand 3 stands on: its answer is that of a cut with room for so many
+-- ends, and an accepted call writes what the mode, the words and the text make
+pub record Cuts (o : Operation) : Type 0 where
+  pub room : o .Asked → ℕ
+  pub made : Mode → Words → List ℕ → List (o .Cell)
+  pub enough : (c : o .Asked) (n : ℕ) → o .cells n ≤ length (o .out c) → n ≤ room c
+  pub answered : (c : o .Asked) → o .answer c ≡ cutAnswer (o .mode c) (o .text c) (meaning (o .pool c)) (length (o .scratch c)) (room c)
+  pub wrote : (c : o .Asked) (n : ℕ) → accepts (o .mode c) (o .text c) (meaning (o .pool c)) (length (o .scratch c)) (room c) ≡ Accepted n
+      → take (o .cells n) (o .after c) ≡ made (o .mode c) (held (meaning (o .pool c))) (o .text c)
+
 -- any two pools that pass and hold the same words
-pub demand-3-any : Demand3Any
-demand-3-any a b v w pa pb same text mode n edges h s o =
-    let ma : meaning (a .pool) ≡ some w = pa ∙ (λ i. some (λ (x : List ℕ). same x i)) in
-    let mb : meaning (b .pool) ≡ some w = pb in
-    let ha : cutAnswer (b .mode) (b .text) (some w) (length (a .scratch)) (length (a .out)) ≡ Ends n edges =
-    sym (λ i. cutAnswer (mode i) (text i) (ma i) (length (a .scratch)) (length (a .out))) ∙ h in
-    let t = told-ends (accepts (b .mode) (b .text) (some w) (length (a .scratch)) (length (a .out))) (cutOf (b .mode) w (b .text) .edges) n edges ha in
-    let q = other-accepted (b .mode) (b .text) w n (length (a .scratch)) (length (b .scratch)) (length (a .out)) (length (b .out)) (t .0) s o in (
-      ap (λ (m : Option Words). cutAnswer (b .mode) (b .text) m (length (b .scratch)) (length (b .out))) mb
-          ∙ ap (λ (x : Answer). told x (cutOf (b .mode) w (b .text) .edges)) q
-          ∙ ap (λ (k : ℕ). Ends n k) (t .1),
-      ap (λ (m : Option Words). take n (outAfter (b .mode) (b .text) m (length (b .scratch)) (b .out))) mb
-          ∙ front-is (b .mode) (b .text) w n (length (b .scratch)) (b .out) q
-          ∙ sym (front-is (b .mode) (b .text) w n (length (a .scratch)) (a .out) (t .0))
-          ∙ sym (λ i. take n (outAfter (mode i) (text i) (ma i) (length (a .scratch)) (a .out))),
+pub demand-3-any-for : (o : Operation) → Cuts o → Demand3AnyFor o
+demand-3-any-for o k a b v w pa pb same text mode n edges h s r =
+    let ma : meaning (o .pool a) ≡ some w = pa ∙ (λ i. some (λ (x : List ℕ). same x i)) in
+    let ha : cutAnswer (o .mode b) (o .text b) (some w) (length (o .scratch a)) (k .room a) ≡ Ends n edges =
+    sym (λ i. cutAnswer (mode i) (text i) (ma i) (length (o .scratch a)) (k .room a)) ∙ sym (k .answered a) ∙ h in
+    let t = told-ends (accepts (o .mode b) (o .text b) (some w) (length (o .scratch a)) (k .room a)) (cutOf (o .mode b) w (o .text b) .edges) n edges ha in
+    let q = other-accepted (o .mode b) (o .text b) w n (length (o .scratch a)) (length (o .scratch b)) (k .room a) (k .room b) (t .0) s (k .enough b n r) in
+    let accepted-a : accepts (o .mode a) (o .text a) (meaning (o .pool a)) (length (o .scratch a)) (k .room a) ≡ Accepted n =
+    (λ i. accepts (mode i) (text i) (ma i) (length (o .scratch a)) (k .room a)) ∙ t .0 in
+    let accepted-b : accepts (o .mode b) (o .text b) (meaning (o .pool b)) (length (o .scratch b)) (k .room b) ≡ Accepted n =
+    ap (λ (m : Option Words). accepts (o .mode b) (o .text b) m (length (o .scratch b)) (k .room b)) pb ∙ q in (
+      k .answered b
+          ∙ ap (λ (m : Option Words). cutAnswer (o .mode b) (o .text b) m (length (o .scratch b)) (k .room b)) pb
+          ∙ ap (λ (x : Answer). told x (cutOf (o .mode b) w (o .text b) .edges)) q
+          ∙ ap (λ (j : ℕ). Ends n j) (t .1),
+      k .wrote b n accepted-b
+          ∙ ap (λ (m : Option Words). k .made (o .mode b) (held m) (o .text b)) pb
+          ∙ sym (λ i. k .made (mode i) (held (ma i)) (text i))
+          ∙ sym (k .wrote a n accepted-a),
     )
 
 -- two pools that were reached from fresh ones, with whatever classes
+pub demand-3-for : (o : Operation) → Cuts o → Demand3For o
+demand-3-for o k a b v w ra rb =
+    demand-3-any-for o k a b (wordsIn v) (wordsIn w) (means-of (o .pool a) v (means ra)) (means-of (o .pool b) w (means rb))
+
+-- ---- the cut
+
+the-cut : Cuts cutting
+the-cut =
+    record {
+      room = λ c. length (c .out);
+      made = λ mode words text. cutOf mode words text .ends;
+      enough = λ c n h. h;
+      answered = λ c. refl;
+      wrote = λ c n h. front-of (c .mode) (c .text) (meaning (c .pool)) n (length (c .scratch)) (c .out) h;
+    }
+
+pub demand-3-any : Demand3Any
+demand-3-any = demand-3-any-for cutting the-cut
+
 pub demand-3 : Demand3
-demand-3 a b v w ra rb = demand-3-any a b (wordsIn v) (wordsIn w) (means-of (a .pool) v (means ra)) (means-of (b .pool) w (means rb))
+demand-3 = demand-3-for cutting the-cut

@@ -17,3 +17,4 @@ pub mod ManyTexts
 pub mod ManyAlone
 pub mod Maps
 pub mod InBytes
+pub mod Reasons

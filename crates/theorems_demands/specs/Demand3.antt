@@ -1,6 +1,7 @@
 -- DEMAND 3: the same text, mode and words give the same ends and the same edge count, however the
 -- pools came about and whatever scratch held. Everything that the statement stands on is named
--- here; the last two definitions are the statement, for any pools and for reached ones.
+-- here; `Demand3AnyFor` and `Demand3For` are the statement for every cutting call, for any pools and
+-- for reached ones; the last two are the statement for the cut.
 use Prim.Native.Nat.{ℕ, _≤_}
 use mathlib.Core.Path.{_≡_}
 use mathlib.Core.List.{List}
@@ -12,6 +13,8 @@ use Rattle.char_string_trim.specs.Trimming.{trimmedOf}
 use Rattle.trie_pool.specs.Meaning.{Words, Terms, wordsIn, meaning, noTerm, withTerm, withoutTerm}
 use Rattle.trie_char_answers.specs.Answers.{freshAnswer, addAnswer, added, removeAnswer, removed}
 use Rattle.trie_char_answers.specs.Changes.{After}
+use Rattle.newmm_rules.specs.declared.Mode.{Mode}
+use Rattle.newmm_answers.specs.declared.CutAnswer.{CutAnswer}
 use Rattle.newmm_answers.specs.declared.CutAnswer.the-variants.{Ends}
 use Rattle.newmm_answers.specs.Answers.{scratchFor}
 use Rattle.newmm_answers.specs.Calls.{Call, answerOf, outOf}
@@ -41,34 +44,73 @@ pub data Reached : List ℕ → Terms → Type 0 where
       → Taken (Accepted n) word old new
       → Reached new (withoutTerm (trimmedOf word) held)
 
+-- A cutting call, said once for all of them: what it is given, each row as it was lent; what it
+-- answers; and what its output then holds. An answer of n takes so many cells of the output.
+pub record Operation : Type 1 where
+  pub Asked : Type 0
+  pub Cell : Type 0
+  pub mode : Asked → Mode
+  pub text : Asked → List ℕ
+  pub pool : Asked → List ℕ
+  pub scratch : Asked → List ℕ
+  pub out : Asked → List Cell
+  pub answer : Asked → CutAnswer
+  pub after : Asked → List Cell
+  pub cells : ℕ → ℕ
+
 -- Two calls with the same text and mode. If one answers, and the other has 9n+128 cells of scratch
--- and room for those ends, then the other answers too, with the same number of ends, the same edge
--- count and the same ends.
-abbrev pub SameAnswer : Call → Call → Type 0
-SameAnswer a b =
-    a .text ≡ b .text
-    → a .mode ≡ b .mode
+-- and room for that answer, then the other answers too, with the same number, the same edge count and
+-- the same cells.
+abbrev pub SameAnswerFor : (o : Operation) → o .Asked → o .Asked → Type 0
+SameAnswerFor o a b =
+    o .text a ≡ o .text b
+    → o .mode a ≡ o .mode b
     → (n edges : ℕ)
-    → answerOf a ≡ Ends n edges
-    → scratchFor (length (b .text)) ≤ length (b .scratch)
-    → n ≤ length (b .out)
-    → (answerOf b ≡ Ends n edges) × (take n (outOf b) ≡ take n (outOf a))
+    → o .answer a ≡ Ends n edges
+    → scratchFor (length (o .text b)) ≤ length (o .scratch b)
+    → o .cells n ≤ length (o .out b)
+    → (o .answer b ≡ Ends n edges) × (take (o .cells n) (o .after b) ≡ take (o .cells n) (o .after a))
 
 -- Any two pools that pass and hold the same words, however they came about: copied, lent with more
 -- nodes, or kept from another day.
-abbrev pub Demand3Any : Type 0
-Demand3Any =
-    (a b : Call) (v w : Words)
-    → meaning (a .pool) ≡ some v
-    → meaning (b .pool) ≡ some w
+abbrev pub Demand3AnyFor : Operation → Type 0
+Demand3AnyFor o =
+    (a b : o .Asked) (v w : Words)
+    → meaning (o .pool a) ≡ some v
+    → meaning (o .pool b) ≡ some w
     → ((x : List ℕ) → v x ≡ w x)
-    → SameAnswer a b
+    → SameAnswerFor o a b
 
 -- Two pools that were reached from fresh ones and hold the same words, with whatever classes.
-abbrev pub Demand3 : Type 0
-Demand3 =
-    (a b : Call) (v w : Terms)
-    → Reached (a .pool) v
-    → Reached (b .pool) w
+abbrev pub Demand3For : Operation → Type 0
+Demand3For o =
+    (a b : o .Asked) (v w : Terms)
+    → Reached (o .pool a) v
+    → Reached (o .pool b) w
     → ((x : List ℕ) → wordsIn v x ≡ wordsIn w x)
-    → SameAnswer a b
+    → SameAnswerFor o a b
+
+-- The cut: an answer of n ends takes n cells.
+abbrev pub cutting : Operation
+cutting =
+    record {
+      Asked = Call;
+      Cell = ℕ;
+      mode = λ c. c .mode;
+      text = λ c. c .text;
+      pool = λ c. c .pool;
+      scratch = λ c. c .scratch;
+      out = λ c. c .out;
+      answer = answerOf;
+      after = outOf;
+      cells = λ n. n;
+    }
+
+abbrev pub SameAnswer : Call → Call → Type 0
+SameAnswer a b = SameAnswerFor cutting a b
+
+abbrev pub Demand3Any : Type 0
+Demand3Any = Demand3AnyFor cutting
+
+abbrev pub Demand3 : Type 0
+Demand3 = Demand3For cutting

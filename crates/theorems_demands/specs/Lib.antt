@@ -11,3 +11,4 @@ pub mod Claims
 pub mod ManyTexts
 pub mod Maps
 pub mod InBytes
+pub mod Reasons

@@ -32,6 +32,12 @@ use Rattle.fetlockice.proofs.fetlockice_cut_safe.Kinds as cut-safe-kinds
 use Rattle.fetlockice.proofs.fetlockice_cut_safe.Reads as cut-safe-contract
 use Rattle.fetlockice.proofs.fetlockice_cut_sheet.Kinds as cut-sheet-kinds
 use Rattle.fetlockice.proofs.fetlockice_cut_sheet.Reads as cut-sheet-contract
+use Rattle.fetlockice.proofs.fetlockice_reasons_plain.Kinds as reasons-plain-kinds
+use Rattle.fetlockice.proofs.fetlockice_reasons_plain.Reads as reasons-plain-contract
+use Rattle.fetlockice.proofs.fetlockice_reasons_safe.Kinds as reasons-safe-kinds
+use Rattle.fetlockice.proofs.fetlockice_reasons_safe.Reads as reasons-safe-contract
+use Rattle.fetlockice.proofs.fetlockice_reasons_sheet.Kinds as reasons-sheet-kinds
+use Rattle.fetlockice.proofs.fetlockice_reasons_sheet.Reads as reasons-sheet-contract
 use Rattle.fetlockice.proofs.fetlockice_check_claim.Kinds as check-claim-kinds
 use Rattle.fetlockice.proofs.fetlockice_check_claim.Reads as check-claim-contract
 use Rattle.fetlockice.proofs.fetlockice_cut_many_plain.Kinds as many-plain-kinds
@@ -132,6 +138,21 @@ pub cut-sheet-one :
     OneAnswer {A = Told × List ℕ × List ℕ} 7 cut-sheet-kinds.ps cut-sheet-kinds.r cut-sheet-contract.Post
     (λ κs number s. let out = s .1 .1 .0 .now in let scratch = s .1 .1 .1 .0 .now in let count = s .1 .1 .1 .1 .0 .now in let edges = s .1 .1 .1 .1 .1 .0 .now in let detail = s .1 .1 .1 .1 .1 .1 .0 .now in (toldCut number count edges detail, out, scratch))
 cut-sheet-one κs a x y s t p q = answer-and-two-rows (p .0) (p .1 .0) (p .1 .1) (q .0) (q .1 .0) (q .1 .1)
+
+pub reasons-plain-one :
+    OneAnswer {A = Told × List ℕ × List ℕ} 7 reasons-plain-kinds.ps reasons-plain-kinds.r reasons-plain-contract.Post
+    (λ κs number s. let pairs = s .1 .1 .0 .now in let scratch = s .1 .1 .1 .0 .now in let count = s .1 .1 .1 .1 .0 .now in let edges = s .1 .1 .1 .1 .1 .0 .now in let detail = s .1 .1 .1 .1 .1 .1 .0 .now in (toldCut number count edges detail, pairs, scratch))
+reasons-plain-one κs a x y s t p q = answer-and-two-rows (p .0) (p .1 .0) (p .1 .1) (q .0) (q .1 .0) (q .1 .1)
+
+pub reasons-safe-one :
+    OneAnswer {A = Told × List ℕ × List ℕ} 7 reasons-safe-kinds.ps reasons-safe-kinds.r reasons-safe-contract.Post
+    (λ κs number s. let pairs = s .1 .1 .0 .now in let scratch = s .1 .1 .1 .0 .now in let count = s .1 .1 .1 .1 .0 .now in let edges = s .1 .1 .1 .1 .1 .0 .now in let detail = s .1 .1 .1 .1 .1 .1 .0 .now in (toldCut number count edges detail, pairs, scratch))
+reasons-safe-one κs a x y s t p q = answer-and-two-rows (p .0) (p .1 .0) (p .1 .1) (q .0) (q .1 .0) (q .1 .1)
+
+pub reasons-sheet-one :
+    OneAnswer {A = Told × List ℕ × List ℕ} 7 reasons-sheet-kinds.ps reasons-sheet-kinds.r reasons-sheet-contract.Post
+    (λ κs number s. let pairs = s .1 .1 .0 .now in let scratch = s .1 .1 .1 .0 .now in let count = s .1 .1 .1 .1 .0 .now in let edges = s .1 .1 .1 .1 .1 .0 .now in let detail = s .1 .1 .1 .1 .1 .1 .0 .now in (toldCut number count edges detail, pairs, scratch))
+reasons-sheet-one κs a x y s t p q = answer-and-two-rows (p .0) (p .1 .0) (p .1 .1) (q .0) (q .1 .0) (q .1 .1)
 
 pub check-claim-one :
     OneAnswer {A = ToldClaim × List ℕ} 7 check-claim-kinds.ps check-claim-kinds.r check-claim-contract.Post

@@ -13,3 +13,5 @@ pub mod Sheets
 pub mod Many
 pub mod Maps
 pub mod Order
+pub mod Reasons
+pub mod Whys

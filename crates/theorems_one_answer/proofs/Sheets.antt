@@ -20,8 +20,14 @@ use Rattle.sheet_input.proofs.finish.Kinds as finish-kinds
 use Rattle.sheet_input.proofs.finish.Reads as finish-contract
 use Rattle.sheet_replies.proofs.answer_line.Kinds as answer-line-kinds
 use Rattle.sheet_replies.proofs.answer_line.Reads as answer-line-contract
+use Rattle.sheet_replies.proofs.asks.Kinds as asks-kinds
+use Rattle.sheet_replies.proofs.asks.Reads as asks-contract
+use Rattle.sheet_replies.proofs.ended.Kinds as ended-kinds
+use Rattle.sheet_replies.proofs.ended.Reads as ended-contract
 use Rattle.sheet_texts.proofs.write_reply.Kinds as write-reply-kinds
 use Rattle.sheet_texts.proofs.write_reply.Reads as write-reply-contract
+use Rattle.sheet_texts.proofs.keep_number.Kinds as keep-number-kinds
+use Rattle.sheet_texts.proofs.keep_number.Reads as keep-number-contract
 use Rattle.sheet_bytes.proofs.keep.Kinds as keep-kinds
 use Rattle.sheet_bytes.proofs.keep.Reads as keep-contract
 use Rattle.sheet_bytes.proofs.line_end.Kinds as line-end-kinds
@@ -33,10 +39,10 @@ use Rattle.theorems_one_answer.proofs.Shapes.{answer, both}
 
 -- ---- the rows of a line: pool, scalars, positions, ends and scratch
 
-abbrev Rows : Type 0
+abbrev pub Rows : Type 0
 Rows = List ℕ × (List ℕ × (List ℕ × (List ℕ × List ℕ)))
 
-pool-one : (k : Asked) (text old p q : List ℕ) (room : Room) → PoolAfter k text old p room → PoolAfter k text old q room → p ≡ q
+pub pool-one : (k : Asked) (text old p q : List ℕ) (room : Room) → PoolAfter k text old p room → PoolAfter k text old q room → p ≡ q
 unfolding PoolAfter
 pool-one Nothing text old p q room e f = e ∙ sym f
 pool-one Add text old p q room e f = one-after (addText text old room) old p q (added (scalarsOf text) 0 old) e f
@@ -78,6 +84,15 @@ answer-line-one κs a x y s t p q = both (answer (p .0) (q .0)) (rows-one (p .1)
 
 pub write-reply-one : OneAnswer {A = ℕ × List ℕ} 2 write-reply-kinds.ps write-reply-kinds.r write-reply-contract.Post (λ κs x s. (x, s .1 .1 .0 .now))
 write-reply-one κs a x y s t p q = both (answer (p .0) (q .0)) (answer (p .1) (q .1))
+
+pub asks-one : OneAnswer {A = Asked} 1 asks-kinds.ps asks-kinds.r asks-contract.Post (λ κs x s. x)
+asks-one κs a x y s t p q = answer p q
+
+pub ended-one : OneAnswer {A = Reply} 0 ended-kinds.ps ended-kinds.r ended-contract.Post (λ κs x s. x)
+ended-one κs a x y s t p q = answer p q
+
+pub keep-number-one : OneAnswer {A = ℕ × List ℕ} 1 keep-number-kinds.ps keep-number-kinds.r keep-number-contract.Post (λ κs x s. (x, s .0 .now))
+keep-number-one κs a x y s t p q = both (answer (p .0) (q .0)) (answer (p .1) (q .1))
 
 -- ---- bytes: the answer and the row
 

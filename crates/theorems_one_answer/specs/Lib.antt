@@ -5,3 +5,4 @@ pub mod ManyRuns
 pub mod MapRuns
 pub mod WinnerRuns
 pub mod OrderRuns
+pub mod ReasonRuns

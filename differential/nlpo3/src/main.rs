@@ -28,15 +28,30 @@ fn answer(fields: &[&str]) -> Option<String> {
             Some(format!("ok {}", numbers(&prefix_lengths(&dict, field(2)?)?, ",")))
         }
         "dict" => Some(format!("ok {}", script(field(2)?)?)),
-        "cut" => cut(field(1)? == "safe", &words(field(2)?)?, &text(field(3)?)?),
+        "cut" => {
+            let told = told(field(1)? == "safe", &words(field(2)?)?, &text(field(3)?)?)?;
+            Some(format!("ok {} {}", numbers(&told.ends, ","), told.edges))
+        }
+        "reasons" => {
+            let told = told(field(1)? == "safe", &words(field(2)?)?, &text(field(3)?)?)?;
+            Some(format!("ok {} {}", pairs(&told), told.edges))
+        }
         _ => None,
     }
 }
 
-/// The ends that the unchanged file gives, and the edges of the copy that counts them and gives the same tokens.
-fn cut(safe: bool, words: &[String], text: &str) -> Option<String> {
+struct Told {
+    ends: Vec<usize>,
+    reasons: Vec<usize>,
+    edges: usize,
+}
+
+/// The ends that the unchanged file gives, and the edges and reasons of the copy that tells them and gives the same tokens.
+/// Samples are cut before the parts, so the tokens' own reasons are the last.
+fn told(safe: bool, words: &[String], text: &str) -> Option<Told> {
     let tokens = NewmmTokenizer::from_word_list(words.to_vec()).segment_with_options(text, safe, None).ok()?;
     edges::take();
+    edges::take_reasons();
     let counted = newmm_counted::NewmmTokenizer::from_word_list(words.to_vec()).segment_with_options(text, safe, None).ok()?;
     if tokens != counted || tokens.concat() != text {
         return None;
@@ -49,7 +64,17 @@ fn cut(safe: bool, words: &[String], text: &str) -> Option<String> {
             end
         })
         .collect();
-    Some(format!("ok {} {}", numbers(&ends, ","), edges::take()))
+    let mut reasons = edges::take_reasons();
+    let reasons = reasons.split_off(reasons.len().checked_sub(ends.len())?);
+    Some(Told { ends, reasons, edges: edges::take() })
+}
+
+/// `end:reason` for each token, joined by `,`, `-` for none.
+fn pairs(told: &Told) -> String {
+    if told.ends.is_empty() {
+        return "-".to_string();
+    }
+    told.ends.iter().zip(&told.reasons).map(|(end, reason)| format!("{end}:{reason}")).collect::<Vec<_>>().join(",")
 }
 
 /// The answers of a dictionary script, joined by `;`.

@@ -3,7 +3,7 @@ use crate::{
     error::{accepted, Error},
     ffi, scalars, Decoded, Dictionary,
 };
-use std::mem;
+use std::{fmt, mem};
 
 /// How a text is cut.
 #[derive(Clone, Copy, Debug, PartialEq, Eq, Hash)]
@@ -17,20 +17,62 @@ pub enum Mode {
     Sheet,
 }
 
-/// A token: a part of the caller's text, and where it ends there.
+/// Why a token ends where it does, by the rule at its start. In a cut in parts it is about the part.
+#[derive(Clone, Copy, Debug, PartialEq, Eq, Hash)]
+pub enum Reason {
+    /// It is a word of the dictionary.
+    Word,
+    /// No word starts there: it is a run of letters, digits or blanks, or a line's end.
+    NonThai,
+    /// Neither starts there: it is skipped to a word.
+    ToWord,
+    /// The same, skipped to such a run, where no word starts that is a place to stop at.
+    ToNonThai,
+    /// The same, skipped to the end of the text, or of its part.
+    ToEnd,
+}
+
+impl Reason {
+    fn told(number: u32) -> Reason {
+        match number {
+            1 => Reason::Word,
+            2 => Reason::NonThai,
+            3 => Reason::ToWord,
+            4 => Reason::ToNonThai,
+            5 => Reason::ToEnd,
+            _ => unreachable!("a reason is 1 to 5"),
+        }
+    }
+}
+
+impl fmt::Display for Reason {
+    fn fmt(&self, f: &mut fmt::Formatter) -> fmt::Result {
+        f.write_str(match self {
+            Reason::Word => "word",
+            Reason::NonThai => "run of letters, digits or blanks",
+            Reason::ToWord => "no word here: skipped to the next word",
+            Reason::ToNonThai => "no word here: skipped to the next run",
+            Reason::ToEnd => "no word here: skipped to the end",
+        })
+    }
+}
+
+/// A token: a part of the caller's text, and where it ends there. [`Cutter::explain`] gives its reason, too.
 #[derive(Clone, Copy, Debug, PartialEq, Eq)]
-pub struct Token<'t> {
+pub struct Token<'t, R = ()> {
     pub text: &'t str,
     /// Its end in characters.
     pub end: usize,
     /// Its end in bytes.
     pub byte_end: usize,
+    /// Why it ends there, where that was asked for.
+    pub reason: R,
 }
 
 /// The tokens of a text, and the number of edges recorded in the whole cut.
 #[derive(Clone, Debug, PartialEq, Eq)]
-pub struct Cut<'t> {
-    pub tokens: Vec<Token<'t>>,
+pub struct Cut<'t, R = ()> {
+    pub tokens: Vec<Token<'t, R>>,
     pub edges: usize,
 }
 
@@ -87,7 +129,23 @@ impl Cutter {
         self.ends.resize(self.ends.len().max(cells.len()), 0);
         let scratch = scratch_for(&mut self.scratch, cells.len());
         let (count, edges) = ffi::cut(mode, cells, dictionary.pool(), &mut self.ends, scratch)?;
-        Ok(Cut { tokens: tokens(text, &decoded, &self.ends[..count]), edges })
+        Ok(Cut { tokens: tokens(text, &decoded, plainly(&self.ends[..count])), edges })
+    }
+
+    /// Cuts a text as [`Cutter::cut`] does, and says why each token ends where it does. Refused with 2.
+    pub fn explain<'t>(
+        &mut self,
+        dictionary: &Dictionary,
+        text: &'t str,
+        mode: Mode,
+    ) -> Result<Cut<'t, Reason>, Error> {
+        let decoded = decode(text.as_bytes())?;
+        let cells = decoded.scalars();
+        self.ends.resize(self.ends.len().max(2 * cells.len()), 0);
+        let scratch = scratch_for(&mut self.scratch, cells.len());
+        let (count, edges) = ffi::reasons(mode, cells, dictionary.pool(), &mut self.ends, scratch)?;
+        let told = self.ends[..2 * count].chunks_exact(2).map(|pair| (pair[0], Reason::told(pair[1])));
+        Ok(Cut { tokens: tokens(text, &decoded, told), edges })
     }
 
     /// Cuts many texts by the words of a dictionary: for each what [`Cutter::cut`] gives. The dictionary is checked once for
@@ -141,7 +199,7 @@ impl Cutter {
         let mut used = 0;
         for ((line, decoded), told) in joined.lines.iter().zip(answers.chunks_exact(ANSWER_CELLS)) {
             let (count, edges) = (told[1] as usize, told[2] as usize);
-            let tokens = tokens(line, decoded, &self.ends[used..used + count]);
+            let tokens = tokens(line, decoded, plainly(&self.ends[used..used + count]));
             cuts.push(accepted(told[0], told[3] as usize, ()).map(|()| Cut { tokens, edges }));
             used += count;
         }
@@ -188,16 +246,20 @@ fn scratch_for(scratch: &mut Vec<u32>, characters: usize) -> &mut [u32] {
     &mut scratch[..needed]
 }
 
-/// The parts of a text between ends in characters, which rise to its length.
-fn tokens<'t>(text: &'t str, decoded: &Decoded, ends: &[u32]) -> Vec<Token<'t>> {
+/// Ends without reasons.
+fn plainly(ends: &[u32]) -> impl Iterator<Item = (u32, ())> + '_ {
+    ends.iter().map(|&end| (end, ()))
+}
+
+/// The parts of a text between ends in characters, which rise to its length, each with its reason.
+fn tokens<'t, R>(text: &'t str, decoded: &Decoded, told: impl Iterator<Item = (u32, R)>) -> Vec<Token<'t, R>> {
     let mut start = 0;
-    ends.iter()
-        .map(|&end| {
-            let end = end as usize;
-            let byte_end = decoded.positions()[end] as usize;
-            let token = Token { text: &text[start..byte_end], end, byte_end };
-            start = byte_end;
-            token
-        })
-        .collect()
+    told.map(|(end, reason)| {
+        let end = end as usize;
+        let byte_end = decoded.positions()[end] as usize;
+        let token = Token { text: &text[start..byte_end], end, byte_end, reason };
+        start = byte_end;
+        token
+    })
+    .collect()
 }

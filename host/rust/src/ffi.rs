@@ -133,6 +133,45 @@ extern "C" {
         edges: &mut usize,
         detail: &mut usize,
     ) -> u32;
+    fn fetlockice_reasons_plain(
+        text: *const u32,
+        text_len: usize,
+        pool: *const u32,
+        pool_len: usize,
+        pairs: *mut u32,
+        pairs_len: usize,
+        scratch: *mut u32,
+        scratch_len: usize,
+        count: &mut usize,
+        edges: &mut usize,
+        detail: &mut usize,
+    ) -> u32;
+    fn fetlockice_reasons_safe(
+        text: *const u32,
+        text_len: usize,
+        pool: *const u32,
+        pool_len: usize,
+        pairs: *mut u32,
+        pairs_len: usize,
+        scratch: *mut u32,
+        scratch_len: usize,
+        count: &mut usize,
+        edges: &mut usize,
+        detail: &mut usize,
+    ) -> u32;
+    fn fetlockice_reasons_sheet(
+        text: *const u32,
+        text_len: usize,
+        pool: *const u32,
+        pool_len: usize,
+        pairs: *mut u32,
+        pairs_len: usize,
+        scratch: *mut u32,
+        scratch_len: usize,
+        count: &mut usize,
+        edges: &mut usize,
+        detail: &mut usize,
+    ) -> u32;
     fn fetlockice_cut_many_plain(
         texts: *const u32,
         texts_len: usize,
@@ -353,27 +392,68 @@ pub fn cut(
     out: &mut [u32],
     scratch: &mut [u32],
 ) -> Result<(usize, usize), Error> {
-    let (mut count, mut edges, mut detail) = (0, 0, 0);
     let call = match mode {
         Mode::Plain => fetlockice_cut_plain,
         Mode::Safe => fetlockice_cut_safe,
         Mode::Sheet => fetlockice_cut_sheet,
     };
-    let number = unsafe {
-        call(
-            text.as_ptr(),
-            text.len(),
-            pool.as_ptr(),
-            pool.len(),
-            out.as_mut_ptr(),
-            out.len(),
-            scratch.as_mut_ptr(),
-            scratch.len(),
-            &mut count,
-            &mut edges,
-            &mut detail,
-        )
+    unsafe { cut_by(call, text, pool, out, scratch) }
+}
+
+/// The number of pairs, and of edges.
+pub fn reasons(
+    mode: Mode,
+    text: &[u32],
+    pool: &[u32],
+    pairs: &mut [u32],
+    scratch: &mut [u32],
+) -> Result<(usize, usize), Error> {
+    let call = match mode {
+        Mode::Plain => fetlockice_reasons_plain,
+        Mode::Safe => fetlockice_reasons_safe,
+        Mode::Sheet => fetlockice_reasons_sheet,
     };
+    unsafe { cut_by(call, text, pool, pairs, scratch) }
+}
+
+type CutCall = unsafe extern "C" fn(
+    *const u32,
+    usize,
+    *const u32,
+    usize,
+    *mut u32,
+    usize,
+    *mut u32,
+    usize,
+    &mut usize,
+    &mut usize,
+    &mut usize,
+) -> u32;
+
+/// # Safety
+///
+/// The call is one of the cuts of the header.
+unsafe fn cut_by(
+    call: CutCall,
+    text: &[u32],
+    pool: &[u32],
+    out: &mut [u32],
+    scratch: &mut [u32],
+) -> Result<(usize, usize), Error> {
+    let (mut count, mut edges, mut detail) = (0, 0, 0);
+    let number = call(
+        text.as_ptr(),
+        text.len(),
+        pool.as_ptr(),
+        pool.len(),
+        out.as_mut_ptr(),
+        out.len(),
+        scratch.as_mut_ptr(),
+        scratch.len(),
+        &mut count,
+        &mut edges,
+        &mut detail,
+    );
     accepted(number, detail, (count, edges))
 }
 

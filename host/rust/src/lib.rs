@@ -1,7 +1,7 @@
 //! Thai word cutting whose every answer is proved: a safe interface over the library of the repository's crates.
 //!
 //! ```
-//! use fetlockice::{Cutter, Dictionary, Mode};
+//! use fetlockice::{Cutter, Dictionary, Mode, Reason};
 //!
 //! let words = Dictionary::from_words(["กข", "กขค", "คง", "ง"])?;
 //! let cut = Cutter::new().cut(&words, "กขคง", Mode::Safe)?;
@@ -13,6 +13,11 @@
 //! assert!(map.is_break(2) && !map.is_break(3));
 //! assert_eq!((map.up_to(3)?, map.next(2)?, map.next(4)?), (1, Some(4), None));
 //! assert_eq!(map.iter().collect::<Vec<_>>(), [2, 4]);
+//!
+//! // why each token ends where it does
+//! let why = Cutter::new().explain(&words, "กขคง12.", Mode::Plain)?;
+//! let reasons: Vec<Reason> = why.tokens.iter().map(|token| token.reason).collect();
+//! assert_eq!(reasons, [Reason::Word, Reason::Word, Reason::NonThai, Reason::ToEnd]);
 //!
 //! // many short texts: the dictionary is checked once for all of them
 //! let cuts = Cutter::new().cut_lines(&words, ["กขคง", "", "งกข"], Mode::Safe);
@@ -27,7 +32,7 @@ mod error;
 mod ffi;
 mod map;
 
-pub use cutter::{Cut, Cutter, Mode, Token, Verdict};
+pub use cutter::{Cut, Cutter, Mode, Reason, Token, Verdict};
 pub use decoded::{decode, Decoded};
 pub use dictionary::{Dictionary, MAX_NODES};
 pub use error::Error;

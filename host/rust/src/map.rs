@@ -10,7 +10,7 @@ pub struct BreakMap {
     cells: Vec<u64>,
 }
 
-impl Cut<'_> {
+impl<R> Cut<'_, R> {
     /// The map of the token ends.
     ///
     /// # Panics

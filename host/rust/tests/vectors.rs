@@ -1,6 +1,6 @@
 //! The answers of this crate against those that the test programs of crates/ are held to: an independent model's and the
 //! Rust's. Lines that a `str`, a growing pool or rows of one's own can't bring about are left out.
-use fetlockice::{clusters, clusters_with_winners, decode, Cut, Cutter, Dictionary, Error, Mode, Verdict};
+use fetlockice::{clusters, clusters_with_winners, decode, Cut, Cutter, Dictionary, Error, Mode, Reason, Verdict};
 use std::{collections::BTreeMap, fs};
 
 /// The lines of a test program with that operation, in fields, each with its answer.
@@ -236,14 +236,19 @@ fn check_map(cut: &Cut, ends: &[usize]) {
     }
 }
 
+/// The tokens are the text, each where it says.
+fn hold_tokens<R>(text: &str, cut: &Cut<R>) {
+    assert_eq!(cut.tokens.iter().map(|token| token.text).collect::<String>(), text);
+    for token in &cut.tokens {
+        let front = &text[..token.byte_end];
+        assert!(front.ends_with(token.text) && front.chars().count() == token.end);
+    }
+}
+
 /// The ends and the edges of a text's cut, whose tokens are the text.
 fn told_cut(text: &str, cut: Result<Cut, Error>) -> String {
     told(cut, |cut| {
-        assert_eq!(cut.tokens.iter().map(|token| token.text).collect::<String>(), text);
-        for token in &cut.tokens {
-            let front = &text[..token.byte_end];
-            assert!(front.ends_with(token.text) && front.chars().count() == token.end);
-        }
+        hold_tokens(text, &cut);
         let ends: Vec<usize> = cut.tokens.iter().map(|token| token.end).collect();
         check_map(&cut, &ends);
         format!("{} {}", row(&ends, ","), cut.edges)
@@ -257,6 +262,31 @@ fn cuts() {
         roomy(&line[4]).and(roomy(&line[5]))?;
         let (words, text) = (words(&line[2])?, text(&line[3])?);
         Some(told_cut(&text, cutter.cut(&words, &text, mode(&line[1]))))
+    });
+}
+
+fn number(reason: Reason) -> usize {
+    match reason {
+        Reason::Word => 1,
+        Reason::NonThai => 2,
+        Reason::ToWord => 3,
+        Reason::ToNonThai => 4,
+        Reason::ToEnd => 5,
+    }
+}
+
+#[test]
+fn reasons() {
+    let mut cutter = Cutter::new();
+    hold(lines("test_reasons", "reasons"), 800, |line| {
+        roomy(&line[4]).and(roomy(&line[5]))?;
+        let (words, text) = (words(&line[2])?, text(&line[3])?);
+        Some(told(cutter.explain(&words, &text, mode(&line[1])), |cut| {
+            hold_tokens(&text, &cut);
+            let pairs: Vec<_> =
+                cut.tokens.iter().map(|token| format!("{}:{}", token.end, number(token.reason))).collect();
+            format!("{} {}", if pairs.is_empty() { "-".into() } else { pairs.join(",") }, cut.edges)
+        }))
     });
 }
 

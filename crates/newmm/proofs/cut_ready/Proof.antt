@@ -3,7 +3,8 @@ use native.Mathlib.Omega.{arith}
 use mathlib.Core.Path.{sym}
 use lib.ListN.{length}
 use Rattle.trie_check.proofs.Parts.{long}
-use Rattle.newmm.proofs.Calls.{Lent, Ended, ready, ends-fit, ends-lent, short-cuts, done-cuts}
+use Rattle.newmm_answers.specs.Answers.{cutOf}
+use Rattle.newmm.proofs.Calls.{Lent, the-cut, Ended, ready, ends-fit, ends-lent, short-cuts, done-cuts}
 use borrow.Author.Needs.{needs}
 use Rattle.newmm.proofs.cut_ready.Statement.{statement}
 use Rattle.newmm.proofs.cut_ready.Tie as tie
@@ -24,8 +25,8 @@ lent c =
 
 ended : (c : tie.After-segment-single)
     → let c8 = c .before .before .before .before .before .before .before .before in
-    Ended (c8 .args .mode) (c8 .args .text .now) (c8 .args .pool .now) (c .segment-single .last .1 .1 .0) (length (c8 .args .scratch .now)) (c .segment-single .result)
-ended c = record { blank-row = _; n = _; lent = lent (c .before .before .before); written = c .segment-single .ensures }
+    Ended cutOf (c8 .args .mode) (c8 .args .text .now) (c8 .args .pool .now) (c .segment-single .last .1 .1 .0) (length (c8 .args .scratch .now)) (c .segment-single .result)
+ended c = record { like = the-cut; blank-row = _; n = _; lent = lent (c .before .before .before); written = c .segment-single .ensures }
 
 capacity-requires : tie.Need-capacity-requires
 capacity-requires c κs = search needs

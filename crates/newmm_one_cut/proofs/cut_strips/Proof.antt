@@ -1,211 +1,24 @@
 -- Assumes nothing.
-use Prim.Native.Nat.{_-_}
-use native.Mathlib.Omega.{arith}
-use mathlib.Core.Path.{refl, sym, _∙_}
-use Rattle.newmm_rules.proofs.Spans.{token-spans}
-use Rattle.newmm_word_step.specs.inner.Walks.{givenBy}
-use Rattle.newmm_one_cut.proofs.Rounds.{Round, b-inside, ends-few, committed-low, here, token-asks, token-round, start-one, round-one, round-more, still-sized}
-use Rattle.newmm_one_cut.proofs.Bounds.{ends-fit, done, first-round, size₁, part-long}
+use Rattle.newmm_one_cut.proofs.Bounds.{done}
+use borrow.Author.Needs.{needs}
 use Rattle.newmm_one_cut.proofs.cut_strips.Statement.{statement}
 use Rattle.newmm_one_cut.proofs.cut_strips.Tie as tie
 
-abbrev Inv-loop : tie.InvT-loop
-Inv-loop text pool row₀ n m flags flags-end b₀ committed₀ ends₀ p₀ row b committed ends p = Round text pool row m b committed ends p
+cut-marked-requires : tie.Need-cut-marked-requires
+cut-marked-requires c κs = search needs
 
-abbrev μ-loop : tie.MeasureT-loop
-μ-loop text pool row₀ n m flags flags-end b₀ committed₀ ends₀ p₀ row b committed ends p = n - b
+clear-from-requires : tie.Need-clear-from-requires
+clear-from-requires c κs = search needs
 
-add-m : tie.Need-add-m Inv-loop μ-loop
-add-m c = omega (arith, c .before .before .before .pre .short)
+same-length : tie.Need-same-length
+same-length c = search needs
 
-mul-flags : tie.Need-mul-flags Inv-loop μ-loop
-mul-flags c = omega (arith, c .before .before .before .pre .short)
-
-mul-flags-end : tie.Need-mul-flags-end Inv-loop μ-loop
-mul-flags-end c = omega (arith, c .before .before .before .pre .short)
-
-mul-tcc-flags : tie.Need-mul-tcc-flags Inv-loop μ-loop
-mul-tcc-flags c = omega (arith, c .before .before .before .pre .short)
-
-sub-tcc-flags : tie.Need-sub-tcc-flags Inv-loop μ-loop
-sub-tcc-flags c = omega arith
-
-part-tcc-flags-start : tie.Need-part-tcc-flags-start Inv-loop μ-loop
-part-tcc-flags-start c = omega (arith, c .before .before .before .pre .size)
-
-part-tcc-flags-end : tie.Need-part-tcc-flags-end Inv-loop μ-loop
-part-tcc-flags-end c = omega (arith, c .before .before .before .pre .size)
-
-tcc-flags-requires : tie.Need-tcc-flags-requires Inv-loop μ-loop
-tcc-flags-requires c κs = part-long (c .before .before .before .before .pre) refl
-
-mul-row : tie.Need-mul-row Inv-loop μ-loop
-mul-row c = omega (arith, c .before .before .before .before .before .before .before .pre .short)
-
-mul-row-2 : tie.Need-mul-row-2 Inv-loop μ-loop
-mul-row-2 c = omega (arith, c .before .before .before .before .before .before .before .pre .short)
-
-slice-write-row : tie.Need-slice-write-row Inv-loop μ-loop
-slice-write-row c =
-    let c2 = c .before .before in
-    let c7 = c2 .before .before .before .before .before in
-    omega (arith, size₁ _ _ (c7 .args .row .now) _ (c7 .pre) refl _ (c2 .tcc-flags .ensures), c7 .pre .size)
-
-loop-holds : tie.Need-loop-holds Inv-loop μ-loop
-loop-holds c =
-    let c2 = c .before .before in
-    let c7 = c2 .before .before .before .before .before in
-    first-round _ _ _ _ (c7 .pre) refl _ (c2 .tcc-flags .ensures)
-
-record-words-requires : tie.Need-record-words-requires Inv-loop μ-loop
-record-words-requires c κs = here (c .before .before .loop .inv) (c .before .loop-test .taken)
-
-put-token-requires : tie.Need-put-token-requires Inv-loop μ-loop
-put-token-requires c κs =
-    let c4 = c .before .before .before .before in
-    let c6 = c4 .before .before in
-    let c7 = c6 .before in
-    token-asks (c7 .loop .inv) (c6 .loop-test .taken) (c4 .record-words .ensures .0) (c4 .record-words .ensures .1)
-    (c4 .record-words .kept .1 .1 .0) (c .before .if1 .taken)
-
-add-ends : tie.Need-add-ends Inv-loop μ-loop
-add-ends c =
-    let c10 = c .before .before .before .before .before .before .before .before .before .before in
-    let r = c10 .loop .inv in
-    omega (arith, ends-few r, committed-low r, b-inside r, r .sized .small, r .size-is)
-
-loop-less : tie.Need-loop-less Inv-loop μ-loop
-loop-less c =
-    let c2 = c .before .before in
-    let c9 = c2 .before .before .before .before .before .before .before in
-    let c10 = c9 .before in
-    let c18 = c10 .before .before .before .before .before .before .before .before in
-    let t = token-spans (givenBy (c18 .args .text .now) (c18 .args .pool .now)) (c10 .loop .b)
-    (c9 .loop-test .taken) in
-    let e = c2 .put-token .ensures .0 in
-    let l = c9 .loop-test .taken in
-    omega (arith, t .0)
-
-loop-again : tie.Need-loop-again Inv-loop μ-loop
-loop-again c =
-    let c2 = c .before .before in
-    let c4 = c2 .before .before in
-    let c7 = c4 .before .before .before in
-    let c9 = c7 .before .before in
-    let c10 = c9 .before in
-    token-round (c10 .loop .inv) (c9 .loop-test .taken) (c7 .record-words .ensures .0) (c7 .record-words .ensures .1)
-    (c7 .record-words .kept .1 .1 .0) (c4 .if1 .taken) _ _ (c2 .put-token .ensures .0) (c2 .put-token .ensures .1)
-
-next-candidate-requires : tie.Need-next-candidate-requires Inv-loop μ-loop
-next-candidate-requires c κs =
-    let c4 = c .before .before .before .before in
-    let c6 = c4 .before .before in
-    let c7 = c6 .before in (
-      still-sized (c7 .loop .inv) (c6 .loop-test .taken) (c4 .record-words .ensures .0) (c4 .record-words .ensures .1)
-          (c4 .record-words .kept .1 .1 .0),
-      (let l = c6 .loop-test .taken in omega (arith, c7 .loop .inv .size-is)),
-    )
-
-bfs-paths-graph-requires : tie.Need-bfs-paths-graph-requires Inv-loop μ-loop
-bfs-paths-graph-requires c κs =
-    let c2 = c .before .before in
-    let c7 = c2 .before .before .before .before .before in
-    let c9 = c7 .before .before in
-    let c10 = c9 .before in (
-      start-one (c10 .loop .inv) (c9 .loop-test .taken) (c7 .record-words .ensures .0) (c7 .record-words .ensures .1)
-          (c7 .record-words .kept .1 .1 .0) (c2 .next-candidate .ensures) (c .before .if2 .taken),
-      ends-few
-          (c10 .loop .inv),
-    )
-
-loop-less-2 : tie.Need-loop-less-2 Inv-loop μ-loop
-loop-less-2 c =
-    let c5 = c .before .before .before .before .before in
-    let c12 = c5 .before .before .before .before .before .before .before in
-    let l = c12 .loop-test .taken in
-    let n = c5 .next-candidate .ensures .above in
-    omega arith
-
-loop-again-2 : tie.Need-loop-again-2 Inv-loop μ-loop
-loop-again-2 c =
-    let c2 = c .before .before in
-    let c4 = c2 .before .before in
-    let c5 = c4 .before in
-    let c10 = c5 .before .before .before .before .before in
-    let c12 = c10 .before .before in
-    let c13 = c12 .before in
-    round-one (c13 .loop .inv) (c12 .loop-test .taken) (c10 .record-words .ensures .0) (c10 .record-words .ensures .1)
-    (c10 .record-words .kept .1 .1 .0) (c5 .next-candidate .ensures) (c4 .if2 .taken) _ _
-    (c2 .bfs-paths-graph .kept .0) (c2 .bfs-paths-graph .ensures)
-
-sub-t32 : tie.Need-sub-t32 Inv-loop μ-loop
-sub-t32 c = let n = c .before .before .before .if1 .left in omega arith
-
-loop-less-3 : tie.Need-loop-less-3 Inv-loop μ-loop
-loop-less-3 c =
-    let c8 = c .before .before .before .before .before .before .before .before in
-    let l = c8 .loop-test .taken in
-    let n = c .before .next-candidate .ensures .above in
-    omega arith
-
-loop-again-3 : tie.Need-loop-again-3 Inv-loop μ-loop
-loop-again-3 c =
-    let c3 = c .before .before .before in
-    let c6 = c3 .before .before .before in
-    let c8 = c6 .before .before in
-    let c9 = c8 .before in
-    round-more (c9 .loop .inv) (c8 .loop-test .taken) (c6 .record-words .ensures .0) (c6 .record-words .ensures .1)
-    (c6 .record-words .kept .1 .1 .0) (c .before .next-candidate .ensures) (c3 .if1 .left) (c .if2 .left)
-
-clear-from-requires : tie.Need-clear-from-requires Inv-loop μ-loop
-clear-from-requires c κs = ends-fit (c .before .before .loop .inv) (c .before .loop-test .left)
-
-same-length : tie.Need-same-length Inv-loop μ-loop
-same-length c =
-    let c2 = c .before .before in
-    let c5 = c2 .before .before .before in
-    let c13 = c5 .before .before .before .before .before .before .before .before in
-    c2 .clear-from .kept .0 ∙ c5 .loop .inv .exact ∙ sym (c13 .pre .size)
-
-returns : tie.Need-returns Inv-loop μ-loop
+returns : tie.Need-returns
 returns c =
     let c2 = c .before .before in
-    let c4 = c2 .before .before in
-    let c5 = c4 .before in
-    let c13 = c5 .before .before .before .before .before .before .before .before in
-    done (c5 .loop .inv) (c4 .loop-test .left) _ _ (c13 .pre) (c5 .loop .inv .exact ∙ sym (c13 .pre .size))
-    (c2 .clear-from .ensures)
+    let c6 = c2 .before .before .before .before in
+    let c11 = c6 .before .before .before .before .before in
+    done (c11 .pre) (c6 .cut-marked .ensures) (c2 .clear-from .ensures)
 
 pub cut-strips-spec : {M : Type 1} → statement M
-cut-strips-spec =
-    tie.close
-    (tie.spec
-    Inv-loop
-    μ-loop
-    add-m
-    mul-flags
-    mul-flags-end
-    mul-tcc-flags
-    sub-tcc-flags
-    part-tcc-flags-start
-    part-tcc-flags-end
-    tcc-flags-requires
-    mul-row
-    mul-row-2
-    slice-write-row
-    loop-holds
-    record-words-requires
-    put-token-requires
-    add-ends
-    loop-less
-    loop-again
-    next-candidate-requires
-    bfs-paths-graph-requires
-    loop-less-2
-    loop-again-2
-    sub-t32
-    loop-less-3
-    loop-again-3
-    clear-from-requires
-    same-length
-    returns)
+cut-strips-spec = tie.close (tie.spec cut-marked-requires clear-from-requires same-length returns)

@@ -40,6 +40,15 @@ pub record Lent (text pool row : List ℕ) : Type 0 where
   pub room : cellsFor (length text + 1) ≤ length row
   pub blank : (k : ℕ) → k < cellsFor (length text + 1) → getD row k 0 ≡ 0
 
+-- the ends stand at the front, and the flags of the cluster ends in their strip
+pub record Marked (g : Given) (text row′ : List ℕ) (r : Ends) : Type 0 where
+  pub ends : r .ends ≡ length (cut g .ends)
+  pub edges : r .edges ≡ cut g .edges
+  pub size : length row′ ≡ cellsFor (length text + 1)
+  pub few : r .ends ≤ length text
+  pub front : take (r .ends) row′ ≡ cut g .ends
+  pub flags-are : flagsIn row′ (length text + 1) ≡ endFlags text
+
 -- the ends stand at the front, and the rest is as it was
 pub record Done (g : Given) (row row′ : List ℕ) (r : Ends) : Type 0 where
   pub ends : r .ends ≡ length (cut g .ends)

@@ -7,9 +7,9 @@ use lib.ListN.{take}
 use Rattle.trie_pool.specs.Words.{holds}
 use Rattle.newmm_answers.specs.Answers.{plainCut}
 use Rattle.newmm_answers.proofs.Plain.{plain-right, plain-edges}
-use Rattle.newmm_segment.specs.inner.Written.{Ready}
+use Rattle.newmm_segment.specs.inner.Written.{Ready, shiftedEnds}
 use Rattle.newmm_rules.proofs.RunEdges.{sample-few}
-use Rattle.newmm_segment.proofs.Samples.{part-inside, part-ready, part-size, first-is}
+use Rattle.newmm_segment.proofs.Samples.{part-inside, part-ready, part-size, ends-many, first-told}
 use borrow.Author.Needs.{needs}
 use Rattle.newmm_segment.proofs.first_part.Statement.{statement}
 use Rattle.newmm_segment.proofs.first_part.Tie as tie
@@ -82,8 +82,9 @@ returns c =
     let c4 = c .before .before .before .before in
     let c10 = c4 .before .before .before .before .before .before in
     let c15 = c10 .before .before .before .before .before in
-    first-is (c15 .pre .0) (c15 .pre .1) (c15 .args .space-cut) (c15 .pre .2) (c15 .pre .3)
-    (plain-right (holds (c15 .args .pool .now))) (c10 .cut-at .ensures .0) (c15 .args .start)
+    first-told (c15 .pre .0) (c15 .pre .1) (c15 .args .space-cut) (c15 .pre .2) (c15 .pre .3)
+    (plain-right (holds (c15 .args .pool .now))) (c10 .cut-at .ensures .0)
+    (shiftedEnds (plainCut (holds (c15 .args .pool .now)))) (ends-many (plainCut (holds (c15 .args .pool .now)))) (c15 .args .start)
     (c10 .cut-at .ensures .1) (c4 .cut-part .ensures)
 
 pub first-part-spec : {M : Type 1} → statement M

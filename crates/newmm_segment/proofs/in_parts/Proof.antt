@@ -1,26 +1,32 @@
 -- Assumes nothing.
 use native.Mathlib.Omega.{arith}
-use Prim.Native.Nat.{ℕ, _+_, _-_}
+use Prim.Native.Nat.{ℕ, _+_, _-_, _≤_}
 use mathlib.Core.Path.{_∙_}
 use lib.ListN.{length}
 use borrow.Rule.Slice.PartMut.{same-len-mid}
 use Rattle.trie_pool.specs.Words.{holds}
+use Rattle.trie_pool.specs.Meaning.{Words}
 use Rattle.newmm_answers.specs.Answers.{plainCut}
-use Rattle.newmm_answers.proofs.Plain.{plain-right, plain-edges}
-use Rattle.newmm_segment.proofs.Samples.{by-fits}
-use Rattle.newmm_segment.proofs.Rounds.{Until, until-none, room-left, rest-ready, rest-size, rest-short, row-long, few-ends, part-most, until-more, until-all, rest-most}
+use Rattle.newmm_segment.specs.inner.Written.{shiftedEnds}
+use Rattle.newmm_segment.proofs.Samples.{ends-many}
+use Rattle.newmm_segment.proofs.Rounds.{Until, until-none, room-left, rest-ready, rest-size, rest-short, row-long, Told, plainly, part-most, until-more, until-all, rest-most, in-parts-is}
+use Rattle.newmm_segment.proofs.Modes.{as-cut}
 use borrow.Author.Needs.{needs}
 use Rattle.newmm_segment.proofs.in_parts.Statement.{statement}
 use Rattle.newmm_segment.proofs.in_parts.Tie as tie
 
+-- what is written of a part is its ends
+told : (by : ℕ) → 1 ≤ by → by ≤ 101 → (words : Words) → Told (λ (i : ℕ). i + by) (plainCut words) (shiftedEnds (plainCut words))
+told by some most words = plainly by some most words (shiftedEnds (plainCut words)) (ends-many (plainCut words))
+
 abbrev Inv-loop : tie.InvT-loop
-Inv-loop text pool row₀ space-cut start₀ count₀ edges₀ row start count edges = Until (λ (i : ℕ). i + space-cut) (plainCut (holds pool)) text row₀ row start count edges
+Inv-loop text pool row₀ space-cut start₀ count₀ edges₀ row start count edges = Until (λ (i : ℕ). i + space-cut) (plainCut (holds pool)) (shiftedEnds (plainCut (holds pool))) text row₀ row start count edges
 
 abbrev μ-loop : tie.MeasureT-loop
 μ-loop text pool row₀ space-cut start₀ count₀ edges₀ row start count edges = length text - start
 
 loop-holds : tie.Need-loop-holds Inv-loop μ-loop
-loop-holds c = until-none _ _ _ _
+loop-holds c = until-none _ _ _ _ _
 
 sub-loop : tie.Need-sub-loop Inv-loop μ-loop
 sub-loop c = let u = c .loop .inv in omega (arith, u .inside)
@@ -74,8 +80,7 @@ add-start c =
     let c11 = c7 .before .before .before .before in
     omega (
       arith,
-      part-most _ _ (by-fits (c11 .args .space-cut) (c11 .pre .2) (c11 .pre .3))
-          (plain-right (holds (c11 .args .pool .now))) (plain-edges (holds (c11 .args .pool .now))) _ _ (c7 .loop .inv)
+      part-most _ _ _ (told (c11 .args .space-cut) (c11 .pre .2) (c11 .pre .3) (holds (c11 .args .pool .now))) _ _ (c7 .loop .inv)
           (c6 .loop-test .taken) _ _ (c3 .first-part .ensures) .1,
       c11 .pre .0 .short,
     )
@@ -86,10 +91,9 @@ add-count c =
     let c7 = c4 .before .before .before in
     let c8 = c7 .before in
     let c12 = c8 .before .before .before .before in
-    let m = part-most _ _ (by-fits (c12 .args .space-cut) (c12 .pre .2) (c12 .pre .3))
-    (plain-right (holds (c12 .args .pool .now))) (plain-edges (holds (c12 .args .pool .now))) _ _ (c8 .loop .inv)
+    let m = part-most _ _ _ (told (c12 .args .space-cut) (c12 .pre .2) (c12 .pre .3) (holds (c12 .args .pool .now))) _ _ (c8 .loop .inv)
     (c7 .loop-test .taken) _ _ (c4 .first-part .ensures) in
-    omega (arith, m .1, m .2, few-ends (c8 .loop .inv), c12 .pre .0 .short)
+    omega (arith, m .1, m .2, c8 .loop .inv .few-ends, c12 .pre .0 .short)
 
 add-edges : tie.Need-add-edges Inv-loop μ-loop
 add-edges c =
@@ -97,8 +101,7 @@ add-edges c =
     let c8 = c5 .before .before .before in
     let c9 = c8 .before in
     let c13 = c9 .before .before .before .before in
-    let m = part-most _ _ (by-fits (c13 .args .space-cut) (c13 .pre .2) (c13 .pre .3))
-    (plain-right (holds (c13 .args .pool .now))) (plain-edges (holds (c13 .args .pool .now))) _ _ (c9 .loop .inv)
+    let m = part-most _ _ _ (told (c13 .args .space-cut) (c13 .pre .2) (c13 .pre .3) (holds (c13 .args .pool .now))) _ _ (c9 .loop .inv)
     (c8 .loop-test .taken) _ _ (c5 .first-part .ensures) in
     omega (arith, m .1, m .3, c9 .loop .inv .few-edges, c13 .pre .0 .short)
 
@@ -108,8 +111,7 @@ loop-less c =
     let c8 = c5 .before .before .before in
     let c9 = c8 .before in
     let c13 = c9 .before .before .before .before in
-    let m = part-most _ _ (by-fits (c13 .args .space-cut) (c13 .pre .2) (c13 .pre .3))
-    (plain-right (holds (c13 .args .pool .now))) (plain-edges (holds (c13 .args .pool .now))) _ _ (c9 .loop .inv)
+    let m = part-most _ _ _ (told (c13 .args .space-cut) (c13 .pre .2) (c13 .pre .3) (holds (c13 .args .pool .now))) _ _ (c9 .loop .inv)
     (c8 .loop-test .taken) _ _ (c5 .first-part .ensures) in
     omega (arith, m .0, m .1)
 
@@ -119,8 +121,7 @@ loop-again c =
     let c8 = c5 .before .before .before in
     let c9 = c8 .before in
     let c13 = c9 .before .before .before .before in
-    until-more _ _ (by-fits (c13 .args .space-cut) (c13 .pre .2) (c13 .pre .3)) (plain-right (holds (c13 .args .pool .now)))
-    (plain-edges (holds (c13 .args .pool .now))) _ _ (c9 .loop .inv) (c8 .loop-test .taken) _ _
+    until-more _ _ _ (told (c13 .args .space-cut) (c13 .pre .2) (c13 .pre .3) (holds (c13 .args .pool .now))) _ _ (c9 .loop .inv) (c8 .loop-test .taken) _ _
     (c5 .first-part .ensures)
 
 mul-cut-part : tie.Need-mul-cut-part Inv-loop μ-loop
@@ -162,10 +163,9 @@ add-t21 c =
     let c6 = c3 .before .before .before in
     let c7 = c6 .before in
     let c11 = c7 .before .before .before .before in
-    let m = rest-most _ _ (by-fits (c11 .args .space-cut) (c11 .pre .2) (c11 .pre .3))
-    (plain-right (holds (c11 .args .pool .now))) (plain-edges (holds (c11 .args .pool .now))) _ _ (c7 .loop .inv)
-    (c11 .pre .1) (c6 .loop-test .left) _ _ (c3 .cut-part .ensures) in
-    omega (arith, m .0, few-ends (c7 .loop .inv), c7 .loop .inv .inside, c11 .pre .0 .short)
+    let m = rest-most _ _ _ (told (c11 .args .space-cut) (c11 .pre .2) (c11 .pre .3) (holds (c11 .args .pool .now))) _ _ (c7 .loop .inv)
+    (c6 .loop-test .left) _ _ (c3 .cut-part .ensures) in
+    omega (arith, m .0, c7 .loop .inv .few-ends, c7 .loop .inv .inside, c11 .pre .0 .short)
 
 add-t28 : tie.Need-add-t28 Inv-loop μ-loop
 add-t28 c =
@@ -173,9 +173,8 @@ add-t28 c =
     let c7 = c4 .before .before .before in
     let c8 = c7 .before in
     let c12 = c8 .before .before .before .before in
-    let m = rest-most _ _ (by-fits (c12 .args .space-cut) (c12 .pre .2) (c12 .pre .3))
-    (plain-right (holds (c12 .args .pool .now))) (plain-edges (holds (c12 .args .pool .now))) _ _ (c8 .loop .inv)
-    (c12 .pre .1) (c7 .loop-test .left) _ _ (c4 .cut-part .ensures) in
+    let m = rest-most _ _ _ (told (c12 .args .space-cut) (c12 .pre .2) (c12 .pre .3) (holds (c12 .args .pool .now))) _ _ (c8 .loop .inv)
+    (c7 .loop-test .left) _ _ (c4 .cut-part .ensures) in
     omega (arith, m .1, c8 .loop .inv .few-edges, c8 .loop .inv .inside, c12 .pre .0 .short)
 
 same-length : tie.Need-same-length Inv-loop μ-loop
@@ -193,9 +192,9 @@ returns c =
     let c7 = c4 .before .before .before in
     let c8 = c7 .before in
     let c12 = c8 .before .before .before .before in
-    until-all _ _ (by-fits (c12 .args .space-cut) (c12 .pre .2) (c12 .pre .3)) (plain-right (holds (c12 .args .pool .now)))
-    (plain-edges (holds (c12 .args .pool .now))) _ _ (c8 .loop .inv) (c12 .pre .1) (c7 .loop-test .left) _ _
-    (c4 .cut-part .ensures)
+    as-cut (in-parts-is _ _ _ (c12 .pre .1))
+    (until-all _ _ _ (told (c12 .args .space-cut) (c12 .pre .2) (c12 .pre .3) (holds (c12 .args .pool .now))) _ _ (c8 .loop .inv) (c7 .loop-test .left) _ _
+    (c4 .cut-part .ensures))
 
 pub in-parts-spec : {M : Type 1} → statement M
 in-parts-spec =

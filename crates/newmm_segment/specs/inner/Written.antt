@@ -43,11 +43,21 @@ pub record Sampled (spaceCut : ℕ → ℕ) (plain : Cutter) (rest : List ℕ) (
 abbrev pub firstOf : (ℕ → ℕ) → Cutter → List ℕ → List ℕ
 firstOf spaceCut plain rest = take (cutAt spaceCut plain rest) rest
 
--- its ends stand at the front of the row, shifted by where it starts
-pub record FirstPart
-    (spaceCut : ℕ → ℕ) (plain : Cutter) (rest : List ℕ) (start : ℕ) (row row′ : List ℕ) (r : Part) : Type 0 where
+-- It stands at the front of the row, as `told` writes a part that starts there: as many cells as it
+-- has ends.
+pub record FirstTold
+    (spaceCut : ℕ → ℕ) (plain : Cutter) (told : ℕ → List ℕ → List ℕ)
+    (rest : List ℕ) (start : ℕ) (row row′ : List ℕ) (r : Part) : Type 0 where
   pub size : r .size ≡ cutAt spaceCut plain rest
   pub ends : r .ends ≡ length (plain (firstOf spaceCut plain rest) .ends)
   pub edges : r .edges
       ≡ edgesOf plain (sampled (sampleOf rest) (lastSpace (sampleOf rest))) + plain (firstOf spaceCut plain rest) .edges
-  pub is : row′ ≡ shifted start (plain (firstOf spaceCut plain rest) .ends) ++ drop (r .ends) row
+  pub is : row′ ≡ told start (firstOf spaceCut plain rest) ++ drop (r .ends) row
+
+-- a part as its ends, shifted by where it starts
+abbrev pub shiftedEnds : Cutter → ℕ → List ℕ → List ℕ
+shiftedEnds plain start part = shifted start (plain part .ends)
+
+-- its ends stand at the front of the row, shifted by where it starts
+abbrev pub FirstPart : (ℕ → ℕ) → Cutter → List ℕ → ℕ → (row row′ : List ℕ) → Part → Type 0
+FirstPart spaceCut plain rest start row row′ r = FirstTold spaceCut plain (shiftedEnds plain) rest start row row′ r

@@ -1,10 +1,12 @@
 -- Assumes nothing.
 use Rattle.utf8.specs.Decoding.{roomIn}
 use native.Mathlib.Omega.{arith}
+use Prim.Native.Nat.{ℕ}
 use mathlib.Core.Path.{sym}
+use mathlib.Core.List.{List}
 use lib.ListN.{length}
 use lib.Seq.{length-take-le}
-use Rattle.sheet_texts.specs.Texts.{amount}
+use Rattle.sheet_texts.specs.Texts.{written, amount}
 use Rattle.sheet_input.specs.Feeding.{told, lineWith}
 use Rattle.sheet_input.proofs.Feeding.{end-inside, end-below, line-is, open-fed, open-out, open-rows, end-fed, end-out, end-rows}
 use borrow.Author.Needs.{needs}
@@ -31,25 +33,17 @@ returns : tie.Need-returns
 returns c =
     let c3 = c .before .before .before in
     let c6 = c3 .before .before .before in
-    let c15 = c6 .before .before .before .before .before .before .before .before .before in (
-      open-fed (c15 .args .bytes .now) (c15 .args .line .now) (c15 .args .kept) (c6 .line-end .ensures)
-          (c3 .keep .ensures .0) (c3 .keep .ensures .1) (c .if1 .taken)
-          (amount (told (lineWith (c15 .args .bytes .now) (c15 .args .line .now) (c15 .args .kept)) (c15 .args .pool .now)
-          (roomIn (c15 .args .scalars .now) (c15 .args .positions .now)) (length (c15 .args .scratch .now))
-          (c15 .args .ends .now)) (c15 .args .out .now)),
+    let a = c6 .before .before .before .before .before .before .before .before .before .args in
+    let whole = lineWith (a .bytes .now) (a .line .now) (a .kept) in (
+      open-fed (a .bytes .now) (a .line .now) (a .kept) (c6 .line-end .ensures) (c3 .keep .ensures .0) (c3 .keep .ensures .1) (c .if1 .taken)
+          (amount (told whole (a .pool .now) (roomIn (a .scalars .now) (a .positions .now)) (length (a .scratch .now)) (a .ends .now)) (a .out .now)),
       (
-        line-is (c15 .args .bytes .now) (c15 .args .line .now) (c15 .args .kept) (c6 .line-end .ensures)
-            (c3 .keep .ensures .0) (c3 .keep .ensures .1),
+        line-is (a .bytes .now) (a .line .now) (a .kept) (c6 .line-end .ensures) (c3 .keep .ensures .0) (c3 .keep .ensures .1),
         (
-          open-out (c15 .args .bytes .now) (c15 .args .line .now) (c15 .args .kept) (c6 .line-end .ensures)
-              (c3 .keep .ensures .0) (c3 .keep .ensures .1) (c .if1 .taken)
-              (told (lineWith (c15 .args .bytes .now) (c15 .args .line .now) (c15 .args .kept)) (c15 .args .pool .now)
-              (roomIn (c15 .args .scalars .now) (c15 .args .positions .now)) (length (c15 .args .scratch .now))
-              (c15 .args .ends .now)) (c15 .args .out .now),
-          open-rows (c15 .args .bytes .now) (c15 .args .line .now)
-              (c15 .args .kept) (c6 .line-end .ensures) (c3 .keep .ensures .0) (c3 .keep .ensures .1) (c .if1 .taken)
-              (c15 .args .pool .now) (c15 .args .scalars .now) (c15 .args .positions .now) (c15 .args .ends .now)
-              (c15 .args .scratch .now),
+          open-out (a .bytes .now) (a .line .now) (a .kept) (c6 .line-end .ensures) (c3 .keep .ensures .0) (c3 .keep .ensures .1) (c .if1 .taken)
+              (written (told whole (a .pool .now) (roomIn (a .scalars .now) (a .positions .now)) (length (a .scratch .now)) (a .ends .now)) (a .out .now)) (a .out .now),
+          open-rows (a .bytes .now) (a .line .now) (a .kept) (c6 .line-end .ensures) (c3 .keep .ensures .0) (c3 .keep .ensures .1) (c .if1 .taken)
+              (a .pool .now) (a .scalars .now) (a .positions .now) (a .ends .now) (a .scratch .now),
         ),
       ),
     )
@@ -95,23 +89,16 @@ returns-2 c =
     let c21 = c19 .before .before in
     let c24 = c21 .before .before .before in
     let c27 = c24 .before .before .before in
-    let c36 = c27 .before .before .before .before .before .before .before .before .before in (
-      end-fed (c36 .args .bytes .now) (c36 .args .line .now) (c36 .args .kept) (c27 .line-end .ensures)
-          (c24 .keep .ensures .0) (c24 .keep .ensures .1) (c21 .if1 .left) (c19 .front .ensures .0) (c36 .args .pool .now)
-          (c36 .args .scalars .now) (c36 .args .positions .now) (c36 .args .ends .now) (c36 .args .scratch .now)
-          (c36 .args .out .now) (c12 .told .ensures .0),
+    let a = c27 .before .before .before .before .before .before .before .before .before .args in (
+      end-fed (a .bytes .now) (a .line .now) (a .kept) (c27 .line-end .ensures) (c24 .keep .ensures .0) (c24 .keep .ensures .1) (c21 .if1 .left) (c19 .front .ensures .0)
+          (λ (l : List ℕ). amount (told l (a .pool .now) (roomIn (a .scalars .now) (a .positions .now)) (length (a .scratch .now)) (a .ends .now)) (a .out .now)) (c12 .told .ensures .0),
       (
-        line-is (c36 .args .bytes .now) (c36 .args .line .now) (c36 .args .kept) (c27 .line-end .ensures)
-            (c24 .keep .ensures .0) (c24 .keep .ensures .1),
+        line-is (a .bytes .now) (a .line .now) (a .kept) (c27 .line-end .ensures) (c24 .keep .ensures .0) (c24 .keep .ensures .1),
         (
-          end-out (c36 .args .bytes .now) (c36 .args .line .now) (c36 .args .kept) (c27 .line-end .ensures)
-              (c24 .keep .ensures .0) (c24 .keep .ensures .1) (c21 .if1 .left) (c19 .front .ensures .0) (c36 .args .pool .now)
-              (c36 .args .scalars .now) (c36 .args .positions .now) (c36 .args .ends .now) (c36 .args .scratch .now)
-              (c36 .args .out .now) (c12 .told .ensures .1 .0),
-          end-rows (c36 .args .bytes .now) (c36 .args .line .now)
-              (c36 .args .kept) (c27 .line-end .ensures) (c24 .keep .ensures .0) (c24 .keep .ensures .1) (c21 .if1 .left)
-              (c19 .front .ensures .0) (c36 .args .pool .now) (c36 .args .scalars .now) (c36 .args .positions .now)
-              (c36 .args .ends .now) (c36 .args .scratch .now) (c36 .args .out .now) (c12 .told .ensures .1 .1),
+          end-out (a .bytes .now) (a .line .now) (a .kept) (c27 .line-end .ensures) (c24 .keep .ensures .0) (c24 .keep .ensures .1) (c21 .if1 .left) (c19 .front .ensures .0)
+              (λ (l : List ℕ). written (told l (a .pool .now) (roomIn (a .scalars .now) (a .positions .now)) (length (a .scratch .now)) (a .ends .now)) (a .out .now)) (a .out .now) (c12 .told .ensures .1 .0),
+          end-rows (a .bytes .now) (a .line .now) (a .kept) (c27 .line-end .ensures) (c24 .keep .ensures .0) (c24 .keep .ensures .1) (c21 .if1 .left) (c19 .front .ensures .0)
+              (a .pool .now) (a .scalars .now) (a .positions .now) (a .ends .now) (a .scratch .now) (c12 .told .ensures .1 .1),
         ),
       ),
     )

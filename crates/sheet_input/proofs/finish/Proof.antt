@@ -1,5 +1,7 @@
 -- Assumes nothing.
 use Rattle.utf8.specs.Decoding.{roomIn}
+use Prim.Native.Nat.{ℕ}
+use mathlib.Core.List.{List}
 use lib.ListN.{length, take}
 use Rattle.sheet_texts.specs.Texts.{written, amount}
 use Rattle.sheet_input.specs.Feeding.{told}
@@ -10,21 +12,12 @@ use Rattle.sheet_input.proofs.finish.Tie as tie
 
 returns : tie.Need-returns
 returns c =
-    let c8 = c .before .before .before .before .before .before .before .before in (
-      no-line (c8 .args .line .now) (c8 .args .kept) (c8 .args .pool .now) (c8 .args .scalars .now)
-          (c8 .args .positions .now) (c8 .args .ends .now) (c8 .args .scratch .now) (c .if1 .taken)
-          (amount (told (take (c8 .args .kept) (c8 .args .line .now)) (c8 .args .pool .now)
-          (roomIn (c8 .args .scalars .now) (c8 .args .positions .now)) (length (c8 .args .scratch .now))
-          (c8 .args .ends .now)) (c8 .args .out .now)),
+    let a = c .before .before .before .before .before .before .before .before .args in
+    let whole = take (a .kept) (a .line .now) in (
+      no-line (a .kept) (c .if1 .taken) (amount (told whole (a .pool .now) (roomIn (a .scalars .now) (a .positions .now)) (length (a .scratch .now)) (a .ends .now)) (a .out .now)),
       (
-        no-text (c8 .args .line .now) (c8 .args .kept) (c8 .args .pool .now) (c8 .args .scalars .now)
-            (c8 .args .positions .now) (c8 .args .ends .now) (c8 .args .scratch .now) (c .if1 .taken) (c8 .args .out .now)
-            (written (told (take (c8 .args .kept) (c8 .args .line .now)) (c8 .args .pool .now)
-            (roomIn (c8 .args .scalars .now) (c8 .args .positions .now)) (length (c8 .args .scratch .now))
-            (c8 .args .ends .now)) (c8 .args .out .now)),
-        no-rows (c8 .args .line .now) (c8 .args .kept) (c8 .args .pool .now)
-            (c8 .args .scalars .now) (c8 .args .positions .now) (c8 .args .ends .now) (c8 .args .scratch .now)
-            (c .if1 .taken),
+        no-text (a .kept) (c .if1 .taken) (a .out .now) (written (told whole (a .pool .now) (roomIn (a .scalars .now) (a .positions .now)) (length (a .scratch .now)) (a .ends .now)) (a .out .now)),
+        no-rows (a .kept) (c .if1 .taken) (a .line .now) (a .pool .now) (a .scalars .now) (a .positions .now) (a .ends .now) (a .scratch .now),
       ),
     )
 
@@ -57,18 +50,11 @@ returns-2 c =
     let c12 = c .before .before .before .before .before .before .before .before .before .before .before .before in
     let c19 = c12 .before .before .before .before .before .before .before in
     let c20 = c19 .before in
-    let c28 = c20 .before .before .before .before .before .before .before .before in (
-      last-size (c28 .args .line .now) (c28 .args .kept) (c28 .args .pool .now) (c28 .args .scalars .now)
-          (c28 .args .positions .now) (c28 .args .ends .now) (c28 .args .scratch .now) (c20 .if1 .left)
-          (c19 .front .ensures .0) (c28 .args .out .now) (c12 .told .ensures .0),
+    let a = c20 .before .before .before .before .before .before .before .before .args in (
+      last-size (a .line .now) (a .kept) (c20 .if1 .left) (c19 .front .ensures .0) (λ (l : List ℕ). amount (told l (a .pool .now) (roomIn (a .scalars .now) (a .positions .now)) (length (a .scratch .now)) (a .ends .now)) (a .out .now)) (c12 .told .ensures .0),
       (
-        last-out (c28 .args .line .now) (c28 .args .kept) (c28 .args .pool .now) (c28 .args .scalars .now)
-            (c28 .args .positions .now) (c28 .args .ends .now) (c28 .args .scratch .now) (c20 .if1 .left)
-            (c19 .front .ensures .0) (c28 .args .out .now) (c12 .told .ensures .1 .0),
-        last-rows (c28 .args .line .now)
-            (c28 .args .kept) (c28 .args .pool .now) (c28 .args .scalars .now) (c28 .args .positions .now)
-            (c28 .args .ends .now) (c28 .args .scratch .now) (c20 .if1 .left) (c19 .front .ensures .0)
-            (c12 .told .ensures .1 .1),
+        last-out (a .line .now) (a .kept) (c20 .if1 .left) (c19 .front .ensures .0) (λ (l : List ℕ). written (told l (a .pool .now) (roomIn (a .scalars .now) (a .positions .now)) (length (a .scratch .now)) (a .ends .now)) (a .out .now)) (a .out .now) (c12 .told .ensures .1 .0),
+        last-rows (a .line .now) (a .kept) (c20 .if1 .left) (c19 .front .ensures .0) (a .pool .now) (a .scalars .now) (a .positions .now) (a .ends .now) (a .scratch .now) (c12 .told .ensures .1 .1),
       ),
     )
 

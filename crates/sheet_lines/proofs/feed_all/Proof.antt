@@ -1,29 +1,17 @@
 -- Assumes nothing.
-use Prim.Native.Nat.{ℕ, _+_, _-_, _≤_, _<_}
+use Prim.Native.Nat.{_-_}
 use native.Mathlib.Omega.{arith}
-use mathlib.Core.Path.{_≡_, refl, ap, _∙_}
-use mathlib.Core.List.{List}
-use lib.ListN.{length, take, drop, length-drop}
-use Rattle.lists.proofs.Parts.{tail-drop}
-use Rattle.sheet_input.specs.declared.Fed.{Fed}
-use Rattle.sheet_bytes.specs.Lines.{lineEnd}
-use Rattle.sheet_input.specs.Feeding.{hasEnd, fedWith}
-use Rattle.sheet_input.proofs.Feeding.{taken-some}
+use lib.ListN.{length}
+use Rattle.sheet_input.proofs.Feeding.{moves}
 use borrow.Author.Needs.{needs}
 use Rattle.sheet_lines.proofs.feed_all.Statement.{statement}
 use Rattle.sheet_lines.proofs.feed_all.Tie as tie
 
-moves : (bytes : List ℕ) (at n k : ℕ) {r : Fed} → r ≡ fedWith (hasEnd (take (length bytes - at) (drop at bytes))) (lineEnd (take (length bytes - at) (drop at bytes))) n k → at < length bytes → (1 ≤ r .taken) × (at + r .taken ≤ length bytes)
-moves bytes at n k e h =
-    let size : length (take (length bytes - at) (drop at bytes)) ≡ length bytes - at = ap length (tail-drop bytes at) ∙ length-drop at bytes in
-    let t = taken-some (take (length bytes - at) (drop at bytes)) n k e (omega arith) in
-    (omega arith, omega arith)
-
 abbrev Inv-loop : tie.InvT-loop
-Inv-loop bytes line₀ kept pool₀ scalars₀ positions₀ ends₀ scratch₀ out₀ n₀ at₀ line pool scalars positions ends scratch out n at = Unit {0}
+Inv-loop bytes line₀ kept pool₀ scalars₀ positions₀ ends₀ scratch₀ out₀ n₀ at₀ said line pool scalars positions ends scratch out n at = Unit {0}
 
 abbrev μ-loop : tie.MeasureT-loop
-μ-loop bytes line₀ kept pool₀ scalars₀ positions₀ ends₀ scratch₀ out₀ n₀ at₀ line pool scalars positions ends scratch out n at = length bytes - at
+μ-loop bytes line₀ kept pool₀ scalars₀ positions₀ ends₀ scratch₀ out₀ n₀ at₀ said line pool scalars positions ends scratch out n at = length bytes - at
 
 loop-holds : tie.Need-loop-holds Inv-loop μ-loop
 loop-holds c = tt
@@ -43,6 +31,9 @@ step-requires c κs = search needs
 front-requires : tie.Need-front-requires Inv-loop μ-loop
 front-requires c κs = search needs
 
+slice-aggregate-write-whole : tie.Need-slice-aggregate-write-whole Inv-loop μ-loop
+slice-aggregate-write-whole c = search needs
+
 write-whole-requires : tie.Need-write-whole-requires Inv-loop μ-loop
 write-whole-requires c κs = search needs
 
@@ -51,21 +42,21 @@ returns c = search needs
 
 add-at : tie.Need-add-at Inv-loop μ-loop
 add-at c =
-    let c6 = c .before .before .before .before .before .before in
-    let c15 = c6 .before .before .before .before .before .before .before .before .before in
-    let c16 = c15 .before in
-    let c18 = c16 .before .before in
-    let m = moves (c18 .args .bytes .now) (c16 .loop .at) _ _ (c6 .step .ensures .1 .0) (c15 .loop-test .taken) in
-    let b = c18 .good in
+    let c7 = c .before .before .before .before .before .before .before in
+    let c16 = c7 .before .before .before .before .before .before .before .before .before in
+    let c17 = c16 .before in
+    let c19 = c17 .before .before in
+    let m = moves (c19 .args .bytes .now) (c17 .loop .at) _ _ (c7 .step .ensures .1 .0) (c16 .loop-test .taken) in
+    let b = c19 .good in
     omega arith
 
 loop-less : tie.Need-loop-less Inv-loop μ-loop
 loop-less c =
-    let c6 = c .before .before .before .before .before .before in
-    let c15 = c6 .before .before .before .before .before .before .before .before .before in
-    let c16 = c15 .before in
-    let c18 = c16 .before .before in
-    let m = moves (c18 .args .bytes .now) (c16 .loop .at) _ _ (c6 .step .ensures .1 .0) (c15 .loop-test .taken) in
+    let c7 = c .before .before .before .before .before .before .before in
+    let c16 = c7 .before .before .before .before .before .before .before .before .before in
+    let c17 = c16 .before in
+    let c19 = c17 .before .before in
+    let m = moves (c19 .args .bytes .now) (c17 .loop .at) _ _ (c7 .step .ensures .1 .0) (c16 .loop-test .taken) in
     omega arith
 
 loop-again : tie.Need-loop-again Inv-loop μ-loop
@@ -86,6 +77,7 @@ feed-all-spec =
     part-step-end
     step-requires
     front-requires
+    slice-aggregate-write-whole
     write-whole-requires
     returns
     add-at

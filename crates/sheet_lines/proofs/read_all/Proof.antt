@@ -6,10 +6,10 @@ use Rattle.sheet_lines.proofs.read_all.Statement.{statement}
 use Rattle.sheet_lines.proofs.read_all.Tie as tie
 
 abbrev Inv-loop : tie.InvT-loop
-Inv-loop line₀ pool₀ scalars₀ positions₀ ends₀ scratch₀ out₀ buffer₀ kept₀ turns₀ line pool scalars positions ends scratch out buffer kept turns = 65536 ≡ length buffer
+Inv-loop line₀ pool₀ scalars₀ positions₀ ends₀ scratch₀ out₀ buffer₀ kept₀ turns₀ said line pool scalars positions ends scratch out buffer kept turns = 65536 ≡ length buffer
 
 abbrev μ-loop : tie.MeasureT-loop
-μ-loop line₀ pool₀ scalars₀ positions₀ ends₀ scratch₀ out₀ buffer₀ kept₀ turns₀ line pool scalars positions ends scratch out buffer kept turns = turns
+μ-loop line₀ pool₀ scalars₀ positions₀ ends₀ scratch₀ out₀ buffer₀ kept₀ turns₀ said line pool scalars positions ends scratch out buffer kept turns = turns
 
 large-buffer-requires : tie.Need-large-buffer-requires Inv-loop μ-loop
 large-buffer-requires c κs = search needs
@@ -19,6 +19,9 @@ loop-holds c = c .large-buffer .ensures
 
 slice-aggregate-read-some : tie.Need-slice-aggregate-read-some Inv-loop μ-loop
 slice-aggregate-read-some c = search needs
+
+slice-aggregate-read-some-2 : tie.Need-slice-aggregate-read-some-2 Inv-loop μ-loop
+slice-aggregate-read-some-2 c = search needs
 
 read-some-requires : tie.Need-read-some-requires Inv-loop μ-loop
 read-some-requires c κs = search needs
@@ -74,6 +77,7 @@ read-all-spec =
     large-buffer-requires
     loop-holds
     slice-aggregate-read-some
+    slice-aggregate-read-some-2
     read-some-requires
     enum-known-got
     enum-told

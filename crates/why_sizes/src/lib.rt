@@ -1,0 +1,1 @@
+// How long what is told for a line can be: the laws of proofs/.
