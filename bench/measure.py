@@ -154,7 +154,7 @@ def measure_rows():
     wanted += [("ours", ("check", texts, words)) for texts, words in FIRSTS]
     wanted += [("ours", ("winners", texts, "small")) for texts in (LINES, LONG)]
     wanted += [("ours", ("sheet", texts, words)) for words in ("small", "all") for texts in (LINES, LONG)]
-    wanted += [("ours", (op, LONG, words)) for words in ("small", "all") for op in ("cut", "reasons", "claim", "map", "next", "next-bare")]
+    wanted += [("ours", (op, LONG, words)) for words in ("small", "all") for op in ("cut", "reasons", "feed", "claim", "map", "next", "next-bare")]
     if os.path.exists(DRIVERS["before"]):
         wanted += [("before", (op, LONG, "all")) for op in ("places", "check")]
     times = rounds(wanted)

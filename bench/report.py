@@ -191,12 +191,17 @@ def of_case(r, case, words):
     return {row["n"]: row for row in r.growth if (row["case"], row["words"]) == (case, words)}
 
 
-def against_cut(r, op):
-    """A call on the long text against the plain cut, both on scalars and without the check of the pool."""
-    head = ["words", "cut, ns", "instr.", op + ", ns", "instr.", op + " / cut", "by instr."]
+def unchecked(r, op, words):
+    """A call on the long text without the check of the pool, by time and by instructions."""
+    return [of("ours", op, LONG, words) - of("ours", "check", LONG, words) for of in (r.time, r.count)]
+
+
+def against(r, op, base="cut"):
+    """A call on the long text against another, both on scalars and without the check of the pool."""
+    head = ["words", base + ", ns", "instr.", op + ", ns", "instr.", "%s / %s" % (op, base), "by instr."]
     per, rows = r.sizes[LONG]["characters"], []
     for words in ("small", "all"):
-        costs = [[of("ours", x, LONG, words) - of("ours", "check", LONG, words) for of in (r.time, r.count)] for x in ("cut", op)]
+        costs = [unchecked(r, x, words) for x in (base, op)]
         shown = [ns(x / per) for cost in costs for x in cost]
         rows.append([r.words(words)] + shown + ["%.2f" % (costs[1][k] / costs[0][k]) for k in (0, 1)])
     return table(head, rows)
@@ -292,6 +297,14 @@ def verdict(asked, by_time, by_count, both):
     return "missed by instructions" if both and by_count > asked else "met"
 
 
+# A call, the one that it is held against, and how much it may take of that.
+AGAINST = (
+    ("claim", "cut", "a claim of our own ends against the plain cut", 1),
+    ("reasons", "cut", "the cut with reasons against the plain cut", 1.5),
+    ("feed", "reasons", "a text fed to release figures against the cut with reasons", 1.03),
+)
+
+
 def limits(r):
     """Each target that is an upper end."""
 
@@ -316,9 +329,9 @@ def limits(r):
     for words in ("all", "small"):
         ratios = [of("ours", "sheet", LONG, words) / of("ours", "safe", LONG, words) for of in (r.time, r.count)]
         yield row("the profile sheet against safe mode, one long text, %s words" % r.words(words), 1.05, ratios)
-        for op, name, limit in (("claim", "a claim of our own ends", 1), ("reasons", "the cut with reasons", 1.5)):
-            ratios = [(of("ours", op, LONG, words) - of("ours", "check", LONG, words)) / (of("ours", "cut", LONG, words) - of("ours", "check", LONG, words)) for of in (r.time, r.count)]
-            yield row("%s against the plain cut, the check left out, %s words" % (name, r.words(words)), limit, ratios)
+        for op, base, name, limit in AGAINST:
+            ratios = [x / y for x, y in zip(unchecked(r, op, words), unchecked(r, base, words))]
+            yield row("%s, the check left out, %s words" % (name, r.words(words)), limit, ratios)
         name = "the map of a text's ends against its plain cut, the check left out, %s words" % r.words(words)
         yield row(name, 0.05, map_of_ends(r, words))
         took = a_break(r, "next", words)[0]
@@ -361,8 +374,9 @@ def sections(r):
     yield "## The three modes", modes(r)
     yield "## libthai and ICU", others(r)
     yield "## The check of the pool", ["Refusal 4 costs one check in every call that is lent a pool.", "", *pools(r)]
-    yield "## The cut with reasons", against_cut(r, "reasons")
-    yield "## Checking a claim", [*against_cut(r, "claim"), "", "Instructions a character, the check of the pool included:", "", *claims_grown(r)]
+    yield "## The cut with reasons", against(r, "reasons")
+    yield "## Release figures", against(r, "feed", "reasons")
+    yield "## Checking a claim", [*against(r, "claim"), "", "Instructions a character, the check of the pool included:", "", *claims_grown(r)]
     yield "## Maps of breaks", ["Of the long text. A next break is a call from each break to the one behind it.", "", *maps(r)]
     yield "## Loading and memory", ["Ours adds the words one by one. The pool is as long as its nodes need.", "", *memory(r)]
     yield "## Growth", ["![cost a character against the text's length](cost.svg)", "", *growth(r)]

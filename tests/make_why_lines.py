@@ -56,14 +56,22 @@ def label():
     return run("plain", words, text, reasons("plain", text, set(words), ends, tables(read())))
 
 
+def spelled(field):
+    return "".join(map(chr, vectors.parsed_cells(field)))
+
+
+def held(field):
+    """The words of a field."""
+    return [spelled(word.split(":")[0]) for word in field.split(",")] if field != "-" else []
+
+
 def vector_runs():
     for fields, expected in vectors.read("reasons.txt", ["reasons"]) + vectors.read("rust_reasons.txt", ["reasons"]):
         _, mode, words, text, _, _ = fields
         if expected.startswith("ok"):
             given = expected.split()[1]
             pairs = [tuple(map(int, pair.split(":"))) for pair in given.split(",")] if given != "-" else []
-            held = ["".join(map(chr, vectors.parsed_cells(word.split(":")[0]))) for word in words.split(",")] if words != "-" else []
-            found = run(mode, held, "".join(map(chr, vectors.parsed_cells(text))), pairs)
+            found = run(mode, held(words), spelled(text), pairs)
             if found:
                 yield found
 
@@ -120,4 +128,5 @@ def main():
     print("why_lines: %d lines, the longest reply has %d bytes" % (len(lines), longest))
 
 
-main()
+if __name__ == "__main__":
+    main()

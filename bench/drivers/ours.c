@@ -17,6 +17,7 @@ size_t search_places(const uint32_t *pool, size_t pool_len, const uint32_t *text
 #pragma weak fetlockice_check_claim
 #pragma weak fetlockice_cut_many_plain
 #pragma weak fetlockice_reasons_plain
+#pragma weak fetlockice_feed_plain
 #pragma weak fetlockice_break_map
 #pragma weak fetlockice_next_break
 
@@ -32,6 +33,7 @@ enum op {
     BATCH,
     CUT,
     REASONS,
+    FEED,
     CLAIM,
     MAP,
     NEXT,
@@ -41,9 +43,9 @@ enum op {
     READ,
     READ_WIDE
 };
-static const char *const names[] = {"decode",    "clusters", "winners", "prefix",  "places", "plain", "safe",
-                                    "sheet",     "batch",    "cut",     "reasons", "claim",  "map",   "next",
-                                    "next-bare", "check",    "edit",    "read",    "read-wide"};
+static const char *const names[] = {"decode", "clusters",  "winners", "prefix",  "places", "plain", "safe",
+                                    "sheet",  "batch",     "cut",     "reasons", "feed",   "claim", "map",
+                                    "next",   "next-bare", "check",   "edit",    "read",   "read-wide"};
 
 static enum op op;
 static uint32_t *pool, *out, *won, *scratch, *cells, *positions, *text_ends, *told, **scalars, **ends;
@@ -103,6 +105,15 @@ static size_t reasons(size_t i) {
     size_t n = lengths[i], count, edges, detail;
     accepted(fetlockice_reasons_plain(scalars[i], n, pool, pool_len, out, 2 * n, scratch, FETLOCKICE_SCRATCH_CELLS(n), &count,
                                       &edges, &detail));
+    return 2 * count;
+}
+
+/* The same with release figures beside it. */
+static size_t feed(size_t i) {
+    static uint64_t figures[FETLOCKICE_FIGURES];
+    size_t n = lengths[i], count, edges, detail;
+    accepted(fetlockice_feed_plain(figures, scalars[i], n, pool, pool_len, out, 2 * n, scratch, FETLOCKICE_SCRATCH_CELLS(n),
+                                   &count, &edges, &detail));
     return 2 * count;
 }
 
@@ -194,6 +205,7 @@ static size_t answer(size_t i) {
     case BATCH: return batch();
     case CUT: return cut_scalars(i, out);
     case REASONS: return reasons(i);
+    case FEED: return feed(i);
     case CLAIM: return claim(i);
     case MAP: return map(i);
     case NEXT:

@@ -5,6 +5,8 @@
     const uint32_t *text, size_t n, const uint32_t *pool, size_t cells, uint32_t *out, size_t room, uint32_t *scratch, \
         size_t len, size_t *count, size_t *edges, size_t *detail
 #define CUT_WITH text, n, pool, cells, out, room, scratch, len, count, edges, detail
+#define FEED uint64_t *figures, CUT
+#define FEED_WITH figures, CUT_WITH
 #define CLAIM                                                                                                          \
     const uint32_t *text, size_t n, const uint32_t *pool, size_t cells, const uint32_t *claim, size_t ends,            \
         uint32_t *scratch, size_t len, size_t *right, size_t *token, size_t *detail
@@ -36,6 +38,11 @@ uint32_t __real_fetlockice_cut_sheet(CUT);
 uint32_t __real_fetlockice_reasons_plain(CUT);
 uint32_t __real_fetlockice_reasons_safe(CUT);
 uint32_t __real_fetlockice_reasons_sheet(CUT);
+uint32_t __real_fetlockice_feed_plain(FEED);
+uint32_t __real_fetlockice_feed_safe(FEED);
+uint32_t __real_fetlockice_feed_sheet(FEED);
+uint32_t __real_fetlockice_feed_refused(uint64_t *, uint32_t, size_t *);
+uint32_t __real_fetlockice_join_figures(uint64_t *, const uint64_t *, size_t *);
 uint32_t __real_fetlockice_check_claim(CLAIM);
 uint32_t __real_fetlockice_cut_many_plain(MANY);
 uint32_t __real_fetlockice_cut_many_safe(MANY);
@@ -271,4 +278,59 @@ uint32_t __wrap_fetlockice_reasons_safe(CUT) {
 uint32_t __wrap_fetlockice_reasons_sheet(CUT) {
     if (FAULT == 50) return __real_fetlockice_reasons_safe(CUT_WITH);
     return __real_fetlockice_reasons_sheet(CUT_WITH);
+}
+
+/* 51: a refused text adds its characters; 52: tokens that are skipped to a word count as skipped to a run */
+uint32_t __wrap_fetlockice_feed_plain(FEED) {
+    uint64_t to_word = figures[FETLOCKICE_TOKENS_TO_WORD];
+    uint32_t number = __real_fetlockice_feed_plain(FEED_WITH);
+    if (FAULT == 51 && number >= 2 && number <= 6) figures[FETLOCKICE_CHARACTERS] += n;
+    if (FAULT == 52 && number == 0) {
+        figures[FETLOCKICE_TOKENS_TO_NON_THAI] += figures[FETLOCKICE_TOKENS_TO_WORD] - to_word;
+        figures[FETLOCKICE_TOKENS_TO_WORD] = to_word;
+    }
+    return number;
+}
+
+/* 53: the most edges are a sum; 54: the pairs are written before the figures are looked at */
+uint32_t __wrap_fetlockice_feed_safe(FEED) {
+    uint64_t most = figures[FETLOCKICE_MOST_EDGES];
+    uint32_t number = __real_fetlockice_feed_safe(FEED_WITH);
+    if (FAULT == 53 && number == 0) figures[FETLOCKICE_MOST_EDGES] = most + *edges;
+    if (FAULT == 54 && number == FETLOCKICE_FIGURES_FULL) {
+        __real_fetlockice_reasons_safe(CUT_WITH);
+        *count = *edges = *detail = 0;
+    }
+    return number;
+}
+
+/* 55: the profile "sheet" is safe mode; 56: scratch is cleared where 13 is given before 2 to 5 */
+uint32_t __wrap_fetlockice_feed_sheet(FEED) {
+    if (FAULT == 55) return __real_fetlockice_feed_safe(FEED_WITH);
+    uint32_t number = __real_fetlockice_feed_sheet(FEED_WITH);
+    for (size_t i = 0; FAULT == 56 && number == FETLOCKICE_FIGURES_FULL && i < len; i++) scratch[i] = 0;
+    return number;
+}
+
+/* 57: a number that is no text's counts a text; 58: one text more than the most is counted */
+uint32_t __wrap_fetlockice_feed_refused(uint64_t *figures, uint32_t refused, size_t *detail) {
+    uint32_t number = __real_fetlockice_feed_refused(figures, refused, detail);
+    if (FAULT == 57 && (refused < 1 || refused > 6)) figures[FETLOCKICE_TEXTS]++;
+    if (FAULT == 58 && number == FETLOCKICE_FIGURES_FULL && figures[FETLOCKICE_TEXTS] == UINT32_MAX) {
+        figures[FETLOCKICE_TEXTS]++;
+        return 0;
+    }
+    return number;
+}
+
+/* 59: texts refused with 6 are left out; 60: the most edges are those of the batch; 61: what comes before the figure that
+ * is full is joined */
+uint32_t __wrap_fetlockice_join_figures(uint64_t *figures, const uint64_t *more, size_t *detail) {
+    uint64_t last = figures[FETLOCKICE_REFUSED_OUTPUT_TOO_SHORT];
+    uint32_t number = __real_fetlockice_join_figures(figures, more, detail);
+    if (FAULT == 59 && number == 0) figures[FETLOCKICE_REFUSED_OUTPUT_TOO_SHORT] = last;
+    if (FAULT == 60 && number == 0) figures[FETLOCKICE_MOST_EDGES] = more[FETLOCKICE_MOST_EDGES];
+    if (FAULT == 61 && number != 0 && figures[FETLOCKICE_TEXTS] + more[FETLOCKICE_TEXTS] <= UINT32_MAX)
+        figures[FETLOCKICE_TEXTS] += more[FETLOCKICE_TEXTS];
+    return number;
 }

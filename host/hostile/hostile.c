@@ -2,6 +2,7 @@
  * answer to the rules. The first thing that isn't as it must be ends the run. */
 #include "calls.h"
 #include "clusters.h"
+#include "figures.h"
 #include "inputs.h"
 #include "many.h"
 #include "maps.h"
@@ -303,8 +304,8 @@ int main(int argc, char **argv) {
     while (calls < most) {
         alarm(300);
         for (size_t k = 0; k < 100 && calls < most; k++) {
-            size_t which = below(OPS + 3);
-            which < OPS ? step() : which == OPS ? many_step() : map_step();
+            size_t which = below(OPS + 5);
+            which < OPS ? step() : which == OPS ? many_step() : which < OPS + 3 ? map_step() : figure_step();
         }
     }
     printf("hostile: calls of each function:");
@@ -313,7 +314,9 @@ int main(int argc, char **argv) {
     for (size_t i = 0; i < MODES; i++) printf(" %lu", many_calls[i]);
     printf(", %lu of them refused, of maps:", many_refused);
     for (size_t i = 0; i < MAP_OPS; i++) printf(" %lu", map_calls[i]);
-    printf(", %lu of them refused", map_refused);
+    printf(", %lu of them refused, of figures:", map_refused);
+    for (size_t i = 0; i < FIGURE_OPS; i++) printf(" %lu", figure_calls[i]);
+    printf(", %lu of them full", figures_full);
     printf("\nhostile: answers 0 to 8:");
     for (size_t i = 0; i < 9; i++) printf(" %lu", answers[i]);
     printf("\nhostile: %lu calls, no error\n", calls);

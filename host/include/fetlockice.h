@@ -14,14 +14,15 @@
  * Lent memory. A row that a call takes as const is only read. A refused call changes no output and no pool. An
  * accepted one writes the first *count cells of the output, and *count + 1 of the positions, and keeps the rest. Scratch
  * is untouched after refusals 2 to 5, and all zero after refusal 6 and after an accepted call, every lent cell of it; on
- * entry it may hold anything. What a cut with reasons and one of many texts write stands at their declarations. Nothing
- * is kept from one call to the next, nothing is allocated and nothing is freed.
+ * entry it may hold anything. What a cut with reasons, one of many texts and release figures write stands at their
+ * declarations. Nothing is kept from one call to the next, nothing is allocated and nothing is freed.
  *
  * THE CALLER'S DUTIES. Everything else about the contents is the library's to answer.
  *
  *   1. A row is a pointer and, straight behind it, its length in elements: bytes for const uint8_t *, cells for
- *      uint32_t * and uint64_t *. That many are there, and may be read, and written where the row isn't const. Const
- *      rows and the pools of add and remove hold values; outputs, scratch and the pool of fresh may hold anything.
+ *      uint32_t * and uint64_t *. That many are there, and may be read, and written where the row isn't const. Figures
+ *      have no length behind them: they are FETLOCKICE_FIGURES cells. Const rows, figures and the pools of add and
+ *      remove hold values; outputs, scratch and the pool of fresh may hold anything.
  *   2. No pointer is NULL, also where the length is 0. Rows of cells and size_t numbers are aligned as C aligns them.
  *   3. A row or number that a call may write overlaps no other row or number of that call. Two const rows may overlap.
  *   4. While a call runs, no other thread writes what it was lent, or reads what it may write. So calls on different
@@ -56,8 +57,8 @@ extern "C" {
 #define FETLOCKICE_MAX_NODES 1048576
 
 /* The bytes of stack that a call takes at most. Measured on x86-64, over hostile and deepest inputs: fetlockice_remove
- * 32,840, as it goes down a word of 255 scalars by recursion; fetlockice_winners 3,648, fetlockice_decode 1,496, the
- * others under 1,100. */
+ * 32,856, as it goes down a word of 255 scalars by recursion; fetlockice_winners 3,648, fetlockice_decode 1,496, those
+ * that feed release figures 1,256, the others under 1,100. */
 #define FETLOCKICE_MAX_STACK 98304
 
 /* The scratch cells that a call on a text of n scalars asks for. */
@@ -69,7 +70,11 @@ extern "C" {
 /* The cells of a map of breaks over the positions 0 to n, 64 to a cell. */
 #define FETLOCKICE_MAP_CELLS(n) ((size_t)(n) / 64 + 1)
 
-/* What a call answers. The lowest number that applies to the call is given; a cut of many texts gives 10 before 6. */
+/* The cells of release figures. */
+#define FETLOCKICE_FIGURES 16
+
+/* What a call answers. The lowest number that applies to the call is given; a cut of many texts gives 10 before 6, and
+ * calls with release figures 13 before all others. */
 enum fetlockice_answer {
     FETLOCKICE_ACCEPTED = 0,
     FETLOCKICE_ILL_FORMED = 1,        /* the bytes aren't well-formed UTF-8; length of the longest well-formed prefix */
@@ -82,7 +87,8 @@ enum fetlockice_answer {
     FETLOCKICE_WORD_TOO_LONG = 7,     /* the word is over 255 scalars after trimming; its trimmed length */
     FETLOCKICE_TOO_FEW_NODES = 8,     /* the pool has too few free nodes; the nodes missing */
     FETLOCKICE_WRONG_POSITION = 10,   /* a position is wrong; it, or its index where it is one of a list */
-    FETLOCKICE_BIT_ABOVE_END = 11     /* a map has a bit set above n in its last used cell; the lowest such position */
+    FETLOCKICE_BIT_ABOVE_END = 11,    /* a map has a bit set above n in its last used cell; the lowest such position */
+    FETLOCKICE_FIGURES_FULL = 13      /* a release figure would be too large; 0 */
 };
 
 /* Writes the scalars of UTF-8 bytes, and to positions where each of them starts, in bytes, and behind these the number
@@ -222,6 +228,55 @@ static inline uint32_t fetlockice_records_sheet(const uint32_t *text, size_t tex
     return fetlockice_reasons_sheet(text, text_len, pool, pool_len, (uint32_t *)records, 2 * records_len, scratch,
                                     scratch_len, count, edges, detail);
 }
+
+/* Release figures: over all texts fed so far. Zeros are the figures of no text; any other numbers may be handed in. */
+enum fetlockice_figure {
+    FETLOCKICE_TEXTS = 0,               /* texts, the refused ones too; at most 4,294,967,295 */
+    FETLOCKICE_CHARACTERS = 1,          /* characters of the texts that were cut */
+    FETLOCKICE_TOKENS = 2,              /* tokens, and of these */
+    FETLOCKICE_TOKENS_WORD = 3,         /* those by each reason of enum fetlockice_reason, at 2 + reason */
+    FETLOCKICE_TOKENS_NON_THAI = 4,
+    FETLOCKICE_TOKENS_TO_WORD = 5,
+    FETLOCKICE_TOKENS_TO_NON_THAI = 6,
+    FETLOCKICE_TOKENS_TO_END = 7,
+    FETLOCKICE_EDGES = 8,               /* edges recorded */
+    FETLOCKICE_MOST_EDGES = 9,          /* the most edges in one text */
+    FETLOCKICE_REFUSED_ILL_FORMED = 10, /* texts refused with 1 to 6, at 9 + number */
+    FETLOCKICE_REFUSED_TOO_MANY_SCALARS = 11,
+    FETLOCKICE_REFUSED_NOT_A_SCALAR = 12,
+    FETLOCKICE_REFUSED_NOT_A_DICTIONARY = 13,
+    FETLOCKICE_REFUSED_SCRATCH_TOO_SHORT = 14,
+    FETLOCKICE_REFUSED_OUTPUT_TOO_SHORT = 15
+};
+
+/* Feeds a text: fetlockice_reasons_plain, with the figures beside it. What it answers and writes is what that call does,
+ * and the figures count the text: one of texts, its characters, its tokens by reason and its edges; of a text that is
+ * refused with 2 to 6 one of texts and one of that refusal, and nothing else. Refusal 13, before all others: texts
+ * would pass 4,294,967,295, or another figure 64 bits, which happens only to figures that no run from zeros gives. Then
+ * the figures and pairs are as they were, and scratch is as the call would else leave it. Refusals 13, 2, 3, 4, 5, 6. */
+uint32_t fetlockice_feed_plain(uint64_t *figures, const uint32_t *text, size_t text_len, const uint32_t *pool,
+                               size_t pool_len, uint32_t *pairs, size_t pairs_len, uint32_t *scratch,
+                               size_t scratch_len, size_t *count, size_t *edges, size_t *detail);
+
+/* The same in safe mode. */
+uint32_t fetlockice_feed_safe(uint64_t *figures, const uint32_t *text, size_t text_len, const uint32_t *pool,
+                              size_t pool_len, uint32_t *pairs, size_t pairs_len, uint32_t *scratch,
+                              size_t scratch_len, size_t *count, size_t *edges, size_t *detail);
+
+/* The same by the profile "sheet". */
+uint32_t fetlockice_feed_sheet(uint64_t *figures, const uint32_t *text, size_t text_len, const uint32_t *pool,
+                               size_t pool_len, uint32_t *pairs, size_t pairs_len, uint32_t *scratch,
+                               size_t scratch_len, size_t *count, size_t *edges, size_t *detail);
+
+/* Counts a text that was refused before it could be fed, by the number of its refusal, 1 to 6: one of texts and one of
+ * that refusal. What fetlockice_decode refuses reaches the figures only so. Any other number is no text's: it changes
+ * nothing, and is accepted. Refusal 13; the figures are then as they were. */
+uint32_t fetlockice_feed_refused(uint64_t *figures, uint32_t number, size_t *detail);
+
+/* Joins the figures of another batch: of the most edges the larger, of all others the sum. They are then those of both
+ * batches run as one, in either order. Refusal 13, where a figure of both would pass its limit; the figures are then as
+ * they were. */
+uint32_t fetlockice_join_figures(uint64_t *figures, const uint64_t *more, size_t *detail);
 
 /* Checks ends that another program gives for the plain cut of the text, by the words of the pool. The claim is right
  * exactly if its ends rise strictly to the length, and each token either is a word of the pool that ends at a cluster

@@ -20,7 +20,7 @@ static uint32_t pool[CELLS], text[LONG + 1], word[1024], out[2 * LONG + 2], posi
     claim[LONG + 1];
 static uint32_t scratch[FETLOCKICE_SCRATCH_CELLS(LONG)];
 static uint32_t text_ends[TEXTS], answers[FETLOCKICE_ANSWER_CELLS * TEXTS];
-static uint64_t map[FETLOCKICE_MAP_CELLS(LONG)];
+static uint64_t map[FETLOCKICE_MAP_CELLS(LONG)], figures[FETLOCKICE_FIGURES], batch[FETLOCKICE_FIGURES];
 static size_t map_len, position;
 static size_t bytes_len, pool_len, text_len, word_len, out_len, claim_len, scratch_len, answers_len;
 static size_t count, word_class, edges, detail;
@@ -61,6 +61,21 @@ static void reasons_sheet(void) {
                              &detail);
 }
 
+static void feed_plain(void) {
+    fetlockice_feed_plain(figures, text, text_len, pool, pool_len, out, 2 * out_len, scratch, scratch_len, &count,
+                          &edges, &detail);
+}
+static void feed_safe(void) {
+    fetlockice_feed_safe(figures, text, text_len, pool, pool_len, out, 2 * out_len, scratch, scratch_len, &count,
+                         &edges, &detail);
+}
+static void feed_sheet(void) {
+    fetlockice_feed_sheet(figures, text, text_len, pool, pool_len, out, 2 * out_len, scratch, scratch_len, &count,
+                          &edges, &detail);
+}
+static void feed_refused(void) { fetlockice_feed_refused(figures, (uint32_t)position, &detail); }
+static void join_figures(void) { fetlockice_join_figures(figures, batch, &detail); }
+
 static void judge(void) {
     fetlockice_check_claim(text, text_len, pool, pool_len, claim, claim_len, scratch, scratch_len, &count, &edges,
                            &detail);
@@ -83,16 +98,17 @@ static void breaks(void) { fetlockice_break_map(text_len, claim, claim_len, map,
 static void up_to(void) { fetlockice_breaks_up_to(text_len, map, map_len, position, &count, &detail); }
 static void next(void) { fetlockice_next_break(text_len, map, map_len, position, &count, &edges, &detail); }
 
-static void (*const calls[])(void) = {
-    decode,   end_in_bytes, clusters,  winners,    fresh,  add,   add_class,     drop,         contains,
-    class_of, lengths,      words,     plain,      safe,   sheet, reasons_plain, reasons_safe, reasons_sheet,
-    judge,    many_plain,   many_safe, many_sheet, breaks, up_to, next};
+static void (*const calls[])(void) = {decode,     end_in_bytes, clusters,   winners,       fresh,        add,
+                                      add_class,  drop,         contains,   class_of,      lengths,      words,
+                                      plain,      safe,         sheet,      reasons_plain, reasons_safe, reasons_sheet,
+                                      feed_plain, feed_safe,    feed_sheet, feed_refused,  join_figures, judge,
+                                      many_plain, many_safe,    many_sheet, breaks,        up_to,        next};
 static const char *const names[] = {
-    "decode",      "end_in_bytes",   "clusters",      "winners",        "fresh",          "add",
-    "add_class",   "remove",         "contains",      "contains_class", "prefix_lengths", "word_count",
-    "cut_plain",   "cut_safe",       "cut_sheet",     "reasons_plain",  "reasons_safe",   "reasons_sheet",
-    "check_claim", "cut_many_plain", "cut_many_safe", "cut_many_sheet", "break_map",      "breaks_up_to",
-    "next_break"};
+    "decode",         "end_in_bytes",  "clusters",       "winners",        "fresh",          "add",
+    "add_class",      "remove",        "contains",       "contains_class", "prefix_lengths", "word_count",
+    "cut_plain",      "cut_safe",      "cut_sheet",      "reasons_plain",  "reasons_safe",   "reasons_sheet",
+    "feed_plain",     "feed_safe",     "feed_sheet",     "feed_refused",   "join_figures",   "check_claim",
+    "cut_many_plain", "cut_many_safe", "cut_many_sheet", "break_map",      "breaks_up_to",   "next_break"};
 enum {
     DECODE,
     END_IN_BYTES,
@@ -112,6 +128,11 @@ enum {
     REASONS_PLAIN,
     REASONS_SAFE,
     REASONS_SHEET,
+    FEED_PLAIN,
+    FEED_SAFE,
+    FEED_SHEET,
+    FEED_REFUSED,
+    JOIN_FIGURES,
     CHECK_CLAIM,
     CUT_MANY_PLAIN,
     CUT_MANY_SAFE,
@@ -196,6 +217,16 @@ static void claims(void) {
     make(BREAK_MAP);
 }
 
+/* The text fed, a refused one counted, and a batch joined; now and then figures that are full. */
+static void releases(void) {
+    make(FEED_SAFE), make(FEED_SHEET), make(FEED_PLAIN);
+    position = draw(8);
+    make(FEED_REFUSED);
+    memcpy(batch, figures, sizeof batch);
+    make(JOIN_FIGURES);
+    figures[draw(FETLOCKICE_FIGURES)] = draw(2) ? UINT64_MAX : draw(1000);
+}
+
 /* The text in parts, one of them nearly all of it, and now and then with ends that are wrong. */
 static void part(size_t len) {
     for (size_t i = 0; i < TEXTS; i++)
@@ -217,6 +248,7 @@ static void on_texts(size_t len) {
         if (scratch_len > FETLOCKICE_SCRATCH_CELLS(LONG)) scratch_len = FETLOCKICE_SCRATCH_CELLS(LONG);
         make(CLUSTERS), make(WINNERS), make(PREFIX_LENGTHS);
         make(REASONS_SAFE), make(REASONS_SHEET), make(REASONS_PLAIN);
+        releases();
         make(CUT_SAFE), make(CUT_SHEET), make(CUT_PLAIN);
         claims();
         part(len);

@@ -2,6 +2,7 @@
 // the same name in a host_ crate, and has that function's contract. No struct crosses.
 mod claims;
 mod cuts;
+mod figures;
 mod many;
 mod maps;
 mod reasons;
@@ -12,6 +13,11 @@ pub use claims::fetlockice_check_claim;
 pub use cuts::fetlockice_cut_plain;
 pub use cuts::fetlockice_cut_safe;
 pub use cuts::fetlockice_cut_sheet;
+pub use figures::fetlockice_feed_plain;
+pub use figures::fetlockice_feed_refused;
+pub use figures::fetlockice_feed_safe;
+pub use figures::fetlockice_feed_sheet;
+pub use figures::fetlockice_join_figures;
 pub use many::fetlockice_cut_many_plain;
 pub use many::fetlockice_cut_many_safe;
 pub use many::fetlockice_cut_many_sheet;

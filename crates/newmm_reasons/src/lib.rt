@@ -15,7 +15,7 @@ ghost use Rattle.newmm_reasons_answers.specs.Calls.{Reasons};
 ghost use Rattle.newmm_reasons_answers.specs.inner.Cells.{unpacked};
 
 // The ends and reasons of the first k cells, at the front of the output.
-fn put_pairs(cells: &[u32], out: &mut [u32], k: usize)
+pub fn put_pairs(cells: &[u32], out: &mut [u32], k: usize)
     requires { ⌜ (k ≤ length (now cells)) × (2 * k ≤ length (now out)) ⌝ }
     ensures { λ _. ⌜ now (out .exit) ≡ unpacked (take k (now (cells .entry))) ++ drop (2 * k) (now (out .entry)) ⌝ }
 {

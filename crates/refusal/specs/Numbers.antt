@@ -3,7 +3,7 @@ use Prim.Native.Nat.{ℕ}
 use Rattle.refusal.specs.declared.Refusal.{Refusal}
 use Rattle.refusal.specs.declared.Refusal.the-variants.{IllFormed, TooManyScalars, NotAScalar, NotADictionary}
 use Rattle.refusal.specs.declared.Refusal.the-variants.{ScratchTooShort, OutputTooShort, WordTooLong, TooFewNodes}
-use Rattle.refusal.specs.declared.Refusal.the-variants.{WrongPosition, BitAboveEnd}
+use Rattle.refusal.specs.declared.Refusal.the-variants.{WrongPosition, BitAboveEnd, FiguresFull}
 
 abbrev pub numberOf : Refusal → ℕ
 numberOf (IllFormed d) = 1
@@ -16,6 +16,7 @@ numberOf (WordTooLong d) = 7
 numberOf (TooFewNodes d) = 8
 numberOf (WrongPosition d) = 10
 numberOf (BitAboveEnd d) = 11
+numberOf FiguresFull = 13
 
 abbrev pub detailOf : Refusal → ℕ
 detailOf (IllFormed d) = d
@@ -28,3 +29,4 @@ detailOf (WordTooLong d) = d
 detailOf (TooFewNodes d) = d
 detailOf (WrongPosition d) = d
 detailOf (BitAboveEnd d) = d
+detailOf FiguresFull = 0

@@ -27,6 +27,8 @@ pub enum Refusal {
     WrongPosition(usize),
     // 11: a map of breaks has a bit set above n in its last used cell. The lowest such position.
     BitAboveEnd(usize),
+    // 13: a figure would be too large.
+    FiguresFull,
 }
 
 // What an operation answers whose accepted answer is one number.
@@ -50,6 +52,7 @@ pub fn number(r: Refusal) -> u8
         Refusal::TooFewNodes(_) => 8,
         Refusal::WrongPosition(_) => 10,
         Refusal::BitAboveEnd(_) => 11,
+        Refusal::FiguresFull => 13,
     }
 }
 
@@ -68,5 +71,6 @@ pub fn detail(r: Refusal) -> usize
         Refusal::TooFewNodes(d) => d,
         Refusal::WrongPosition(d) => d,
         Refusal::BitAboveEnd(d) => d,
+        Refusal::FiguresFull => 0,
     }
 }

@@ -18,3 +18,4 @@ pub mod ManyAlone
 pub mod Maps
 pub mod InBytes
 pub mod Reasons
+pub mod Figures

@@ -7,7 +7,7 @@ use lib.ListN.{length, getD, take, drop, replicate, length-drop}
 use lib.Seq.{take-take}
 use Rattle.refusal.specs.declared.Refusal.{Refusal}
 use Rattle.refusal.specs.declared.Refusal.the-variants.{IllFormed, TooManyScalars, NotAScalar, NotADictionary, ScratchTooShort}
-use Rattle.refusal.specs.declared.Refusal.the-variants.{OutputTooShort, WordTooLong, TooFewNodes, WrongPosition, BitAboveEnd}
+use Rattle.refusal.specs.declared.Refusal.the-variants.{OutputTooShort, WordTooLong, TooFewNodes, WrongPosition, BitAboveEnd, FiguresFull}
 use Rattle.refusal.specs.declared.Answer.{Answer}
 use Rattle.refusal.specs.declared.Answer.the-variants.{Accepted}
 use Rattle.refusal.specs.Numbers.{numberOf}
@@ -95,6 +95,7 @@ some-number (WordTooLong d) e = omega arith
 some-number (TooFewNodes d) e = omega arith
 some-number (WrongPosition d) e = omega arith
 some-number (BitAboveEnd d) e = omega arith
+some-number FiguresFull e = omega arith
 
 -- number 0 is told of an accepted text alone
 pub cells-ends : (a : CutAnswer) (k edges : ℕ) → cellsOf a ≡ 0 ∷ k ∷ edges ∷ 0 ∷ [] → a ≡ Ends k edges

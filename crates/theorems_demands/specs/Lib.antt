@@ -12,3 +12,4 @@ pub mod ManyTexts
 pub mod Maps
 pub mod InBytes
 pub mod Reasons
+pub mod Figures

@@ -15,3 +15,5 @@ pub mod Maps
 pub mod Order
 pub mod Reasons
 pub mod Whys
+pub mod Releases
+pub mod Figures

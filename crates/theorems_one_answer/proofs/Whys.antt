@@ -10,6 +10,11 @@ use Rattle.why_input.proofs.step.Kinds as step-kinds
 use Rattle.why_input.proofs.step.Reads as step-contract
 use Rattle.why_input.proofs.last.Kinds as last-kinds
 use Rattle.why_input.proofs.last.Reads as last-contract
+use Rattle.why_replies.specs.declared.Cutting.{Cutting}
+use Rattle.why_replies.proofs.cutting_in.Kinds as cutting-in-kinds
+use Rattle.why_replies.proofs.cutting_in.Reads as cutting-in-contract
+use Rattle.why_replies.proofs.text_in.Kinds as text-in-kinds
+use Rattle.why_replies.proofs.text_in.Reads as text-in-contract
 use Rattle.why_replies.proofs.explain_line.Kinds as explain-line-kinds
 use Rattle.why_replies.proofs.explain_line.Reads as explain-line-contract
 use Rattle.why_texts.proofs.write_why.Kinds as write-why-kinds
@@ -37,6 +42,12 @@ pub last-one : OneAnswer {A = ℕ × (List ℕ × Rows)} 7 last-kinds.ps last-ki
 last-one κs a x y s t p q = both (answer (p .0) (q .0)) (both (answer (p .1 .0) (q .1 .0)) (rows-one (p .1 .1) (q .1 .1)))
 
 -- ---- a line
+
+pub cutting-in-one : OneAnswer {A = Cutting} 1 cutting-in-kinds.ps cutting-in-kinds.r cutting-in-contract.Post (λ κs x s. x)
+cutting-in-one κs a x y s t p q = answer p q
+
+pub text-in-one : OneAnswer {A = List ℕ} 1 text-in-kinds.ps text-in-kinds.r text-in-contract.Post (λ κs x s. x .now)
+text-in-one κs a x y s t p q = answer p q
 
 pub explain-line-one : OneAnswer {A = ℕ × (List ℕ × Rows)} 7 explain-line-kinds.ps explain-line-kinds.r explain-line-contract.Post
     (λ κs x s. (x, (s .1 .1 .1 .1 .1 .1 .0 .now, (s .1 .0 .now, (s .1 .1 .0 .now, (s .1 .1 .1 .0 .now, (s .1 .1 .1 .1 .0 .now, s .1 .1 .1 .1 .1 .0 .now)))))))

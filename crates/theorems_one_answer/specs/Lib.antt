@@ -6,3 +6,4 @@ pub mod MapRuns
 pub mod WinnerRuns
 pub mod OrderRuns
 pub mod ReasonRuns
+pub mod FigureRuns

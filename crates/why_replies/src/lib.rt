@@ -1,5 +1,7 @@
-// What a line asks, with `#` for the profile "sheet", and the reply to it with reasons:
-// `explain_line`.
+// A line, with `#` for the profile "sheet".
+//   cutting_in    how its text is cut
+//   text_in       its text
+//   explain_line  the reply to it with reasons
 use newmm_reasons::cut_reasons;
 use newmm_rules::Mode;
 use refusal::Answer;
@@ -25,7 +27,7 @@ ghost use Rattle.sheet_texts.specs.Texts.{written, amount};
 ghost use Rattle.why_replies.specs.Replies.{asksSheet, asked, cuttingBy, RowsAfter, explained};
 
 // How a line's text is cut.
-enum Cutting {
+pub enum Cutting {
     // It isn't.
     Nothing,
     By(Mode),
@@ -47,7 +49,8 @@ fn asks_sheet(line: &[u8]) -> bool
     false
 }
 
-fn cutting_in(line: &[u8]) -> Cutting
+// How the text is cut by what the line asks.
+pub fn cutting_in(line: &[u8]) -> Cutting
     ensures { λ r. ⌜ r ≡ cuttingBy (asked (now (line .entry))) ⌝ }
 {
     if asks_sheet(line) {
@@ -63,7 +66,7 @@ fn cutting_in(line: &[u8]) -> Cutting
 }
 
 // The line without its first byte.
-fn text_in(line: &[u8]) -> &[u8]
+pub fn text_in(line: &[u8]) -> &[u8]
     ensures { λ r. ⌜ now r ≡ textOf (now (line .entry)) ⌝ }
 {
     if line.len() == 0 {

@@ -33,6 +33,14 @@ pub enum Reason {
 }
 
 impl Reason {
+    /// All reasons, by their numbers 1 to 5.
+    pub const ALL: [Reason; 5] = [Reason::Word, Reason::NonThai, Reason::ToWord, Reason::ToNonThai, Reason::ToEnd];
+
+    /// The reason's number, 1 to 5.
+    pub fn number(self) -> u32 {
+        self as u32 + 1
+    }
+
     fn told(number: u32) -> Reason {
         match number {
             1 => Reason::Word,
@@ -140,12 +148,21 @@ impl Cutter {
         mode: Mode,
     ) -> Result<Cut<'t, Reason>, Error> {
         let decoded = decode(text.as_bytes())?;
+        self.told(text, &decoded, |cells, pairs, scratch| ffi::reasons(mode, cells, dictionary.pool(), pairs, scratch))
+    }
+
+    /// What a call writes and tells of a text's tokens, which is lent its cells, a row of pairs and scratch.
+    pub(crate) fn told<'t>(
+        &mut self,
+        text: &'t str,
+        decoded: &Decoded,
+        call: impl FnOnce(&[u32], &mut [u32], &mut [u32]) -> Result<(usize, usize), Error>,
+    ) -> Result<Cut<'t, Reason>, Error> {
         let cells = decoded.scalars();
         self.ends.resize(self.ends.len().max(2 * cells.len()), 0);
-        let scratch = scratch_for(&mut self.scratch, cells.len());
-        let (count, edges) = ffi::reasons(mode, cells, dictionary.pool(), &mut self.ends, scratch)?;
+        let (count, edges) = call(cells, &mut self.ends, scratch_for(&mut self.scratch, cells.len()))?;
         let told = self.ends[..2 * count].chunks_exact(2).map(|pair| (pair[0], Reason::told(pair[1])));
-        Ok(Cut { tokens: tokens(text, &decoded, told), edges })
+        Ok(Cut { tokens: tokens(text, decoded, told), edges })
     }
 
     /// Cuts many texts by the words of a dictionary: for each what [`Cutter::cut`] gives. The dictionary is checked once for

@@ -24,6 +24,8 @@ pub enum Error {
     WrongPosition(usize),
     /// 11: a map has a bit set above n in its last used cell. The lowest such position. The maps of this crate have none.
     BitAboveEnd(usize),
+    /// 13: a release figure would be too large.
+    FiguresFull,
 }
 
 impl Error {
@@ -40,6 +42,7 @@ impl Error {
             Error::TooFewNodes(_) => 8,
             Error::WrongPosition(_) => 10,
             Error::BitAboveEnd(_) => 11,
+            Error::FiguresFull => 13,
         }
     }
 }
@@ -57,6 +60,7 @@ impl fmt::Display for Error {
             Error::TooFewNodes(n) => write!(f, "the dictionary has {n} nodes too few"),
             Error::WrongPosition(n) => write!(f, "the position {n}, or the one with that index, is wrong"),
             Error::BitAboveEnd(n) => write!(f, "the map has a bit above its end, at {n}"),
+            Error::FiguresFull => write!(f, "a release figure would be too large"),
         }
     }
 }
@@ -77,6 +81,7 @@ pub(crate) fn accepted<T>(number: u32, detail: usize, answer: T) -> Result<T, Er
         8 => Error::TooFewNodes(detail),
         10 => Error::WrongPosition(detail),
         11 => Error::BitAboveEnd(detail),
+        13 => Error::FiguresFull,
         other => unreachable!("the library has no refusal {other}"),
     })
 }

@@ -220,6 +220,50 @@ extern "C" {
         count: &mut usize,
         detail: &mut usize,
     ) -> u32;
+    fn fetlockice_feed_plain(
+        figures: &mut [u64; 16],
+        text: *const u32,
+        text_len: usize,
+        pool: *const u32,
+        pool_len: usize,
+        pairs: *mut u32,
+        pairs_len: usize,
+        scratch: *mut u32,
+        scratch_len: usize,
+        count: &mut usize,
+        edges: &mut usize,
+        detail: &mut usize,
+    ) -> u32;
+    fn fetlockice_feed_safe(
+        figures: &mut [u64; 16],
+        text: *const u32,
+        text_len: usize,
+        pool: *const u32,
+        pool_len: usize,
+        pairs: *mut u32,
+        pairs_len: usize,
+        scratch: *mut u32,
+        scratch_len: usize,
+        count: &mut usize,
+        edges: &mut usize,
+        detail: &mut usize,
+    ) -> u32;
+    fn fetlockice_feed_sheet(
+        figures: &mut [u64; 16],
+        text: *const u32,
+        text_len: usize,
+        pool: *const u32,
+        pool_len: usize,
+        pairs: *mut u32,
+        pairs_len: usize,
+        scratch: *mut u32,
+        scratch_len: usize,
+        count: &mut usize,
+        edges: &mut usize,
+        detail: &mut usize,
+    ) -> u32;
+    fn fetlockice_feed_refused(figures: &mut [u64; 16], number: u32, detail: &mut usize) -> u32;
+    fn fetlockice_join_figures(figures: &mut [u64; 16], more: &[u64; 16], detail: &mut usize) -> u32;
     fn fetlockice_check_claim(
         text: *const u32,
         text_len: usize,
@@ -455,6 +499,53 @@ unsafe fn cut_by(
         &mut detail,
     );
     accepted(number, detail, (count, edges))
+}
+
+/// The rows of a text that is fed.
+pub struct Fed<'r> {
+    pub text: &'r [u32],
+    pub pool: &'r [u32],
+    pub pairs: &'r mut [u32],
+    pub scratch: &'r mut [u32],
+}
+
+/// The number of pairs, and of edges.
+pub fn feed(mode: Mode, figures: &mut [u64; 16], rows: Fed) -> Result<(usize, usize), Error> {
+    let call = match mode {
+        Mode::Plain => fetlockice_feed_plain,
+        Mode::Safe => fetlockice_feed_safe,
+        Mode::Sheet => fetlockice_feed_sheet,
+    };
+    let (mut count, mut edges, mut detail) = (0, 0, 0);
+    let number = unsafe {
+        call(
+            figures,
+            rows.text.as_ptr(),
+            rows.text.len(),
+            rows.pool.as_ptr(),
+            rows.pool.len(),
+            rows.pairs.as_mut_ptr(),
+            rows.pairs.len(),
+            rows.scratch.as_mut_ptr(),
+            rows.scratch.len(),
+            &mut count,
+            &mut edges,
+            &mut detail,
+        )
+    };
+    accepted(number, detail, (count, edges))
+}
+
+pub fn feed_refused(figures: &mut [u64; 16], refused: u32) -> Result<(), Error> {
+    let mut detail = 0;
+    let number = unsafe { fetlockice_feed_refused(figures, refused, &mut detail) };
+    accepted(number, detail, ())
+}
+
+pub fn join_figures(figures: &mut [u64; 16], more: &[u64; 16]) -> Result<(), Error> {
+    let mut detail = 0;
+    let number = unsafe { fetlockice_join_figures(figures, more, &mut detail) };
+    accepted(number, detail, ())
 }
 
 /// Whether the claim is right, and the first token that is wrong.

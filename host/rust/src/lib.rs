@@ -1,7 +1,7 @@
 //! Thai word cutting whose every answer is proved: a safe interface over the library of the repository's crates.
 //!
 //! ```
-//! use fetlockice::{Cutter, Dictionary, Mode, Reason};
+//! use fetlockice::{Cutter, Dictionary, Figures, Mode, Reason};
 //!
 //! let words = Dictionary::from_words(["กข", "กขค", "คง", "ง"])?;
 //! let cut = Cutter::new().cut(&words, "กขคง", Mode::Safe)?;
@@ -23,6 +23,14 @@
 //! let cuts = Cutter::new().cut_lines(&words, ["กขคง", "", "งกข"], Mode::Safe);
 //! let counts: Vec<usize> = cuts.iter().map(|cut| cut.as_ref().map_or(0, |cut| cut.tokens.len())).collect();
 //! assert_eq!(counts, [2, 0, 2]);
+//!
+//! // figures over all texts of a release
+//! let (mut cutter, mut figures) = (Cutter::new(), Figures::new());
+//! for text in ["กขคง", "12.", ""] {
+//!     figures.feed(&mut cutter, &words, text, Mode::Plain)?;
+//! }
+//! assert_eq!((figures.texts(), figures.characters(), figures.tokens()), (3, 7, 4));
+//! assert_eq!(figures.tokens_by(Reason::Word), 2);
 //! # Ok::<(), fetlockice::Error>(())
 //! ```
 mod cutter;
@@ -30,12 +38,14 @@ mod decoded;
 mod dictionary;
 mod error;
 mod ffi;
+mod figures;
 mod map;
 
 pub use cutter::{Cut, Cutter, Mode, Reason, Token, Verdict};
 pub use decoded::{decode, Decoded};
 pub use dictionary::{Dictionary, MAX_NODES};
 pub use error::Error;
+pub use figures::Figures;
 pub use map::{BreakMap, Breaks};
 
 /// The most scalars of a text.

@@ -1,46 +1,10 @@
 //! The answers of this crate against those that the test programs of crates/ are held to: an independent model's and the
 //! Rust's. Lines that a `str`, a growing pool or rows of one's own can't bring about are left out.
-use fetlockice::{clusters, clusters_with_winners, decode, Cut, Cutter, Dictionary, Error, Mode, Reason, Verdict};
-use std::{collections::BTreeMap, fs};
+use fetlockice::{clusters, clusters_with_winners, decode, Cut, Cutter, Dictionary, Error, Mode, Verdict};
+use lines::{cells, detail, hold, hold_tokens, lines, mode, roomy, text, told, told_reasons, words};
+use std::collections::BTreeMap;
 
-/// The lines of a test program with that operation, in fields, each with its answer.
-fn lines(program: &str, operation: &str) -> Vec<(Vec<String>, String)> {
-    let folder = format!("{}/../../crates/{program}", env!("CARGO_MANIFEST_DIR"));
-    let read = |name| fs::read_to_string(format!("{folder}/{name}")).expect("the test program's files");
-    let (asked, told) = (read("stdin"), read("stdout"));
-    let fields = asked.lines().map(|line| line.split('\t').map(String::from).collect::<Vec<_>>());
-    fields.zip(told.lines().map(String::from)).filter(|(line, _)| line[0] == operation).collect()
-}
-
-/// Holds the answer to each line, where there is one, to what is expected. At least so many lines have one.
-fn hold(lines: Vec<(Vec<String>, String)>, least: usize, mut answer: impl FnMut(&[String]) -> Option<String>) {
-    let mut held = 0;
-    for (line, expected) in lines {
-        if let Some(answer) = answer(&line) {
-            assert_eq!(answer, expected, "{line:?}");
-            held += 1;
-        }
-    }
-    assert!(held >= least, "{held} lines");
-}
-
-/// The row is as long as needed, as those of this crate are.
-fn roomy(field: &str) -> Option<()> {
-    (field == "*").then_some(())
-}
-
-/// `E01.20*3` as four scalars; `-` as none.
-fn cells(field: &str) -> Vec<u32> {
-    let run = |part: &str| {
-        let (cell, times) = part.split_once('*').unwrap_or((part, "1"));
-        vec![u32::from_str_radix(cell, 16).expect("a cell"); times.parse().expect("a number")]
-    };
-    if field == "-" {
-        Vec::new()
-    } else {
-        field.split('.').flat_map(run).collect()
-    }
-}
+mod lines;
 
 /// Scalars as a field has them: four or more equal ones as `cell*count`.
 fn spelled(cells: &[u32]) -> String {
@@ -73,20 +37,6 @@ fn bytes(field: &str) -> Vec<u8> {
     }
 }
 
-/// A text of scalars, where they are.
-fn text(field: &str) -> Option<String> {
-    cells(field).into_iter().map(char::from_u32).collect()
-}
-
-fn words(field: &str) -> Option<Dictionary> {
-    let mut words = Dictionary::new();
-    for part in field.split(',').filter(|_| field != "-") {
-        let (word, class) = part.split_once(':').expect("a word and its class");
-        words.add_class(&text(word)?, class.parse().expect("a class")).expect("a word that can be held");
-    }
-    Some(words)
-}
-
 fn row(numbers: &[usize], between: &str) -> String {
     let all: Vec<String> = numbers.iter().map(usize::to_string).collect();
     if all.is_empty() {
@@ -94,18 +44,6 @@ fn row(numbers: &[usize], between: &str) -> String {
     } else {
         all.join(between)
     }
-}
-
-fn detail(error: Error) -> usize {
-    match error {
-        Error::IllFormed(n) | Error::TooManyScalars(n) | Error::WordTooLong(n) => n,
-        other => panic!("{other}: this can't arise here"),
-    }
-}
-
-/// A line's answer.
-fn told<T>(answer: Result<T, Error>, accepted: impl FnOnce(T) -> String) -> String {
-    answer.map_or_else(|e| format!("! {} {}", e.number(), detail(e)), |all| format!("ok {}", accepted(all)))
 }
 
 #[test]
@@ -206,15 +144,6 @@ fn dictionaries() {
     });
 }
 
-fn mode(field: &str) -> Mode {
-    match field {
-        "plain" => Mode::Plain,
-        "safe" => Mode::Safe,
-        "sheet" => Mode::Sheet,
-        other => panic!("no mode {other}"),
-    }
-}
-
 /// The map of a cut says what its ends say, at each position and above the last one.
 fn check_map(cut: &Cut, ends: &[usize]) {
     let (map, last) = (cut.break_map(), ends.last().copied().unwrap_or(0));
@@ -233,15 +162,6 @@ fn check_map(cut: &Cut, ends: &[usize]) {
         assert!(!map.is_break(position));
         assert_eq!(map.up_to(position), Err(Error::WrongPosition(position)));
         assert_eq!(map.next(position), Err(Error::WrongPosition(position)));
-    }
-}
-
-/// The tokens are the text, each where it says.
-fn hold_tokens<R>(text: &str, cut: &Cut<R>) {
-    assert_eq!(cut.tokens.iter().map(|token| token.text).collect::<String>(), text);
-    for token in &cut.tokens {
-        let front = &text[..token.byte_end];
-        assert!(front.ends_with(token.text) && front.chars().count() == token.end);
     }
 }
 
@@ -265,28 +185,13 @@ fn cuts() {
     });
 }
 
-fn number(reason: Reason) -> usize {
-    match reason {
-        Reason::Word => 1,
-        Reason::NonThai => 2,
-        Reason::ToWord => 3,
-        Reason::ToNonThai => 4,
-        Reason::ToEnd => 5,
-    }
-}
-
 #[test]
 fn reasons() {
     let mut cutter = Cutter::new();
     hold(lines("test_reasons", "reasons"), 800, |line| {
         roomy(&line[4]).and(roomy(&line[5]))?;
         let (words, text) = (words(&line[2])?, text(&line[3])?);
-        Some(told(cutter.explain(&words, &text, mode(&line[1])), |cut| {
-            hold_tokens(&text, &cut);
-            let pairs: Vec<_> =
-                cut.tokens.iter().map(|token| format!("{}:{}", token.end, number(token.reason))).collect();
-            format!("{} {}", if pairs.is_empty() { "-".into() } else { pairs.join(",") }, cut.edges)
-        }))
+        Some(told(cutter.explain(&words, &text, mode(&line[1])), |cut| told_reasons(&text, &cut, ":")))
     });
 }
 

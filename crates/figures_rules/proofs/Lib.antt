@@ -1,0 +1,5 @@
+pub mod Rows
+pub mod Joining
+pub mod Filling
+pub mod Outcomes
+pub mod Runs
