@@ -17,3 +17,4 @@ pub mod Reasons
 pub mod Whys
 pub mod Releases
 pub mod Figures
+pub mod Images
