@@ -9,8 +9,7 @@ use mathlib.Core.List.{List, [], _∷_, _++_}
 use mathlib.Core.Logic.{inl, inr, ⊎-elim}
 use lib.ListN.{length}
 use Rattle.trie_pool.specs.Cells.{scalarAt, firstAt, countAt, markAt}
-use Rattle.trie_pool.specs.Words.{Place, none, at, on-place, child, walk}
-use Rattle.trie_pool.specs.inner.Paths.{rev}
+use Rattle.trie_pool.specs.Words.{Place, none, at, on-place, child, walk, rev}
 use Rattle.trie_pool.specs.inner.Sound.{Rising, Sound}
 use Rattle.trie_pool.proofs.Shape.{within, child-found, climb}
 use Rattle.trie_pool.proofs.Canon.{member}

@@ -8,11 +8,10 @@ use mathlib.Core.List.{List, [], _∷_}
 use mathlib.Core.Option.{Option, none, some}
 use lib.ListN.{length}
 use Rattle.trie_pool.specs.Cells.{markAt, used}
-use Rattle.trie_pool.specs.Words.{Word, Place, at, on-place, walk, marked, holds, term, termAt}
+use Rattle.trie_pool.specs.Words.{Word, Place, at, on-place, walk, marked, holds, term, termAt, rev}
 use Rattle.trie_pool.specs.Words as words
 use Rattle.trie_pool.specs.Meaning.{Terms, isSome, tally, amount}
 use Rattle.trie_pool.specs.Listing.{Member, Number, Held}
-use Rattle.trie_pool.specs.inner.Paths.{rev}
 use Rattle.trie_pool.specs.inner.Sound.{Sound}
 use Rattle.trie_pool.specs.Rules.{wellFormed, cellsOf, isDictionary}
 use Rattle.trie_pool.proofs.Rules.{clash, sound}

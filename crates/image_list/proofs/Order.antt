@@ -9,7 +9,7 @@ use mathlib.Core.List.{List, [], _∷_}
 use borrow.Author.Tests.{lt-ltb, eq-eqb, ne-eqb}
 use lib.Dec.{ltb}
 use lib.ListN.{length}
-use Rattle.trie_pool.specs.inner.Paths.{rev}
+use Rattle.trie_pool.specs.Words.{rev}
 use Rattle.image_rules.specs.Order.{below}
 
 -- equal first scalars decide nothing

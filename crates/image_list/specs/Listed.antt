@@ -4,7 +4,7 @@ use Prim.Native.Nat.{ℕ, zero, suc, _+_}
 use mathlib.Core.List.{List, [], _∷_, _++_}
 use Rattle.refusal.specs.Limits.{maxWord}
 use Rattle.trie_pool.specs.Cells.{scalarAt, firstAt, countAt, markAt}
-use Rattle.trie_pool.specs.inner.Paths.{rev}
+use Rattle.trie_pool.specs.Words.{rev}
 use Rattle.image_rules.specs.Records.{Term}
 
 -- the word that ends at a node, by its path, written from its end, and its mark

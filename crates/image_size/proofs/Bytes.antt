@@ -5,7 +5,7 @@ use mathlib.Core.Path.{_≡_, refl, sym, ap, _∙_}
 use mathlib.Core.List.{List, [], _∷_, _++_, append-assoc, append-nil}
 use lib.ListN.{length, length-append}
 use Rattle.utf8_sequences.specs.Utf8.{bytesOf, encode}
-use Rattle.trie_pool.specs.inner.Paths.{rev}
+use Rattle.trie_pool.specs.Words.{rev}
 use Rattle.trie_pool.specs.inner.Sound.{Sound}
 use Rattle.trie_pool.proofs.Listing.{rev-append}
 use Rattle.image_rules.specs.Records.{Term, le, recordOf, wordRecord, lastRecord, wordRecords, imageOf}

@@ -12,9 +12,9 @@ use lib.Seq.{length-take-le, take-take}
 use Rattle.utf8_sequences.specs.Utf8.{bytesOf, encode}
 use Rattle.char_string_scalars.specs.Scalars.{isScalar}
 use Rattle.trie_pool.specs.Cells.{scalarAt, firstAt, countAt, markAt, used}
-use Rattle.trie_pool.specs.Words.{at}
+use Rattle.trie_pool.specs.Words.{at, rev}
 use Rattle.trie_pool.specs.Meaning.{amount}
-use Rattle.trie_pool.specs.inner.Paths.{reach, rev}
+use Rattle.trie_pool.specs.inner.Paths.{reach}
 use Rattle.trie_pool.specs.inner.Sound.{Sound}
 use Rattle.trie_pool.proofs.Rules.{clash}
 use Rattle.trie_pool.proofs.Shape.{mark-is, one-path}

@@ -9,9 +9,9 @@ use lib.ListN.{length, getD, set, take, length-set}
 use lib.Seq.{getD-set-same, getD-set-other}
 use Rattle.char_string_white_space.specs.Trimmed.{isTrimmed}
 use Rattle.trie_pool.specs.Cells.{scalarAt, firstAt, countAt, markAt}
-use Rattle.trie_pool.specs.Words.{Word, at}
+use Rattle.trie_pool.specs.Words.{Word, at, rev}
 use Rattle.trie_pool.specs.Meaning.{Terms, withTerm}
-use Rattle.trie_pool.specs.inner.Paths.{reach, rev}
+use Rattle.trie_pool.specs.inner.Paths.{reach}
 use Rattle.trie_pool.proofs.Shape.{child-found, step, count-is}
 use Rattle.trie_pool.proofs.Edges.{Edges, edges-of}
 use Rattle.trie_build_rules.specs.inner.Laid.{Laid}

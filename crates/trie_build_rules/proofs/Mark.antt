@@ -12,9 +12,9 @@ use lib.ListN.{length, getD, take}
 use lib.Seq.{take-length}
 use Rattle.char_string_white_space.specs.Trimmed.{isTrimmed}
 use Rattle.trie_pool.specs.Cells.{scalarAt, firstAt, countAt, markAt}
-use Rattle.trie_pool.specs.Words.{Place, none, at, on-place, scan, child}
+use Rattle.trie_pool.specs.Words.{Place, none, at, on-place, scan, child, rev}
 use Rattle.trie_pool.specs.Meaning.{Terms, same, withTerm}
-use Rattle.trie_pool.specs.inner.Paths.{reach, rev}
+use Rattle.trie_pool.specs.inner.Paths.{reach}
 use Rattle.trie_pool.specs.inner.Sound.{Fit, Plain, Rising}
 use Rattle.trie_pool.proofs.Shape.{child-found, step, refit}
 use Rattle.trie_pool.proofs.Sets.{same-true, same-self}

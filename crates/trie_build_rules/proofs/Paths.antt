@@ -6,8 +6,8 @@ use Prim.Native.Nat.{ℕ, zero, suc, _+_, _-_, _≤_, _<_}
 use native.Mathlib.Omega.{arith}
 use lib.ListN.{length, getD, take, length-take}
 use lib.Seq.{take-suc, length-take-le, take-take}
-use Rattle.trie_pool.specs.Words.{none, at, on-place, child}
-use Rattle.trie_pool.specs.inner.Paths.{reach, rev}
+use Rattle.trie_pool.specs.Words.{none, at, on-place, child, rev}
+use Rattle.trie_pool.specs.inner.Paths.{reach}
 use Rattle.trie_build_rules.specs.inner.Laid.{Laid}
 use Rattle.trie_build_rules.specs.inner.Growing.{Path}
 use Rattle.trie_build_rules.proofs.Building.{reach-level}

@@ -9,9 +9,9 @@ use native.Mathlib.Omega.{arith}
 use native.Mathlib.Decide.{decLt}
 use lib.ListN.{length, getD, take}
 use Rattle.trie_pool.specs.Cells.{scalarAt, firstAt, countAt, markAt}
-use Rattle.trie_pool.specs.Words.{at}
+use Rattle.trie_pool.specs.Words.{at, rev}
 use Rattle.trie_pool.specs.Meaning.{noTerm}
-use Rattle.trie_pool.specs.inner.Paths.{reach, rev}
+use Rattle.trie_pool.specs.inner.Paths.{reach}
 use Rattle.trie_pool.specs.inner.Sound.{Plain, Fit}
 use Rattle.trie_pool.proofs.Shape.{first-is, count-is, mark-is}
 use Rattle.trie_pool.proofs.Held.{root-mark}

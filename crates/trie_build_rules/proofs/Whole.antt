@@ -8,9 +8,9 @@ use native.Mathlib.Omega.{arith}
 use native.Mathlib.Decide.{decLt}
 use lib.ListN.{length, getD}
 use Rattle.trie_pool.specs.Cells.{scalarAt, firstAt, countAt, markAt}
-use Rattle.trie_pool.specs.Words.{Place, none, at, on-place, walk, term, termAt}
+use Rattle.trie_pool.specs.Words.{Place, none, at, on-place, walk, term, termAt, rev}
 use Rattle.trie_pool.specs.Meaning.{Terms}
-use Rattle.trie_pool.specs.inner.Paths.{reach, rev}
+use Rattle.trie_pool.specs.inner.Paths.{reach}
 use Rattle.trie_pool.specs.inner.Sound.{Sound, Fit}
 use Rattle.trie_pool.proofs.Shape.{walk-is, rev-rev, one-path, first-is, count-is, mark-is}
 use Rattle.trie_build_rules.specs.inner.Laid.{Laid}

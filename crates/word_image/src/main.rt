@@ -68,11 +68,20 @@ fn behind(at: usize, n: usize, end: usize) -> usize
     end
 }
 
-fn add_line(line: &[u8], at: usize, pool: &mut [u32], word: &mut [u32], positions: &mut [u32]) -> bool {
+fn add_line(
+    line: &[u8],
+    at: usize,
+    pool: &mut [u32],
+    word: &mut [u32],
+    positions: &mut [u32],
+) -> bool {
     let tab = tab_at(line);
     let class = class_behind(line, tab);
     if NO_CLASS <= class {
-        tell(b"word_image: no class behind the tab of the line at byte ", at);
+        tell(
+            b"word_image: no class behind the tab of the line at byte ",
+            at,
+        );
         return false;
     }
     let decoded = utf8::decode(front(line, tab), word, positions);

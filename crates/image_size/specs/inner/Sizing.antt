@@ -5,8 +5,8 @@ use mathlib.Core.List.{List, []}
 use lib.ListN.{length}
 use Rattle.utf8_sequences.specs.Utf8.{encode}
 use Rattle.trie_pool.specs.Cells.{used}
-use Rattle.trie_pool.specs.Words.{at}
-use Rattle.trie_pool.specs.inner.Paths.{reach, rev}
+use Rattle.trie_pool.specs.Words.{at, rev}
+use Rattle.trie_pool.specs.inner.Paths.{reach}
 use Rattle.trie_pool.specs.inner.Sound.{Sound}
 
 -- a path, written from its end, leads to node i, and takes so many bytes

@@ -5,8 +5,8 @@ use mathlib.Core.List.{List, []}
 use lib.ListN.{length, take}
 use Rattle.utf8_sequences.specs.Utf8.{encode}
 use Rattle.trie_pool.specs.Cells.{firstAt, countAt, used}
-use Rattle.trie_pool.specs.Words.{at}
-use Rattle.trie_pool.specs.inner.Paths.{reach, rev}
+use Rattle.trie_pool.specs.Words.{at, rev}
+use Rattle.trie_pool.specs.inner.Paths.{reach}
 use Rattle.trie_pool.specs.inner.Sound.{Sound}
 use Rattle.image_rules.specs.Records.{Term, wordRecords}
 use Rattle.image_list.specs.Listed.{own, block}
