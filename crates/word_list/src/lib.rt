@@ -30,7 +30,8 @@ pub fn read_image(pool: &mut [u32], image: &[u8]) -> Answer
             let room = capacity(pool.len());
             let n = 1 + nodes;
             if room < n {
-                return Answer::Refused(Refusal::TooFewNodes(n - room));
+                let missing = n - room;
+                return Answer::Refused(Refusal::TooFewNodes(missing));
             }
             let cells = NODE * room;
             build(

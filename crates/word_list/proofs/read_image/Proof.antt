@@ -58,8 +58,8 @@ add-n c =
     (c7 .survey .ensures) (c2 .words .given .1)) in
     record { fits = omega (arith, l .few) }
 
-sub-t30 : tie.Need-sub-t30
-sub-t30 c = omega (arith, c .if2 .taken)
+sub-missing : tie.Need-sub-missing
+sub-missing c = omega (arith, c .if2 .taken)
 
 same-length-2 : tie.Need-same-length-2
 same-length-2 c = refl
@@ -167,7 +167,7 @@ read-image-spec =
     enum-known-words
     capacity-requires
     add-n
-    sub-t30
+    sub-missing
     same-length-2
     returns-2
     mul-cells
