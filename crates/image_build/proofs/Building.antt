@@ -20,18 +20,15 @@ use Rattle.image_starts.proofs.Beginning.{start-next, start-one, start-zero}
 use Rattle.image_starts.proofs.Sums.{Short, last-start, start-rise}
 use Rattle.trie_build_rules.specs.inner.Growing.{Bare, Starts}
 use Rattle.image_place.specs.inner.Placing.{Opens}
-use Rattle.image_place.proofs.Readings.{no-list, read-zero, Onto, onto-list, ended-list, Fine, fine}
+use Rattle.image_rules.proofs.Readings.{both, Fine, fine, no-list}
+use Rattle.image_place.proofs.Readings.{read-zero, Onto, onto-list, ended-list}
 use Rattle.image_read.proofs.Readings.{read-word, read-other}
 use Rattle.image_build.specs.inner.Building.{Builds}
-
-right : (a b : Bool) → (a && b) ≡ true → b ≡ true
-right true b e = e
-right false b e = absurd (let z : _≡_ {A = ℕ} 0 1 = cc in omega arith)
 
 word-short : (before b : List ℕ) → isWord before b ≡ true → length (termOf b .word) ≤ 255
 unfolding isWord
 word-short before b h =
-    fine before (termOf b .word) (right (((whole b && eqb (kindAt b) 1) && leb 3 (length (bodyAt b))) && runAll (wordBytes b) .whole) (follows before (termOf b .word)) h) .short
+    fine before (termOf b .word) (both (((whole b && eqb (kindAt b) 1) && leb 3 (length (bodyAt b))) && runAll (wordBytes b) .whole) (follows before (termOf b .word)) h .1) .short
 
 -- the words of a list that is read are short
 shorts : (f : ℕ) (w : List ℕ) (n at : ℕ) (b : List ℕ) (ts : List Term) → read f w n at b ≡ list ts → Short ts

@@ -4,23 +4,11 @@ use native.Mathlib.Omega.{arith}
 use native.Mathlib.Decide.{decLt}
 use mathlib.Core.Path.{_≡_, refl, sym, ap, _∙_}
 use mathlib.Core.List.{List, [], _∷_}
-use borrow.Author.Tests.{lt-ltb, le-ltb}
 use lib.ListN.{length, set}
 use Rattle.utf8_sequences.specs.Utf8.{bytesOf}
+use Rattle.theorems_unicode.proofs.Encoding.{bytes-1, bytes-2, bytes-3, bytes-4}
 use Rattle.image_bytes.specs.inner.Laying.{laidAt}
 use Rattle.image_bytes.proofs.Laying.{laid-1, laid-2, laid-3, laid-4}
-
-bytes-1 : (v : ℕ) → v < 0x80 → bytesOf v ≡ v ∷ []
-bytes-1 v h = simp (lt-ltb _ _ h)
-
-bytes-2 : (v : ℕ) → 0x80 ≤ v → v < 0x800 → bytesOf v ≡ (0xC0 + v / 64) ∷ (0x80 + v % 64) ∷ []
-bytes-2 v h k = simp (le-ltb v 0x80 h, lt-ltb v 0x800 k)
-
-bytes-3 : (v : ℕ) → 0x800 ≤ v → v < 0x10000 → bytesOf v ≡ (0xE0 + v / 4096) ∷ (0x80 + v / 64 % 64) ∷ (0x80 + v % 64) ∷ []
-bytes-3 v h k = simp (le-ltb v 0x80 (omega arith), le-ltb v 0x800 h, lt-ltb v 0x10000 k)
-
-bytes-4 : (v : ℕ) → 0x10000 ≤ v → bytesOf v ≡ (0xF0 + v / 262144) ∷ (0x80 + v / 4096 % 64) ∷ (0x80 + v / 64 % 64) ∷ (0x80 + v % 64) ∷ []
-bytes-4 v h = simp (le-ltb v 0x80 (omega arith), le-ltb v 0x800 (omega arith), le-ltb v 0x10000 h)
 
 -- ---- sizes, v being the scalar x as a number
 

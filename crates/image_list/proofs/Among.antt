@@ -14,7 +14,8 @@ use Rattle.trie_pool.proofs.Sets.{same-true, same-self}
 use Rattle.image_rules.specs.Records.{Term}
 use Rattle.image_rules.specs.Order.{below}
 use Rattle.image_rules.specs.Lists.{Next, Rising, termsIn}
-use Rattle.image_rules.proofs.Order.{clash, below-self}
+use Rattle.trie_pool.proofs.Rules.{clash}
+use Rattle.image_rules.proofs.Order.{below-self}
 
 abbrev pub In : Term → List Term → Type 0
 In t [] = ⊥

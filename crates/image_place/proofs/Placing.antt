@@ -19,7 +19,10 @@ use Rattle.image_rules.specs.Order.{below, common}
 use Rattle.image_rules.specs.Lists.{termsIn}
 use Rattle.image_rules.specs.Reading.{wordBytes, termOf, follows, isWord, isLast, Read, broken, list, onto, ended, read, readOf}
 use Rattle.image_rules.specs.inner.News.{new, newsFrom}
-use Rattle.image_rules.proofs.Order.{Parts, parts, clash}
+use Rattle.trie_pool.proofs.Rules.{clash}
+use Rattle.image_rules.proofs.Order.{Parts, parts}
+use Rattle.image_rules.proofs.Lists.{Climbs, over, over-none, over-end, hand-over}
+use Rattle.image_rules.proofs.Readings.{no-list}
 use Rattle.image_record.specs.declared.Record.{Record}
 use Rattle.image_record.specs.declared.Record.the-variants as records
 use Rattle.image_record.specs.inner.Records.{Entry, End, Neither, Says}
@@ -34,7 +37,7 @@ use Rattle.trie_build_rules.proofs.Start.{start-built}
 use Rattle.trie_build_rules.proofs.Whole.{whole-sound, whole-terms, scalar-is}
 use Rattle.trie_build.specs.inner.Appending.{row, Fits, Puts, Put}
 use Rattle.image_place.specs.inner.Placing.{Opens, Lent, Holds, Placed}
-use Rattle.image_place.proofs.Readings.{no-list, word-of, read-zero, Climbs, climbs, Onto, onto-list, ended-list, over, over-none, over-end, hand-over}
+use Rattle.image_place.proofs.Readings.{word-of, read-zero, climbs, Onto, onto-list, ended-list}
 
 -- words of the image are in the pool, `rest` are to come
 pub record Going (image p next w : List ℕ) (at : ℕ) : Type 0 where

@@ -1,22 +1,13 @@
 -- The parts of a record, one behind the other, are the record. Assumes nothing.
-use Prim.Native.Nat.{ℕ, zero, suc, _+_, _/_, _≤_}
+use Prim.Native.Nat.{ℕ, _+_, _≤_}
 use native.Mathlib.Omega.{arith}
 use mathlib.Core.Path.{_≡_, refl, sym, ap, _∙_}
 use mathlib.Core.List.{List, [], _∷_, _++_, append-assoc}
 use lib.ListN.{length, length-append}
 use Rattle.image_rules.specs.Records.{le, recordOf, lastRecord}
+use Rattle.image_rules.proofs.Records.{le-long}
 use Rattle.image_bytes.specs.inner.Laying.{laidAt}
 use Rattle.image_bytes.proofs.Laying.{laid-then, laid-long}
-
-pub le-long : (k v : ℕ) → length (le k v) ≡ k
-unfolding le
-le-long zero v = refl
-le-long (suc k) v = ap suc (le-long k (v / 256))
-
-pub record-long : (kind : ℕ) (body : List ℕ) → length (recordOf kind body) ≡ 6 + length body
-record-long kind body =
-    length-append (le 4 (2 + length body)) (le 2 kind ++ body)
-    ∙ omega (arith, le-long 4 (2 + length body), length-append (le 2 kind) body, le-long 2 kind)
 
 -- three parts in a row
 three : (row a b c : List ℕ) (place : ℕ) → place + (length a + (length b + length c)) ≤ length row

@@ -8,10 +8,8 @@ use native.Mathlib.Decide.{decLt}
 use borrow.Author.Tests.{lt-ltb, le-ltb, ltb-true, eq-eqb, ne-eqb, eqb-true, eqb-false}
 use lib.Dec.{ltb, eqb}
 use lib.ListN.{length, getD, take, drop}
+use Rattle.trie_pool.proofs.Rules.{clash}
 use Rattle.image_rules.specs.Order.{below, common}
-
-pub clash : {P : Type 0} → false ≡ true → P
-clash e = absurd (let z : _≡_ {A = ℕ} 0 1 = cc in omega arith)
 
 pub common-nil : (v : List ℕ) → common v [] ≡ 0
 unfolding common

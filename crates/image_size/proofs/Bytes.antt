@@ -13,7 +13,7 @@ use Rattle.image_rules.specs.Lists.{Rising}
 use Rattle.image_list.specs.Listed.{own, listOf}
 use Rattle.image_list.proofs.Lists.{lists, list-few}
 use Rattle.image_bytes.proofs.Scalars.{size-most}
-use Rattle.image_put.proofs.Records.{le-long, record-long}
+use Rattle.image_rules.proofs.Records.{le-long, record-long}
 
 -- ---- paths
 

@@ -24,7 +24,7 @@ use Rattle.trie_pool.proofs.Edges.{Edges, edges-of, trimmed-is}
 use Rattle.trie_pool.proofs.Sets.{same-true, same-self}
 use Rattle.image_rules.specs.Order.{below, common}
 use Rattle.image_rules.specs.Reading.{follows}
-use Rattle.image_rules.proofs.Order.{clash}
+use Rattle.trie_pool.proofs.Rules.{clash}
 use Rattle.image_word.specs.inner.Words.{isNext, Rows, Trimmed, Decodes, Follows}
 
 no-1 : (a b c d : Bool) → a ≡ false → ((a && b) && c) && d ≡ false

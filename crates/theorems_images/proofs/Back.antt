@@ -11,27 +11,17 @@ use lib.Seq.{length-take-le}
 use Rattle.utf8_sequences.specs.Utf8.{encode}
 use Rattle.utf8.specs.Decoding.{runAll, scalarsOf}
 use Rattle.char_string_scalars.specs.Scalars.{isScalar, firstNonScalar}
-use Rattle.char_string_trim.specs.Trimming.{trimmedOf}
 use Rattle.theorems_unicode.proofs.Standard.{accepted}
 use Rattle.theorems_unicode.proofs.Encoding.{encode-back, all-scalars}
 use Rattle.trie_pool.specs.Words.{Word}
-use Rattle.trie_pool.specs.Meaning.{same}
-use Rattle.trie_pool.proofs.Rules.{clash}
-use Rattle.trie_pool.proofs.Sets.{same-true}
 use Rattle.trie_pool.proofs.Edges.{legal-of}
 use Rattle.image_rules.specs.Records.{Term, le, value, Bytes, recordOf, wordRecord, lastRecord, wordRecords, imageOf}
-use Rattle.image_rules.specs.Order.{below}
 use Rattle.image_rules.specs.Lists.{Next, Rising, Good}
 use Rattle.image_rules.specs.Reading.{sizeAt, whole, kindAt, bodyAt, behind, wordBytes, termOf, follows, isWord, isLast, Read, broken, list, onto, ended, read, readOf}
 use Rattle.theorems_images.specs.Images.{OnlyImages}
 use Rattle.theorems_images.proofs.Numbers.{le-value, value-below-2, value-below-4}
-use Rattle.theorems_images.proofs.Records.{both, bytes-take, body-bytes, behind-bytes, behind-long, record-is}
-
-not-list : {P : Type 0} {n : ℕ} {ts : List Term} → broken n ≡ list ts → P
-not-list e = absurd (let z : _≡_ {A = ℕ} 0 1 = cc in omega arith)
-
-list-inj : {ts us : List Term} → list ts ≡ list us → ts ≡ us
-list-inj e = cc
+use Rattle.image_rules.proofs.Readings.{both, Fine, fine, no-list, list-inj}
+use Rattle.theorems_images.proofs.Records.{bytes-take, body-bytes, behind-bytes, behind-long, record-is}
 
 -- ---- a record of kind 1
 
@@ -41,30 +31,21 @@ record Tested (before s : List ℕ) : Type 0 where
   kind : kindAt s ≡ 1
   long : 3 ≤ length (bodyAt s)
   utf8 : runAll (wordBytes s) .whole ≡ true
-  some : 1 ≤ length (termOf s .word)
-  short : length (termOf s .word) ≤ 255
-  trimmed : trimmedOf (termOf s .word) ≡ termOf s .word
-  above : below before (termOf s .word) ≡ true
+  word : Fine before (termOf s .word)
 
 tested : (before s : List ℕ) → isWord before s ≡ true → Tested before s
-unfolding isWord follows
+unfolding isWord
 tested before s h =
     let a = both _ (follows before (termOf s .word)) h in
     let b = both _ (runAll (wordBytes s) .whole) (a .0) in
     let c = both _ (leb 3 (length (bodyAt s))) (b .0) in
     let d = both (whole s) (eqb (kindAt s) 1) (c .0) in
-    let e = both _ (below before (termOf s .word)) (a .1) in
-    let f = both _ (same (trimmedOf (termOf s .word)) (termOf s .word)) (e .0) in
-    let g = both (leb 1 (length (termOf s .word))) (leb (length (termOf s .word)) 255) (f .0) in
     record {
       is-whole = d .0;
       kind = eqb-true (kindAt s) 1 (d .1);
       long = leb-true 3 (length (bodyAt s)) (c .1);
       utf8 = b .1;
-      some = leb-true 1 (length (termOf s .word)) (g .0);
-      short = leb-true (length (termOf s .word)) 255 (g .1);
-      trimmed = same-true (trimmedOf (termOf s .word)) (termOf s .word) (f .1);
-      above = e .1;
+      word = fine before (termOf s .word) (a .1);
     }
 
 module _ (before s : List ℕ) (bytes : Bytes s) (t : Tested before s) where
@@ -105,13 +86,13 @@ module _ (before s : List ℕ) (bytes : Bytes s) (t : Tested before s) where
   next-is : Next before (termOf s)
   next-is = record {
     word = record {
-      trimmed = t .trimmed;
-      some = t .some;
-      short = t .short;
-      legal = subst (λ (w : List ℕ). (i : ℕ) → i < length w → isScalar (getD w i 0) ≡ true) (t .trimmed) (legal-of (termOf s .word) scalars);
+      trimmed = t .word .trimmed;
+      some = t .word .some;
+      short = t .word .short;
+      legal = subst (λ (w : List ℕ). (i : ℕ) → i < length w → isScalar (getD w i 0) ≡ true) (t .word .trimmed) (legal-of (termOf s .word) scalars);
     };
     class = class-most;
-    above = t .above;
+    above = t .word .above;
   }
 
 -- ---- a record of kind 0
@@ -173,17 +154,17 @@ ended-back before n place s ts bytes h = go (isLast n s) refl (eqb (length s) 10
     go true e true f h =
         let l = eqb-true (length s) 10 f in
         no-more before n s ts (last-few n s bytes e l) (last-record n s bytes e l) (list-inj (sym h))
-    go true e false f h = not-list h
-    go false e b f h = not-list h
+    go true e false f h = no-list h
+    go false e b f h = no-list h
 
 back : (f : ℕ) (before : List ℕ) (n place : ℕ) (s : List ℕ) (ts : List Term) → Bytes s → read f before n place s ≡ list ts → Back before n s ts
 unfolding read
-back zero before n place s ts bytes h = not-list h
+back zero before n place s ts bytes h = no-list h
 back (suc f) before n place s ts bytes h = go (isWord before s) refl h (back f)
   where
     inner : (r : Read) → isWord before s ≡ true → read f (termOf s .word) (suc n) (place + (4 + sizeAt s)) (behind s) ≡ r → onto (termOf s) r ≡ list ts
         → ((before : List ℕ) (n place : ℕ) (s : List ℕ) (ts : List Term) → Bytes s → read f before n place s ≡ list ts → Back before n s ts) → Back before n s ts
-    inner (broken k) w e h ih = not-list h
+    inner (broken k) w e h ih = no-list h
     inner (list us) w e h ih =
         let t = tested before s w in
         one-more before n s ts us (termOf s) (next-is before s bytes t) (word-record before s bytes t)

@@ -16,7 +16,8 @@ use Rattle.trie_pool.proofs.With.{in-either, in-left, in-right, both-distinct}
 use Rattle.image_rules.specs.Records.{Term}
 use Rattle.image_rules.specs.Order.{below, common}
 use Rattle.image_rules.specs.Lists.{Rising, termsIn, chargeFrom}
-use Rattle.image_rules.proofs.Order.{clash, Two, one, other, two, common-nil, common-none, common-same, common-apart}
+use Rattle.trie_pool.proofs.Rules.{clash}
+use Rattle.image_rules.proofs.Order.{Two, one, other, two, common-nil, common-none, common-same, common-apart}
 use Rattle.image_rules.proofs.Order.{below-nil, below-same, below-apart, below-trans}
 use Rattle.image_rules.proofs.Lists.{no-term, terms-first}
 use Rattle.theorems_images.specs.Images.{ChargeIs}

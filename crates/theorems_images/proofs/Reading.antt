@@ -24,7 +24,7 @@ use Rattle.image_rules.specs.Records.{Term, le, value, Bytes, recordOf, wordRec
 use Rattle.image_rules.specs.Order.{below}
 use Rattle.image_rules.specs.Lists.{Next, Rising, Good}
 use Rattle.image_rules.specs.Reading.{sizeAt, whole, kindAt, bodyAt, behind, wordBytes, termOf, follows, isWord, isLast, Read, broken, list, onto, ended, read, readOf}
-use Rattle.image_put.proofs.Records.{le-long}
+use Rattle.image_rules.proofs.Records.{le-long}
 use Rattle.image_size.proofs.Bytes.{encode-most, word-long, image-long}
 use Rattle.image_bytes.proofs.Scalars.{size-1, size-2, size-3, size-4}
 use Rattle.theorems_images.specs.Images.{ImageSays}

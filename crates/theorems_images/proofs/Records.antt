@@ -8,15 +8,12 @@ use borrow.Author.Tests.{le-leb, leb-true, eq-eqb, eqb-true}
 use lib.Dec.{leb, eqb}
 use lib.ListN.{length, getD, take, drop, length-append, length-drop, take-append-drop}
 use lib.Seq.{length-take-le, take-at, drop-at, drop-drop, getD-take, getD-drop, take-take}
-use Rattle.trie_pool.proofs.Rules.{clash, join}
+use Rattle.trie_pool.proofs.Rules.{join}
 use Rattle.image_rules.specs.Records.{le, value, Bytes, recordOf}
 use Rattle.image_rules.specs.Reading.{sizeAt, whole, kindAt, bodyAt, behind}
-use Rattle.image_put.proofs.Records.{le-long}
+use Rattle.image_rules.proofs.Records.{le-long}
+use Rattle.image_rules.proofs.Readings.{both}
 use Rattle.theorems_images.proofs.Numbers.{value-2, value-4, le-value}
-
-pub both : (a b : Bool) → (a && b) ≡ true → (a ≡ true) × (b ≡ true)
-both true b e = (refl, e)
-both false b e = clash e
 
 -- ---- bytes that start with a record
 
