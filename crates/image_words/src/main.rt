@@ -45,9 +45,9 @@ fn main() {
 }
 
 // Reads to the end of the input, or until the row is full.
-fn read_all(image: &mut [u8; IMAGE]) -> Got {
+fn read_all(image: &mut [u8]) -> Got {
     let mut n = 0;
-    while n < IMAGE {
+    while n < image.len() {
         let got = read_some(&mut image[n..], b"image_words: reading standard input");
         let Got::Bytes(k) = got else {
             return Got::Failed;
@@ -55,8 +55,8 @@ fn read_all(image: &mut [u8; IMAGE]) -> Got {
         if k == 0 {
             return Got::Bytes(n);
         }
-        if IMAGE - n <= k {
-            return Got::Bytes(IMAGE);
+        if image.len() - n <= k {
+            return Got::Bytes(image.len());
         }
         n += k;
     }
@@ -68,8 +68,8 @@ fn list(image: &[u8]) -> bool {
     let mut line = [0u8; LINE];
     let mut at = 0;
     while at < image.len() {
-        let record = record_at(image, at);
-        let Record::Word { class, from, to } = record else {
+        let found = record_at(image, at);
+        let Record::Word { class, from, to } = found else {
             return true;
         };
         let n = write_line(&image[from..to], class, &mut line);

@@ -44,14 +44,20 @@ fn main() {
     let Line::Kept(kept, lines) = read else {
         return;
     };
-    if take(
-        front(&line, kept),
-        lines,
-        &mut pool,
-        &mut scalars,
-        &mut positions,
-    ) {
-        write(&pool);
+    end_run(&line, kept, lines, &mut pool, &mut scalars, &mut positions);
+}
+
+// Adds the word of a last line without a line feed, and writes the image.
+fn end_run(
+    line: &[u8; LINE],
+    kept: usize,
+    lines: u64,
+    pool: &mut [u32; POOL],
+    scalars: &mut [u32; TEXT],
+    positions: &mut [u32; POSITIONS],
+) {
+    if take(front(line, kept), lines, pool, scalars, positions) {
+        write(pool);
     }
 }
 
