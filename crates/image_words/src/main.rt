@@ -1,91 +1,86 @@
 // The program that lists the words of an image. The image stands on standard input. The words go to
 // standard output in their order, a word to a line, with a tab and its class in decimal behind a word
-// of another class than 0. What is refused is told in a line on standard error, and no word is
-// written.
+// of another class than 0. A refusal, or a read or a write that fails, is told in a line on standard
+// error; no word is written where the image is refused.
 use image_record::Record;
 use image_record::record_at;
 use libc::STDERR_FILENO;
-use libc::STDIN_FILENO;
-use libc::STDOUT_FILENO;
 use refusal::Answer;
 use refusal::Refusal;
-ghost use Prim.Native.Nat.{_-_, _≤_};
+use sheet_bytes::front;
+use sheet_io::Got;
+use sheet_io::read_some;
+use sheet_io::write_whole;
+use word_lines::write_line;
+use word_list::read_image;
 
-// An image has fewer bytes than that.
+// An image has fewer bytes.
 const IMAGE: usize = 524288;
 
 // Cells of 32,768 nodes.
 const POOL: usize = 262144;
 
+// A word of 255 characters, a tab, five digits and a line feed.
+const LINE: usize = 1027;
+
 fn main() {
     let mut image = [0u8; IMAGE];
     let mut pool = [0u32; POOL];
-    let n = io::read_full(STDIN_FILENO, &mut image);
-    if n == IMAGE {
+    let got = read_all(&mut image);
+    let Got::Bytes(n) = got else {
+        return;
+    };
+    if IMAGE <= n {
         io::write_all(STDERR_FILENO, b"image_words: the image is too long\n");
         return;
     }
     trie_char::fresh(&mut pool);
-    let answer = word_list::read_image(&mut pool, &image[..n]);
+    let answer = read_image(&mut pool, front(&image, n));
     match answer {
-        Answer::Accepted(_) => list(&image[..n]),
+        Answer::Accepted(_) => {
+            list(front(&image, n));
+        }
         Answer::Refused(r) => tell_refusal(r),
     }
 }
 
-// Writes the words of an image that is right.
-fn list(image: &[u8]) {
+// Reads to the end of the input, or until the row is full.
+fn read_all(image: &mut [u8]) -> Got {
+    let mut n = 0;
+    while n < image.len() {
+        let got = read_some(&mut image[n..], b"image_words: reading standard input");
+        let Got::Bytes(k) = got else {
+            return Got::Failed;
+        };
+        if k == 0 {
+            return Got::Bytes(n);
+        }
+        if image.len() - n <= k {
+            return Got::Bytes(image.len());
+        }
+        n += k;
+    }
+    Got::Bytes(n)
+}
+
+// Writes the words of an image that is right; false where a write fails.
+fn list(image: &[u8]) -> bool {
+    let mut line = [0u8; LINE];
     let mut at = 0;
     while at < image.len() {
-        let record = record_at(image, at);
-        let end = tell_record(image, record);
-        at = behind(at, end, image.len());
-    }
-}
-
-// Writes the line of a word, and answers where its record ends; the end of the image for another.
-fn tell_record(image: &[u8], record: Record) -> usize {
-    match record {
-        Record::Word { class, from, to } => {
-            tell_word(part(image, from, to), class);
-            to
+        let found = record_at(image, at);
+        let Record::Word { class, from, to } = found else {
+            return true;
+        };
+        let n = write_line(&image[from..to], class, &mut line);
+        if !write_whole(front(&line, n), b"image_words: writing standard output") {
+            return false;
         }
-        Record::Last(_) => image.len(),
-        Record::Broken => image.len(),
+        at = to;
     }
+    true
 }
 
-// A place behind `at`: `to`, or the end where that is none.
-fn behind(at: usize, to: usize, end: usize) -> usize
-    ensures { λ r. ⌜ end - r ≤ end - at - 1 ⌝ }
-{
-    if to <= at {
-        return end;
-    }
-    to
-}
-
-// The bytes between two places, none where they are not in the row.
-fn part(row: &[u8], from: usize, to: usize) -> &[u8] {
-    if row.len() < to {
-        return &row[0..0];
-    }
-    if to < from {
-        return &row[0..0];
-    }
-    &row[from..to]
-}
-
-fn tell_word(word: &[u8], class: usize) {
-    io::write_all(STDOUT_FILENO, word);
-    if 0 < class {
-        io::write_all(STDOUT_FILENO, b"\t");
-        io::print_decimal(STDOUT_FILENO, class as u64);
-    }
-    io::write_all(STDOUT_FILENO, b"\n");
-}
-
-// `image_words: refusal number, detail`
 fn tell_refusal(r: Refusal) {
     io::write_all(STDERR_FILENO, b"image_words: refusal ");
     io::print_decimal(STDERR_FILENO, refusal::number(r) as u64);

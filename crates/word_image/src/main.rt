@@ -1,190 +1,200 @@
 // The program that makes an image of a word list. The list stands on standard input, a word to a
 // line, in any order, with a tab and its class in decimal behind a word that has one. The image goes
-// to standard output. What is refused is told in a line on standard error, and no image is written.
+// to standard output. A refusal, or a read or a write that fails, is told in a line on standard
+// error, and no image is written then.
 use libc::STDERR_FILENO;
-use libc::STDIN_FILENO;
 use refusal::Answer;
 use refusal::Refusal;
 use sheet_bytes::front;
+use sheet_bytes::keep;
 use sheet_bytes::line_end;
+use sheet_io::Got;
+use sheet_io::read_some;
 use sheet_io::write_whole;
-ghost use Prim.Native.Nat.{_-_, _≤_};
+use word_lines::Taken;
+use word_lines::take_line;
+use word_list_write::write_image;
 
-// A list has fewer bytes than that.
-const LIST: usize = 524288;
+// A line has fewer bytes.
+const LINE: usize = 2048;
 
 // Cells of 32,768 nodes.
 const POOL: usize = 262144;
 
-// More than the longest text.
-const TEXT: usize = 65537;
+const TEXT: usize = 2048;
+
+const POSITIONS: usize = 2049;
 
 const IMAGE: usize = 524288;
 
-// More than every class.
-const NO_CLASS: usize = 65536;
+// What became of the input: so many bytes of a line that goes on are kept, behind so many lines; or
+// it is refused.
+enum Line {
+    Kept(usize, u64),
+    Failed,
+}
 
 fn main() {
-    let mut list = [0u8; LIST];
+    let mut line = [0u8; LINE];
     let mut pool = [0u32; POOL];
-    let mut word = [0u32; TEXT];
-    let mut positions = [0u32; TEXT];
-    let mut image = [0u8; IMAGE];
-    let n = io::read_full(STDIN_FILENO, &mut list);
-    if n == LIST {
-        io::write_all(STDERR_FILENO, b"word_image: the list is too long\n");
-        return;
-    }
+    let mut scalars = [0u32; TEXT];
+    let mut positions = [0u32; POSITIONS];
     trie_char::fresh(&mut pool);
-    if add_lines(&list[..n], &mut pool, &mut word, &mut positions) {
-        write(&pool, &mut image);
+    let read = read_all(&mut line, &mut pool, &mut scalars, &mut positions);
+    let Line::Kept(kept, lines) = read else {
+        return;
+    };
+    end_run(&line, kept, lines, &mut pool, &mut scalars, &mut positions);
+}
+
+// Adds the word of a last line without a line feed, and writes the image.
+fn end_run(
+    line: &[u8; LINE],
+    kept: usize,
+    lines: u64,
+    pool: &mut [u32; POOL],
+    scalars: &mut [u32; TEXT],
+    positions: &mut [u32; POSITIONS],
+) {
+    if take(front(line, kept), lines, pool, scalars, positions) {
+        write(pool);
     }
 }
 
-// Adds the words of all lines; false where one is refused, and no further line is read.
-fn add_lines(list: &[u8], pool: &mut [u32], word: &mut [u32], positions: &mut [u32]) -> bool {
-    let mut at = 0;
-    while at < list.len() {
-        let rest = &list[at..];
-        let n = line_end(rest);
-        if !add_line(front(rest, n), at, pool, word, positions) {
-            return false;
+fn write(pool: &[u32; POOL]) {
+    let mut image = [0u8; IMAGE];
+    let answer = write_image(pool, &mut image);
+    match answer {
+        Answer::Accepted(n) => {
+            write_whole(front(&image, n), b"word_image: writing standard output");
         }
-        at = behind(at, n, list.len());
+        Answer::Refused(r) => tell_refusal(r),
     }
-    true
 }
 
-// Where the next line starts, behind a line of n bytes, or the end.
-fn behind(at: usize, n: usize, end: usize) -> usize
-    ensures { λ r. ⌜ end - r ≤ end - at - 1 ⌝ }
-{
-    if end <= at {
-        return at;
-    }
-    if n < end - at {
-        return at + n + 1;
-    }
-    end
-}
-
-fn add_line(
+// Adds the word of the line behind so many lines; false where it is refused, which is told.
+fn take(
     line: &[u8],
-    at: usize,
-    pool: &mut [u32],
-    word: &mut [u32],
-    positions: &mut [u32],
+    lines: u64,
+    pool: &mut [u32; POOL],
+    scalars: &mut [u32; TEXT],
+    positions: &mut [u32; POSITIONS],
 ) -> bool {
-    let tab = tab_at(line);
-    let class = class_behind(line, tab);
-    if NO_CLASS <= class {
-        tell(
-            b"word_image: no class behind the tab of the line at byte ",
-            at,
-        );
+    if LINE <= line.len() {
+        tell_line(lines);
+        io::write_all(STDERR_FILENO, b"too long\n");
         return false;
     }
-    let decoded = utf8::decode(front(line, tab), word, positions);
-    match decoded {
-        Answer::Accepted(n) => {
-            let added = trie_char::add_class(pool, first(word, n), class as u16);
-            is_done(added, at)
-        }
-        Answer::Refused(r) => {
-            tell_refusal(r, at);
+    let taken = take_line(line, pool, scalars, positions);
+    match taken {
+        Taken::NoClass => {
+            tell_line(lines);
+            io::write_all(STDERR_FILENO, b"no class behind the tab\n");
             false
         }
+        Taken::Answered(answer) => is_added(answer, lines),
     }
 }
 
-// Whether it was accepted; what was refused is told.
-fn is_done(answer: Answer, at: usize) -> bool {
+fn is_added(answer: Answer, lines: u64) -> bool {
     match answer {
         Answer::Accepted(_) => true,
         Answer::Refused(r) => {
-            tell_refusal(r, at);
+            tell_line(lines);
+            tell_refusal(r);
             false
         }
     }
 }
 
-// The first n cells of row, or all of it where there are fewer.
-fn first(row: &[u32], n: usize) -> &[u32] {
-    if n <= row.len() {
-        return &row[0..n];
-    }
-    row
-}
-
-// Where the first tab stands, or the length where there is none.
-fn tab_at(line: &[u8]) -> usize {
-    let mut i = 0;
-    while i < line.len() {
-        if line[i] == b'\t' {
-            return i;
+// A proved loop has to end, and nothing says that the input does: it has more turns than any run
+// uses up.
+fn read_all(
+    line: &mut [u8; LINE],
+    pool: &mut [u32; POOL],
+    scalars: &mut [u32; TEXT],
+    positions: &mut [u32; POSITIONS],
+) -> Line {
+    let mut buffer = io::large_buffer();
+    let mut kept = 0;
+    let mut lines = 0;
+    let mut turns = u64::MAX;
+    while turns > 0 {
+        let got = read_some(&mut buffer, b"word_image: reading standard input");
+        let Got::Bytes(n) = got else {
+            return Line::Failed;
+        };
+        if n == 0 {
+            return Line::Kept(kept, lines);
         }
-        i += 1;
+        let fed = feed_all(
+            front(&buffer, n),
+            line,
+            kept,
+            lines,
+            pool,
+            scalars,
+            positions,
+        );
+        let Line::Kept(k, l) = fed else {
+            return Line::Failed;
+        };
+        kept = k;
+        lines = l;
+        turns -= 1;
     }
-    i
+    Line::Kept(kept, lines)
 }
 
-// The class behind a tab, 0 where there is no tab; NO_CLASS where something else stands there.
-fn class_behind(line: &[u8], tab: usize) -> usize {
-    if line.len() <= tab {
-        return 0;
-    }
-    class_of(&line[tab + 1..])
-}
-
-fn class_of(text: &[u8]) -> usize {
-    if text.len() == 0 {
-        return NO_CLASS;
-    }
-    let mut n = 0;
-    let mut i = 0;
-    while i < text.len() {
-        n = with_digit(n, text[i]);
-        i += 1;
-    }
-    n
-}
-
-// A class with one digit more.
-fn with_digit(n: usize, b: u8) -> usize {
-    if 6553 < n {
-        return NO_CLASS;
-    }
-    if b < b'0' {
-        return NO_CLASS;
-    }
-    if b'9' < b {
-        return NO_CLASS;
-    }
-    10 * n + (b - b'0') as usize
-}
-
-fn write(pool: &[u32], image: &mut [u8]) {
-    let answer = word_list_write::write_image(pool, image);
-    match answer {
-        Answer::Accepted(n) => {
-            write_whole(front(image, n), b"word_image: writing standard output");
+// Adds the words of the lines that end in the bytes, the first of which starts with the `kept` bytes
+// of `line` and stands behind `before` lines.
+fn feed_all(
+    bytes: &[u8],
+    line: &mut [u8; LINE],
+    kept: usize,
+    before: u64,
+    pool: &mut [u32; POOL],
+    scalars: &mut [u32; TEXT],
+    positions: &mut [u32; POSITIONS],
+) -> Line {
+    let mut n = kept;
+    let mut lines = before;
+    let mut at = 0;
+    while at < bytes.len() {
+        let part = &bytes[at..];
+        let end = line_end(part);
+        n = keep(line, n, &part[..end]);
+        if end == part.len() {
+            return Line::Kept(n, lines);
         }
-        Answer::Refused(r) => tell_refusal(r, 0),
+        if !take(front(line, n), lines, pool, scalars, positions) {
+            return Line::Failed;
+        }
+        n = 0;
+        lines = one_more(lines);
+        at += end + 1;
     }
+    Line::Kept(n, lines)
 }
 
-// `word_image: refusal number, detail, at byte of the list`
-fn tell_refusal(r: Refusal, at: usize) {
-    io::write_all(STDERR_FILENO, b"word_image: refusal ");
+fn one_more(lines: u64) -> u64 {
+    if lines == u64::MAX {
+        return lines;
+    }
+    lines + 1
+}
+
+// `word_image: line `, its number from 1 on, and `: `
+fn tell_line(before: u64) {
+    io::write_all(STDERR_FILENO, b"word_image: line ");
+    io::print_decimal(STDERR_FILENO, one_more(before));
+    io::write_all(STDERR_FILENO, b": ");
+}
+
+fn tell_refusal(r: Refusal) {
+    io::write_all(STDERR_FILENO, b"refusal ");
     io::print_decimal(STDERR_FILENO, refusal::number(r) as u64);
     io::write_all(STDERR_FILENO, b", detail ");
     io::print_decimal(STDERR_FILENO, refusal::detail(r) as u64);
-    tell(b", of the line at byte ", at);
-}
-
-// A line on standard error that ends with a number.
-fn tell(what: &[u8], n: usize) {
-    io::write_all(STDERR_FILENO, what);
-    io::print_decimal(STDERR_FILENO, n as u64);
     io::write_all(STDERR_FILENO, b"\n");
 }
