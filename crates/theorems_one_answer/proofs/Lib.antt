@@ -18,3 +18,4 @@ pub mod Whys
 pub mod Releases
 pub mod Figures
 pub mod Images
+pub mod WordLines
