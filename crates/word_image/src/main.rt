@@ -68,7 +68,10 @@ fn write(pool: &[u32; POOL]) {
         Answer::Accepted(n) => {
             write_whole(front(&image, n), b"word_image: writing standard output");
         }
-        Answer::Refused(r) => tell_refusal(r),
+        Answer::Refused(r) => {
+            io::write_all(STDERR_FILENO, b"word_image: ");
+            tell_refusal(r);
+        }
     }
 }
 
