@@ -16,6 +16,7 @@ import real
 LONG = 65535
 LINES = 500
 SMALL = 700
+SOME = 5000
 SIZES = (250, 1000, 4000, 16000, LONG)
 GO = "\u0e01"
 
@@ -50,9 +51,14 @@ def nodes(words):
 def dictionaries(out, rust):
     yield "all", sorted(real.words())
     yield "small", small(out, rust)
+    yield "some", evenly(sorted(real.words()), SOME)
     yield "worst-1", [GO * 2, GO * 3]
     yield "worst-2", [GO * n for n in range(1, 256)]
     yield "worst-3", [GO * 255]
+
+
+def evenly(words, count):
+    return [words[k * len(words) // count] for k in range(count)]
 
 
 def spaced(count):

@@ -40,6 +40,8 @@ ROWS = (
     + [(op, texts, words) for op in ("plain", "safe") for words in ("small", "all") for texts in (LINES, LONG)]
     + [("batch", texts, words) for words in ("small", "all") for texts in (LINES, ALL)]
 )
+# words that are loaded by an image
+IMAGES = ("small", "some", "all")
 # how many times the nodes it uses a roomy pool is lent with
 ROOM = 8
 # what the other sides do text by text
@@ -155,6 +157,7 @@ def measure_rows():
     wanted += [("ours", ("winners", texts, "small")) for texts in (LINES, LONG)]
     wanted += [("ours", ("sheet", texts, words)) for words in ("small", "all") for texts in (LINES, LONG)]
     wanted += [("ours", (op, LONG, words)) for words in ("small", "all") for op in ("cut", "reasons", "feed", "claim", "map", "next", "next-bare")]
+    wanted += [("ours", (op, LONG, words)) for words in IMAGES for op in ("read-image", "write-image")]
     if os.path.exists(DRIVERS["before"]):
         wanted += [("before", (op, LONG, "all")) for op in ("places", "check")]
     times = rounds(wanted)
@@ -188,6 +191,11 @@ def breaks():
     return {words: len(output(command("ours", "answers", "cut", LONG, words)).split()) for words in ("small", "all")}
 
 
+def images():
+    """The bytes of the words' images."""
+    return {words: int(output(command("ours", "size", "read-image", LONG, words))) for words in IMAGES}
+
+
 def sizes():
     """The characters and bytes of the texts."""
     found = {}
@@ -210,7 +218,7 @@ def main():
     for texts in (LINES, LONG):
         if not filecmp.cmp(answers("ours", "winners", texts, "small"), answers("rust", "clusters", texts, "small"), shallow=False):
             raise SystemExit("the two matchers differ: %s" % texts)
-    results = {"sizes": sizes(), "breaks": breaks(), "loads": loads, "rows": measure_rows(), "growth": growth()}
+    results = {"sizes": sizes(), "breaks": breaks(), "images": images(), "loads": loads, "rows": measure_rows(), "growth": growth()}
     with open(os.path.join(WORK, "results.json"), "w", encoding="utf-8") as file:
         json.dump(results, file, indent=1)
 

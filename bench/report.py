@@ -63,7 +63,7 @@ class Results:
         self.all = json.load(open(os.path.join(WORK, "results.json"), encoding="utf-8"))
         self.rows = {(row["side"], *row["what"]): row for row in self.all["rows"]}
         self.sizes, self.loads, self.growth = self.all["sizes"], self.all["loads"], self.all["growth"]
-        self.breaks = self.all["breaks"]
+        self.breaks, self.images = self.all["breaks"], self.all["images"]
 
     def time(self, *key):
         return min(self.rows[key]["times"]) - (self.time(*self.check(*key)) if self.check(*key) else 0)
@@ -180,9 +180,21 @@ def memory(r):
         for side, name, kind in (("ours", "ours", "the pool"), ("rust", "the Rust", "resident")):
             took, size = r.loads[words][side]
             rows.append(["%s, %s" % (name, r.words(words)), seconds(took), "{:,} KB, {}".format(size // 1024, kind)])
+        took = r.time("ours", "read-image", LONG, words)
+        rows.append(["ours, %s, by an image" % r.words(words), seconds(took), "{:,} KB, the image".format(r.images[words] // 1024)])
     for side, name in (("libthai", "libthai"), ("icu", "ICU")):
         took, size = r.loads[side][side]
         rows.append(["%s, its own" % name, seconds(took), "{:,} KB, resident".format(size // 1024)])
+    return table(head, rows)
+
+
+def images(r):
+    """Reading and writing images, a byte of the image."""
+    head = ["words", "image", "reading, ns a byte", "instr.", "writing, ns a byte", "instr."]
+    rows = []
+    for words in ("small", "some", "all"):
+        costs = [ns(of("ours", op, LONG, words) / r.images[words]) for op in ("read-image", "write-image") for of in (r.time, r.count)]
+        rows.append([r.words(words), "{:,} bytes".format(r.images[words])] + costs)
     return table(head, rows)
 
 
@@ -270,6 +282,8 @@ def targets(r):
     yield row("lines in one call, all lines, %s words" % r.words("all"), 3.3, ("batch", ALL, "all"))
     for texts, name in (LINES, "lines in one call"), (ALL, "lines in one call, all lines"):
         yield row("%s, %s words" % (name, r.words("small")), 4.5, ("batch", texts, "small"))
+    took = r.loads["all"]["rust"][0] / r.time("ours", "read-image", LONG, "all")
+    yield ["loading %s words by an image" % r.words("all"), "4", "%.2f" % took, "", "met" if took >= 4 else "missed"]
     yield row("decoding, one long text", 1, ("decode", LONG, "small"))
     yield row("decoding, lines", 1, ("decode", LINES, "small"))
 
@@ -345,6 +359,8 @@ def limits(r):
     for words in ("all", "small"):
         ratios = [of("ours", "batch", LINES, words) / of("ours", "plain", JOINED, words) for of in (r.time, r.count)]
         yield row("lines in one call against one text of the same characters, %s words" % r.words(words), 1.3, ratios)
+    ratios = [of("ours", "read-image", LONG, "all") / r.images["all"] / (of("ours", "read-image", LONG, "some") / r.images["some"]) for of in (r.time, r.count)]
+    yield row("reading an image, a byte of %s words against %s" % (r.words("all"), r.words("some")), 1.3, ratios)
     for side, name in (("libthai", "libthai"), ("icu", "ICU")):
         ratios = [of("ours", "batch", ALL, "all") / of(side, "batch", ALL, "") for of in (r.time, r.count)]
         yield row("all lines in one call, %s words, against %s" % (r.words("all"), name), 1, ratios)
@@ -378,7 +394,8 @@ def sections(r):
     yield "## Release figures", against(r, "feed", "reasons")
     yield "## Checking a claim", [*against(r, "claim"), "", "Instructions a character, the check of the pool included:", "", *claims_grown(r)]
     yield "## Maps of breaks", ["Of the long text. A next break is a call from each break to the one behind it.", "", *maps(r)]
-    yield "## Loading and memory", ["Ours adds the words one by one. The pool is as long as its nodes need.", "", *memory(r)]
+    how = "Ours adds the words one by one, or reads them as an image. The pool is as long as its nodes need."
+    yield "## Loading and memory", [how, "", *memory(r), "", *images(r)]
     yield "## Growth", ["![cost a character against the text's length](cost.svg)", "", *growth(r)]
 
 

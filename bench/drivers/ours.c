@@ -3,7 +3,11 @@
  *   ours load WORDS NODES POOL [FROM]
  *
  * has made by adding the words one by one, to a fresh pool or to the words of the pool FROM; it writes the nanoseconds
- * that took and the pool's bytes. */
+ * that took and the pool's bytes.
+ *
+ *   ours size read-image TEXTS POOL
+ *
+ * writes the bytes of the image of the pool's words. */
 #include "driver.h"
 #include "fetlockice.h"
 
@@ -20,6 +24,8 @@ size_t search_places(const uint32_t *pool, size_t pool_len, const uint32_t *text
 #pragma weak fetlockice_feed_plain
 #pragma weak fetlockice_break_map
 #pragma weak fetlockice_next_break
+#pragma weak fetlockice_read_image
+#pragma weak fetlockice_write_image
 
 enum op {
     DECODE,
@@ -40,17 +46,21 @@ enum op {
     NEXT_BARE,
     CHECK,
     EDIT,
+    READ_IMAGE,
+    WRITE_IMAGE,
     READ,
     READ_WIDE
 };
-static const char *const names[] = {"decode", "clusters",  "winners", "prefix",  "places", "plain", "safe",
-                                    "sheet",  "batch",     "cut",     "reasons", "feed",   "claim", "map",
-                                    "next",   "next-bare", "check",   "edit",    "read",   "read-wide"};
+static const char *const names[] = {"decode",     "clusters",    "winners", "prefix",    "places",  "plain",
+                                    "safe",       "sheet",       "batch",   "cut",       "reasons", "feed",
+                                    "claim",      "map",         "next",    "next-bare", "check",   "edit",
+                                    "read-image", "write-image", "read",    "read-wide"};
 
 static enum op op;
 static uint32_t *pool, *out, *won, *scratch, *cells, *positions, *text_ends, *told, **scalars, **ends;
 static uint64_t **maps;
-static size_t pool_len, scratch_len, *lengths, *end_counts;
+static uint8_t *image;
+static size_t pool_len, image_len, scratch_len, *lengths, *end_counts;
 static volatile uint32_t kept;
 
 static void accepted(uint32_t answer) {
@@ -175,6 +185,19 @@ static size_t edit(size_t i) {
     return count;
 }
 
+/* Reads the image of the pool's words: the pool is as it was. */
+static size_t read_image(void) {
+    size_t count, detail;
+    accepted(fetlockice_read_image(pool, pool_len, image, image_len, &count, &detail));
+    return count;
+}
+
+static size_t write_image(void) {
+    size_t count, detail;
+    accepted(fetlockice_write_image(pool, pool_len, image, image_len, &count, &detail));
+    return count;
+}
+
 __attribute__((noinline, optimize("O2", "no-tree-vectorize"))) static uint32_t read_cells(void) {
     uint32_t sum = 0;
     for (size_t i = 0; i < pool_len; i++) sum += pool[i];
@@ -212,6 +235,8 @@ static size_t answer(size_t i) {
     case NEXT_BARE: return next(i);
     case CHECK: return check();
     case EDIT: return edit(i);
+    case READ_IMAGE: return read_image();
+    case WRITE_IMAGE: return write_image();
     case READ: return read_cells();
     case READ_WIDE: return read_wide();
     }
@@ -315,6 +340,21 @@ static void prepare_ends(void) {
     }
 }
 
+/* The image of the pool's words. The pool is made anew by it, with the same cells. */
+static void prepare_image(void) {
+    size_t count, detail;
+    uint32_t *before = room(4 * pool_len);
+    memcpy(before, pool, 4 * pool_len);
+    if (fetlockice_write_image(pool, pool_len, (uint8_t *)before, 0, &count, &image_len) != FETLOCKICE_OUTPUT_TOO_SHORT)
+        die("an image of no bytes");
+    image = room(image_len);
+    write_image();
+    accepted(fetlockice_fresh(pool, pool_len, &count, &detail));
+    read_image();
+    if (memcmp(before, pool, 4 * pool_len) != 0) die("an image gives other cells than adding its words");
+    free(before);
+}
+
 int main(int argc, char **argv) {
     if ((argc == 5 || argc == 6) && !strcmp(argv[1], "load")) {
         load(argv[2], strtoul(argv[3], NULL, 10), argv[4], argv[5]);
@@ -326,6 +366,8 @@ int main(int argc, char **argv) {
     prepare(argv[3]);
     if (argc > 4) pool = (uint32_t *)read_file(argv[4], &pool_len), pool_len /= 4;
     if (op >= CLAIM && op <= NEXT_BARE) prepare_ends();
+    if (op == READ_IMAGE || op == WRITE_IMAGE) prepare_image();
+    if (!strcmp(argv[1], "size")) return printf("%zu\n", image_len), 0;
     if (!strcmp(argv[1], "answers")) answers();
     else if (!strcmp(argv[1], "time")) printf("%.1f\n", best_ns());
     else bench_pass();

@@ -8,11 +8,8 @@ fn main() -> Result<(), Box<dyn Error>> {
     if paths.len() != 2 {
         return Err("usage: cut_sheet WORDS SHEET".into());
     }
-    let (words, sheet) = (
-        fs::read_to_string(&paths[0])?,
-        fs::read_to_string(&paths[1])?,
-    );
-    let dictionary = Dictionary::from_words(words.split_terminator('\n'))?;
+    let dictionary = Dictionary::from_file(&paths[0])?;
+    let sheet = fs::read_to_string(&paths[1])?;
     for cut in Cutter::new().cut_lines(&dictionary, sheet.split_terminator('\n'), Mode::Safe) {
         let tokens: Vec<&str> = cut?.tokens.iter().map(|token| token.text).collect();
         println!("{}", tokens.join("|"));

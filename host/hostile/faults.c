@@ -32,6 +32,8 @@ uint32_t __real_fetlockice_contains_class(const uint32_t *, size_t, const uint32
 uint32_t __real_fetlockice_prefix_lengths(const uint32_t *, size_t, const uint32_t *, size_t, uint32_t *, size_t,
                                           size_t *, size_t *);
 uint32_t __real_fetlockice_word_count(const uint32_t *, size_t, size_t *, size_t *);
+uint32_t __real_fetlockice_read_image(uint32_t *, size_t, const uint8_t *, size_t, size_t *, size_t *);
+uint32_t __real_fetlockice_write_image(const uint32_t *, size_t, uint8_t *, size_t, size_t *, size_t *);
 uint32_t __real_fetlockice_cut_plain(CUT);
 uint32_t __real_fetlockice_cut_safe(CUT);
 uint32_t __real_fetlockice_cut_sheet(CUT);
@@ -332,5 +334,42 @@ uint32_t __wrap_fetlockice_join_figures(uint64_t *figures, const uint64_t *more,
     if (FAULT == 60 && number == 0) figures[FETLOCKICE_MOST_EDGES] = more[FETLOCKICE_MOST_EDGES];
     if (FAULT == 61 && number != 0 && figures[FETLOCKICE_TEXTS] + more[FETLOCKICE_TEXTS] <= UINT32_MAX)
         figures[FETLOCKICE_TEXTS] += more[FETLOCKICE_TEXTS];
+    return number;
+}
+
+/* 62: a class has eight bits; 63: what stands behind the last record is left out; 64: a call that is refused with 8 has
+ * emptied the pool; 65: the words that are held count for 8; 66: 9 names the place behind the record's length; 67: a
+ * byte behind the image is read */
+uint32_t __wrap_fetlockice_read_image(uint32_t *pool, size_t cells, const uint8_t *image, size_t size, size_t *count,
+                                      size_t *detail) {
+    if (FAULT == 67) (void)*(const volatile uint8_t *)(image + size);
+    uint32_t held = cells > 0 ? pool[0] : 0;
+    uint32_t number = __real_fetlockice_read_image(pool, cells, image, size, count, detail);
+    for (size_t i = 1; FAULT == 62 && number == 0 && i < pool[0]; i++)
+        if (pool[8 * i + 3] > 256) pool[8 * i + 3] = 1 + (pool[8 * i + 3] - 1) % 256;
+    if (FAULT == 63 && number == FETLOCKICE_BAD_IMAGE && *detail > 0) {
+        size_t at = *detail;
+        if (__real_fetlockice_read_image(pool, cells, image, at, count, detail) == 0) return 0;
+        *count = 0, *detail = at;
+    }
+    if (FAULT == 64 && number == FETLOCKICE_TOO_FEW_NODES) {
+        size_t none, nothing;
+        __real_fetlockice_fresh(pool, cells, &none, &nothing);
+    }
+    if (FAULT == 65 && number == FETLOCKICE_TOO_FEW_NODES) *detail += held - 1;
+    if (FAULT == 66 && number == FETLOCKICE_BAD_IMAGE) *detail += 4;
+    return number;
+}
+
+/* 68: a class has its high byte first; 69: refusal 6 leaves the last record out; 70: a byte behind the image is written */
+uint32_t __wrap_fetlockice_write_image(const uint32_t *pool, size_t cells, uint8_t *out, size_t room, size_t *count,
+                                       size_t *detail) {
+    uint32_t number = __real_fetlockice_write_image(pool, cells, out, room, count, detail);
+    if (FAULT == 68 && number == 0 && *count > 10) {
+        uint8_t low = out[6];
+        out[6] = out[7], out[7] = low;
+    }
+    if (FAULT == 69 && number == FETLOCKICE_OUTPUT_TOO_SHORT) *detail -= 10;
+    if (FAULT == 70 && number == 0 && *count < room) out[*count] ^= 1;
     return number;
 }

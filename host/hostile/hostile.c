@@ -3,6 +3,7 @@
 #include "calls.h"
 #include "clusters.h"
 #include "figures.h"
+#include "images.h"
 #include "inputs.h"
 #include "many.h"
 #include "maps.h"
@@ -304,8 +305,13 @@ int main(int argc, char **argv) {
     while (calls < most) {
         alarm(300);
         for (size_t k = 0; k < 100 && calls < most; k++) {
-            size_t which = below(OPS + 5);
-            which < OPS ? step() : which == OPS ? many_step() : which < OPS + 3 ? map_step() : figure_step();
+            size_t which = below(OPS + 7);
+            if (which < OPS)
+                step();
+            else if (which == OPS)
+                many_step();
+            else
+                which < OPS + 3 ? map_step() : which < OPS + 5 ? figure_step() : image_step();
         }
     }
     printf("hostile: calls of each function:");
@@ -316,7 +322,9 @@ int main(int argc, char **argv) {
     for (size_t i = 0; i < MAP_OPS; i++) printf(" %lu", map_calls[i]);
     printf(", %lu of them refused, of figures:", map_refused);
     for (size_t i = 0; i < FIGURE_OPS; i++) printf(" %lu", figure_calls[i]);
-    printf(", %lu of them full", figures_full);
+    printf(", %lu of them full, of images:", figures_full);
+    for (size_t i = 0; i < IMAGE_OPS; i++) printf(" %lu", image_calls[i]);
+    printf(", %lu of them refused", image_refused);
     printf("\nhostile: answers 0 to 8:");
     for (size_t i = 0; i < 9; i++) printf(" %lu", answers[i]);
     printf("\nhostile: %lu calls, no error\n", calls);

@@ -21,8 +21,8 @@
  *
  *   1. A row is a pointer and, straight behind it, its length in elements: bytes for const uint8_t *, cells for
  *      uint32_t * and uint64_t *. That many are there, and may be read, and written where the row isn't const. Figures
- *      have no length behind them: they are FETLOCKICE_FIGURES cells. Const rows, figures and the pools of add and
- *      remove hold values; outputs, scratch and the pool of fresh may hold anything.
+ *      have no length behind them: they are FETLOCKICE_FIGURES cells. Const rows, figures and the pools of add, remove
+ *      and read_image hold values; outputs, scratch and the pool of fresh may hold anything.
  *   2. No pointer is NULL, also where the length is 0. Rows of cells and size_t numbers are aligned as C aligns them.
  *   3. A row or number that a call may write overlaps no other row or number of that call. Two const rows may overlap.
  *   4. While a call runs, no other thread writes what it was lent, or reads what it may write. So calls on different
@@ -56,9 +56,10 @@ extern "C" {
 #define FETLOCKICE_NODE_CELLS 8
 #define FETLOCKICE_MAX_NODES 1048576
 
-/* The bytes of stack that a call takes at most. Measured on x86-64, over hostile and deepest inputs: fetlockice_remove
- * 32,856, as it goes down a word of 255 scalars by recursion; fetlockice_winners 3,648, fetlockice_decode 1,496, those
- * that feed release figures 1,256, the others under 1,100. */
+/* The bytes of stack that a call takes at most. Measured over hostile and deepest inputs: on aarch64
+ * fetlockice_write_image 46,176, as it goes down a word of 255 scalars by recursion, and fetlockice_read_image 6,848, which
+ * has a few rows of a word's length there; on x86-64 fetlockice_remove 32,856, by recursion too, fetlockice_winners 3,648,
+ * fetlockice_decode 1,496, those that feed release figures 1,256, the others under 1,100. */
 #define FETLOCKICE_MAX_STACK 98304
 
 /* The scratch cells that a call on a text of n scalars asks for. */
@@ -73,8 +74,8 @@ extern "C" {
 /* The cells of release figures. */
 #define FETLOCKICE_FIGURES 16
 
-/* What a call answers. The lowest number that applies to the call is given; a cut of many texts gives 10 before 6, and
- * calls with release figures 13 before all others. */
+/* What a call answers. The lowest number that applies to the call is given; a cut of many texts gives 10 before 6, the
+ * reading of an image 9 before 8, and calls with release figures 13 before all others. */
 enum fetlockice_answer {
     FETLOCKICE_ACCEPTED = 0,
     FETLOCKICE_ILL_FORMED = 1,        /* the bytes aren't well-formed UTF-8; length of the longest well-formed prefix */
@@ -86,6 +87,7 @@ enum fetlockice_answer {
                                          room for fewer tokens; how many there are) */
     FETLOCKICE_WORD_TOO_LONG = 7,     /* the word is over 255 scalars after trimming; its trimmed length */
     FETLOCKICE_TOO_FEW_NODES = 8,     /* the pool has too few free nodes; the nodes missing */
+    FETLOCKICE_BAD_IMAGE = 9,         /* an image isn't as it must be; the offset of its first wrong record */
     FETLOCKICE_WRONG_POSITION = 10,   /* a position is wrong; it, or its index where it is one of a list */
     FETLOCKICE_BIT_ABOVE_END = 11,    /* a map has a bit set above n in its last used cell; the lowest such position */
     FETLOCKICE_FIGURES_FULL = 13      /* a release figure would be too large; 0 */
@@ -150,6 +152,28 @@ uint32_t fetlockice_prefix_lengths(const uint32_t *pool, size_t pool_len, const 
 
 /* *count: how many words the dictionary holds. Refusal 4. */
 uint32_t fetlockice_word_count(const uint32_t *pool, size_t pool_len, size_t *count, size_t *detail);
+
+/* A word list as bytes, to keep and to send: an image. It is a row of records: a length of what follows it, four bytes;
+ * a kind, two bytes; and the body. Kind 1 is a word: its class, two bytes, and its UTF-8. The words rise by scalars, a
+ * prefix first, each once, trimmed and 1 to 255 scalars long. Kind 0 stands behind them, once and last: the number of
+ * words, four bytes. Numbers are little-endian. Equal words and classes have equal images, whatever their pools.
+ *
+ * Loading many words by one image takes far less time than adding them one by one, and nothing of it has to be trusted:
+ * every record is checked. UTF-8 bytes sort as scalars do, so `LC_ALL=C sort -u` puts trimmed words in order.
+ * host/examples/load_words.c makes an image of a file of words. */
+
+/* Replaces the words of the pool by those of an image. *count: how many. The pool must be a dictionary, a fresh one say.
+ * Refusals, in this order: 4; 9, something in the image isn't as said; the offset of the first record that isn't, of the
+ * one that is missing, or of the first byte behind the last record; 8, the nodes that an empty pool of that length lacks
+ * for the words. */
+uint32_t fetlockice_read_image(uint32_t *pool, size_t pool_len, const uint8_t *image, size_t image_len, size_t *count,
+                               size_t *detail);
+
+/* Writes the words of the pool and their classes as an image. *count: its bytes; the rest of the output is kept. Reading
+ * it gives the same words and classes, and an image that was read is written as it was. Refusals 4, 6: the bytes
+ * needed. */
+uint32_t fetlockice_write_image(const uint32_t *pool, size_t pool_len, uint8_t *out, size_t out_len, size_t *count,
+                                size_t *detail);
 
 /* Cuts the text plainly, by the words of the pool. Writes the ends of the tokens, in characters, rising, the last equal
  * to the length. *count: how many, 0 for an empty text; *edges: the edges recorded. An output as long as the text is

@@ -15,7 +15,7 @@ static unsigned char stack[STACK];
 static ucontext_t here, there;
 static void (*call)(void);
 
-static uint8_t bytes[4 * LONG];
+static uint8_t bytes[4 * LONG], image[16 * CELLS];
 static uint32_t pool[CELLS], text[LONG + 1], word[1024], out[2 * LONG + 2], positions[LONG + 1], won[LONG + 1],
     claim[LONG + 1];
 static uint32_t scratch[FETLOCKICE_SCRATCH_CELLS(LONG)];
@@ -23,6 +23,7 @@ static uint32_t text_ends[TEXTS], answers[FETLOCKICE_ANSWER_CELLS * TEXTS];
 static uint64_t map[FETLOCKICE_MAP_CELLS(LONG)], figures[FETLOCKICE_FIGURES], batch[FETLOCKICE_FIGURES];
 static size_t map_len, position;
 static size_t bytes_len, pool_len, text_len, word_len, out_len, claim_len, scratch_len, answers_len;
+static size_t image_len, image_room;
 static size_t count, word_class, edges, detail;
 
 static void decode(void) { fetlockice_decode(bytes, bytes_len, out, out_len, positions, LONG + 1, &count, &detail); }
@@ -98,17 +99,21 @@ static void breaks(void) { fetlockice_break_map(text_len, claim, claim_len, map,
 static void up_to(void) { fetlockice_breaks_up_to(text_len, map, map_len, position, &count, &detail); }
 static void next(void) { fetlockice_next_break(text_len, map, map_len, position, &count, &edges, &detail); }
 
-static void (*const calls[])(void) = {decode,     end_in_bytes, clusters,   winners,       fresh,        add,
-                                      add_class,  drop,         contains,   class_of,      lengths,      words,
-                                      plain,      safe,         sheet,      reasons_plain, reasons_safe, reasons_sheet,
-                                      feed_plain, feed_safe,    feed_sheet, feed_refused,  join_figures, judge,
-                                      many_plain, many_safe,    many_sheet, breaks,        up_to,        next};
+static void read_image(void) { fetlockice_read_image(pool, pool_len, image, image_len, &count, &detail); }
+static void write_image(void) { fetlockice_write_image(pool, pool_len, image, image_room, &count, &detail); }
+
+static void (*const calls[])(void) = {
+    decode,       end_in_bytes,  clusters,   winners,   fresh,      add,          add_class,    drop,
+    contains,     class_of,      lengths,    words,     plain,      safe,         sheet,        reasons_plain,
+    reasons_safe, reasons_sheet, feed_plain, feed_safe, feed_sheet, feed_refused, join_figures, judge,
+    many_plain,   many_safe,     many_sheet, breaks,    up_to,      next,         read_image,   write_image};
 static const char *const names[] = {
     "decode",         "end_in_bytes",  "clusters",       "winners",        "fresh",          "add",
     "add_class",      "remove",        "contains",       "contains_class", "prefix_lengths", "word_count",
     "cut_plain",      "cut_safe",      "cut_sheet",      "reasons_plain",  "reasons_safe",   "reasons_sheet",
     "feed_plain",     "feed_safe",     "feed_sheet",     "feed_refused",   "join_figures",   "check_claim",
-    "cut_many_plain", "cut_many_safe", "cut_many_sheet", "break_map",      "breaks_up_to",   "next_break"};
+    "cut_many_plain", "cut_many_safe", "cut_many_sheet", "break_map",      "breaks_up_to",   "next_break",
+    "read_image",     "write_image"};
 enum {
     DECODE,
     END_IN_BYTES,
@@ -140,6 +145,8 @@ enum {
     BREAK_MAP,
     BREAKS_UP_TO,
     NEXT_BREAK,
+    READ_IMAGE,
+    WRITE_IMAGE,
     ALL
 };
 
@@ -287,6 +294,21 @@ static void on_bytes(void) {
     make(DECODE), make(END_IN_BYTES);
 }
 
+/* The words as an image, which goes as deep as the longest is, read again; and the image with a byte changed. */
+static void images(void) {
+    image_room = draw(100);
+    make(WRITE_IMAGE);
+    image_room = sizeof image;
+    make(WRITE_IMAGE);
+    image_len = count;
+    make(READ_IMAGE);
+    pool_len = 8 * (1 + draw(300));
+    make(READ_IMAGE);
+    pool_len = CELLS;
+    if (image_len > 0) image[draw((uint32_t)image_len)] = (uint8_t)draw(256);
+    make(READ_IMAGE);
+}
+
 static void hostile_pool(void) {
     pool[draw(64)] = draw(3) ? draw(300) : draw(0xFFFFFFFF);
     for (int which = ADD; which < ALL; which++) make(which);
@@ -300,6 +322,7 @@ int main(int argc, char **argv) {
         on_texts(round == 0 ? LONG : round == 1 ? LONG + 1 : draw(2000));
         on_clusters();
         on_bytes();
+        images();
         hostile_pool();
     }
     for (int which = 0; which < ALL; which++) {

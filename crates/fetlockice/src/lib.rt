@@ -3,6 +3,7 @@
 mod claims;
 mod cuts;
 mod figures;
+mod images;
 mod many;
 mod maps;
 mod reasons;
@@ -18,6 +19,8 @@ pub use figures::fetlockice_feed_refused;
 pub use figures::fetlockice_feed_safe;
 pub use figures::fetlockice_feed_sheet;
 pub use figures::fetlockice_join_figures;
+pub use images::fetlockice_read_image;
+pub use images::fetlockice_write_image;
 pub use many::fetlockice_cut_many_plain;
 pub use many::fetlockice_cut_many_safe;
 pub use many::fetlockice_cut_many_sheet;

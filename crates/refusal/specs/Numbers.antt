@@ -3,7 +3,7 @@ use Prim.Native.Nat.{ℕ}
 use Rattle.refusal.specs.declared.Refusal.{Refusal}
 use Rattle.refusal.specs.declared.Refusal.the-variants.{IllFormed, TooManyScalars, NotAScalar, NotADictionary}
 use Rattle.refusal.specs.declared.Refusal.the-variants.{ScratchTooShort, OutputTooShort, WordTooLong, TooFewNodes}
-use Rattle.refusal.specs.declared.Refusal.the-variants.{WrongPosition, BitAboveEnd, FiguresFull}
+use Rattle.refusal.specs.declared.Refusal.the-variants.{BadImage, WrongPosition, BitAboveEnd, FiguresFull}
 
 abbrev pub numberOf : Refusal → ℕ
 numberOf (IllFormed d) = 1
@@ -14,6 +14,7 @@ numberOf (ScratchTooShort d) = 5
 numberOf (OutputTooShort d) = 6
 numberOf (WordTooLong d) = 7
 numberOf (TooFewNodes d) = 8
+numberOf (BadImage d) = 9
 numberOf (WrongPosition d) = 10
 numberOf (BitAboveEnd d) = 11
 numberOf FiguresFull = 13
@@ -27,6 +28,7 @@ detailOf (ScratchTooShort d) = d
 detailOf (OutputTooShort d) = d
 detailOf (WordTooLong d) = d
 detailOf (TooFewNodes d) = d
+detailOf (BadImage d) = d
 detailOf (WrongPosition d) = d
 detailOf (BitAboveEnd d) = d
 detailOf FiguresFull = 0

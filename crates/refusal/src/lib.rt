@@ -23,6 +23,8 @@ pub enum Refusal {
     WordTooLong(usize),
     // 8: the pool has too few free nodes. The nodes missing.
     TooFewNodes(usize),
+    // 9: a word list image isn't as said. The offset of the first record that breaks a rule.
+    BadImage(usize),
     // 10: a position is wrong. The position, or its index where it is one of a list.
     WrongPosition(usize),
     // 11: a map of breaks has a bit set above n in its last used cell. The lowest such position.
@@ -50,6 +52,7 @@ pub fn number(r: Refusal) -> u8
         Refusal::OutputTooShort(_) => 6,
         Refusal::WordTooLong(_) => 7,
         Refusal::TooFewNodes(_) => 8,
+        Refusal::BadImage(_) => 9,
         Refusal::WrongPosition(_) => 10,
         Refusal::BitAboveEnd(_) => 11,
         Refusal::FiguresFull => 13,
@@ -69,6 +72,7 @@ pub fn detail(r: Refusal) -> usize
         Refusal::OutputTooShort(d) => d,
         Refusal::WordTooLong(d) => d,
         Refusal::TooFewNodes(d) => d,
+        Refusal::BadImage(d) => d,
         Refusal::WrongPosition(d) => d,
         Refusal::BitAboveEnd(d) => d,
         Refusal::FiguresFull => 0,

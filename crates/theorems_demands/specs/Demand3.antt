@@ -13,14 +13,15 @@ use Rattle.char_string_trim.specs.Trimming.{trimmedOf}
 use Rattle.trie_pool.specs.Meaning.{Words, Terms, wordsIn, meaning, noTerm, withTerm, withoutTerm}
 use Rattle.trie_char_answers.specs.Answers.{freshAnswer, addAnswer, added, removeAnswer, removed}
 use Rattle.trie_char_answers.specs.Changes.{After}
+use Rattle.word_list_answers.specs.Answers.{readAnswer, imageTerms}
 use Rattle.newmm_rules.specs.declared.Mode.{Mode}
 use Rattle.newmm_answers.specs.declared.CutAnswer.{CutAnswer}
 use Rattle.newmm_answers.specs.declared.CutAnswer.the-variants.{Ends}
 use Rattle.newmm_answers.specs.Answers.{scratchFor}
 use Rattle.newmm_answers.specs.Calls.{Call, answerOf, outOf}
 
--- What the contracts of `fresh`, `add` and `remove` say of a call: its answer, and the pool before
--- and after it.
+-- What the contracts of `fresh`, `add`, `remove` and `read_image` say of a call: its answer, and the
+-- pool before and after it.
 abbrev pub Freshened : Answer → List ℕ → List ℕ → Type 0
 Freshened r old new = (r ≡ freshAnswer old) × After r old new noTerm
 
@@ -30,9 +31,12 @@ Added r word class old new = (r ≡ addAnswer word class old) × After r old new
 abbrev pub Taken : Answer → List ℕ → List ℕ → List ℕ → Type 0
 Taken r word old new = (r ≡ removeAnswer word old) × After r old new (removed word old)
 
--- A pool of any size that is reached from a fresh one by accepted adds and removals, and the words
--- with their classes that they leave. An add without a class has class 0. A refused call leaves a
--- reached pool reached (Pools, `StillReached`).
+abbrev pub Replaced : Answer → List ℕ → List ℕ → List ℕ → Type 0
+Replaced r image old new = (r ≡ readAnswer image old) × After r old new (imageTerms image)
+
+-- A pool of any size that is reached from a fresh one by accepted adds, removals and readings of an
+-- image, and the words with their classes that they leave. An add without a class has class 0. A
+-- refused call leaves a reached pool reached (Pools, `StillReached`).
 pub data Reached : List ℕ → Terms → Type 0 where
   fresh : {old new : List ℕ} {n : ℕ} → Freshened (Accepted n) old new → Reached new noTerm
   add : {old new : List ℕ} {held : Terms} {n : ℕ} (word : List ℕ) (class : ℕ)
@@ -43,6 +47,10 @@ pub data Reached : List ℕ → Terms → Type 0 where
       → Reached old held
       → Taken (Accepted n) word old new
       → Reached new (withoutTerm (trimmedOf word) held)
+  read : {old new : List ℕ} {held : Terms} {n : ℕ} (image : List ℕ)
+      → Reached old held
+      → Replaced (Accepted n) image old new
+      → Reached new (imageTerms image)
 
 -- A cutting call, said once for all of them: what it is given, each row as it was lent; what it
 -- answers; and what its output then holds. An answer of n takes so many cells of the output.

@@ -10,7 +10,7 @@ use Rattle.refusal.specs.declared.Answer.the-variants.{Refused}
 use Rattle.trie_pool.specs.Words.{Word}
 use Rattle.trie_pool.specs.Rules.{isDictionary}
 use Rattle.trie_pool.specs.Meaning.{Words, Terms, meaning, terms}
-use Rattle.theorems_demands.specs.Demand3.{Freshened, Added, Taken, Reached}
+use Rattle.theorems_demands.specs.Demand3.{Freshened, Added, Taken, Replaced, Reached}
 
 -- Every pool reached from a fresh one passes, and means the words with the classes that the calls
 -- left.
@@ -20,11 +20,12 @@ Passes = (pool : List ℕ) (held : Terms) → Reached pool held → (isDictionar
 -- A refused call leaves a reached pool reached, with the same words and classes.
 abbrev pub StillReached : Type 0
 StillReached =
-    (old new word : List ℕ) (class : ℕ) (held : Terms) (r : Refusal)
+    (old new word image : List ℕ) (class : ℕ) (held : Terms) (r : Refusal)
     → Reached old held
     → (Freshened (Refused r) old new → Reached new held)
     × (Added (Refused r) word class old new → Reached new held)
     × (Taken (Refused r) word old new → Reached new held)
+    × (Replaced (Refused r) image old new → Reached new held)
 
 -- A pool of whole nodes that passes, lent with j more nodes of zeros behind them, means the same
 -- words with the same classes: it passes too.

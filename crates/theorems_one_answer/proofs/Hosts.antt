@@ -26,6 +26,10 @@ use Rattle.fetlockice.proofs.fetlockice_prefix_lengths.Kinds as prefix-lengths-
 use Rattle.fetlockice.proofs.fetlockice_prefix_lengths.Reads as prefix-lengths-contract
 use Rattle.fetlockice.proofs.fetlockice_word_count.Kinds as word-count-kinds
 use Rattle.fetlockice.proofs.fetlockice_word_count.Reads as word-count-contract
+use Rattle.fetlockice.proofs.fetlockice_read_image.Kinds as read-image-kinds
+use Rattle.fetlockice.proofs.fetlockice_read_image.Reads as read-image-contract
+use Rattle.fetlockice.proofs.fetlockice_write_image.Kinds as write-image-kinds
+use Rattle.fetlockice.proofs.fetlockice_write_image.Reads as write-image-contract
 use Rattle.fetlockice.proofs.fetlockice_cut_plain.Kinds as cut-plain-kinds
 use Rattle.fetlockice.proofs.fetlockice_cut_plain.Reads as cut-plain-contract
 use Rattle.fetlockice.proofs.fetlockice_cut_safe.Kinds as cut-safe-kinds
@@ -55,6 +59,7 @@ use Rattle.fetlockice.proofs.fetlockice_next_break.Reads as next-break-contract
 use Rattle.trie_pool.specs.Meaning.{noTerm}
 use Rattle.trie_char_answers.proofs.One.{one-after}
 use Rattle.trie_char_answers.specs.Answers.{freshAnswer, addAnswer, removeAnswer, added, removed}
+use Rattle.word_list_answers.specs.Answers.{readAnswer, imageTerms}
 use Rattle.host_telling.specs.Told.{Told, told, toldCut}
 use Rattle.host_texts.specs.Calls.{ToldEnd, toldEnd}
 use Rattle.host_claims.specs.Calls.{ToldClaim, toldClaim}
@@ -123,6 +128,16 @@ pub word-count-one :
     OneAnswer {A = Told} 3 word-count-kinds.ps word-count-kinds.r word-count-contract.Post
     (λ κs number s. let count = s .1 .0 .now in let detail = s .1 .1 .0 .now in told number count detail)
 word-count-one κs a x y s t p q = answer p q
+
+pub read-image-one :
+    OneAnswer {A = Told × List ℕ} 4 read-image-kinds.ps read-image-kinds.r read-image-contract.Post
+    (λ κs number s. let pool = s .0 .now in let count = s .1 .1 .0 .now in let detail = s .1 .1 .1 .0 .now in (told number count detail, pool))
+read-image-one κs a x y s t p q = both (answer (p .0) (q .0)) (one-after (readAnswer (a .1 .0 .now) (a .0 .now)) (a .0 .now) _ _ (imageTerms (a .1 .0 .now)) (p .1) (q .1))
+
+pub write-image-one :
+    OneAnswer {A = Told × List ℕ} 4 write-image-kinds.ps write-image-kinds.r write-image-contract.Post
+    (λ κs number s. let out = s .1 .0 .now in let count = s .1 .1 .0 .now in let detail = s .1 .1 .1 .0 .now in (told number count detail, out))
+write-image-one κs a x y s t p q = both (answer (p .0) (q .0)) (answer (p .1) (q .1))
 
 pub cut-plain-one :
     OneAnswer {A = Told × List ℕ × List ℕ} 7 cut-plain-kinds.ps cut-plain-kinds.r cut-plain-contract.Post

@@ -17,3 +17,5 @@ pub mod Reasons
 pub mod Whys
 pub mod Releases
 pub mod Figures
+pub mod Images
+pub mod WordLines

@@ -18,16 +18,16 @@ use Rattle.utf8_sequences.proofs.Sizes.{third-range, fourth-range}
 use Rattle.theorems_unicode.proofs.Standard.{no, true-is, is-true, not-empty}
 
 -- the bytes of a scalar value, by its size
-bytes-1 : (v : ℕ) → v < 0x80 → bytesOf v ≡ v ∷ []
+pub bytes-1 : (v : ℕ) → v < 0x80 → bytesOf v ≡ v ∷ []
 bytes-1 v h = simp (lt-ltb _ _ h)
 
-bytes-2 : (v : ℕ) → 0x80 ≤ v → v < 0x800 → bytesOf v ≡ (0xC0 + v / 64) ∷ (0x80 + v % 64) ∷ []
+pub bytes-2 : (v : ℕ) → 0x80 ≤ v → v < 0x800 → bytesOf v ≡ (0xC0 + v / 64) ∷ (0x80 + v % 64) ∷ []
 bytes-2 v h k = simp (le-ltb v 0x80 h, lt-ltb v 0x800 k)
 
-bytes-3 : (v : ℕ) → 0x800 ≤ v → v < 0x10000 → bytesOf v ≡ (0xE0 + v / 4096) ∷ (0x80 + v / 64 % 64) ∷ (0x80 + v % 64) ∷ []
+pub bytes-3 : (v : ℕ) → 0x800 ≤ v → v < 0x10000 → bytesOf v ≡ (0xE0 + v / 4096) ∷ (0x80 + v / 64 % 64) ∷ (0x80 + v % 64) ∷ []
 bytes-3 v h k = simp (le-ltb v 0x80 (omega arith), le-ltb v 0x800 h, lt-ltb v 0x10000 k)
 
-bytes-4 : (v : ℕ) → 0x10000 ≤ v → bytesOf v ≡ (0xF0 + v / 262144) ∷ (0x80 + v / 4096 % 64) ∷ (0x80 + v / 64 % 64) ∷ (0x80 + v % 64) ∷ []
+pub bytes-4 : (v : ℕ) → 0x10000 ≤ v → bytesOf v ≡ (0xF0 + v / 262144) ∷ (0x80 + v / 4096 % 64) ∷ (0x80 + v / 64 % 64) ∷ (0x80 + v % 64) ∷ []
 bytes-4 v h = simp (le-ltb v 0x80 (omega arith), le-ltb v 0x800 (omega arith), le-ltb v 0x10000 h)
 
 scalar-low : (v : ℕ) → v < 0xD800 → isScalar v ≡ true

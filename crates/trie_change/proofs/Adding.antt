@@ -7,9 +7,9 @@ use native.Mathlib.Decide.{decLt}
 use lib.ListN.{length, getD, drop, set, drop-of-length-le}
 use Rattle.char_string_white_space.specs.Trimmed.{isTrimmed}
 use Rattle.trie_pool.specs.Cells.{scalarAt, firstAt, countAt, markAt, used}
-use Rattle.trie_pool.specs.inner.Paths.{reach, rev}
+use Rattle.trie_pool.specs.inner.Paths.{reach}
 use Rattle.trie_pool.specs.inner.Sound.{Shaped, Sound}
-use Rattle.trie_pool.specs.Words.{lacking, none, at, on-place, scan, child, term, termAt}
+use Rattle.trie_pool.specs.Words.{lacking, none, at, on-place, scan, child, term, termAt, rev}
 use Rattle.trie_child.specs.inner.Search.{Sought}
 use Rattle.trie_leaf.specs.inner.Planting.{Room, Plants, Planted, Beside}
 use Rattle.trie_change.specs.inner.Adding.{Enters, Entered, stayed, grew, Puts, PutIn}

@@ -10,10 +10,10 @@ use lib.Dec.{ltb, eqb}
 use lib.ListN.{length, getD, set, length-set}
 use lib.Seq.{getD-set-same, getD-set-other}
 use Rattle.trie_pool.specs.Cells.{scalarAt, firstAt, countAt, markAt}
-use Rattle.trie_pool.specs.inner.Paths.{reach, rev}
+use Rattle.trie_pool.specs.inner.Paths.{reach}
 use Rattle.trie_pool.specs.inner.Sound.{Fit, Shaped, Sound}
 use Rattle.trie_pool.specs.Levels.{hop, levelEnd}
-use Rattle.trie_pool.specs.Words.{Place, none, at, on-place, scan, child, term, termAt}
+use Rattle.trie_pool.specs.Words.{Place, none, at, on-place, scan, child, term, termAt, rev}
 use mathlib.Core.Option.{Option}
 use mathlib.Core.Option as option
 use Rattle.trie_pool.proofs.Shape.{refit, mark-is, walk-reach, one-path, walk-is, rev-rev, on-at}

@@ -7,9 +7,9 @@ use native.Mathlib.Decide.{decLt}
 use lib.ListN.{length, getD, drop, take, set, length-drop}
 use lib.Seq.{take-all}
 use Rattle.trie_pool.specs.Cells.{firstAt, countAt, markAt, used}
-use Rattle.trie_pool.specs.inner.Paths.{reach, rev}
+use Rattle.trie_pool.specs.inner.Paths.{reach}
 use Rattle.trie_pool.specs.inner.Sound.{Shaped, Readable, Spare, Rising, Sound}
-use Rattle.trie_pool.specs.Words.{none, at, on-place, child, walk, term, termAt}
+use Rattle.trie_pool.specs.Words.{none, at, on-place, child, walk, term, termAt, rev}
 use mathlib.Core.Option as option
 use Rattle.trie_child.specs.inner.Search.{toPlace}
 use Rattle.trie_leaf.specs.inner.Planting.{Beside}

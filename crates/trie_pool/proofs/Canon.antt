@@ -9,9 +9,9 @@ use native.Mathlib.Decide.{decLt}
 use lib.ListN.{length, getD}
 use lib.Seq.{ext-getD}
 use Rattle.trie_pool.specs.Cells.{scalarAt, firstAt, countAt, markAt}
-use Rattle.trie_pool.specs.inner.Paths.{reach, rev}
+use Rattle.trie_pool.specs.inner.Paths.{reach}
 use Rattle.trie_pool.specs.inner.Sound.{Rising, Plain, Sound}
-use Rattle.trie_pool.specs.Words.{Place, none, at, on-place, child, walk, marked, holds, term, termAt}
+use Rattle.trie_pool.specs.Words.{Place, none, at, on-place, child, walk, marked, holds, term, termAt, rev}
 use mathlib.Core.Option as option
 use Rattle.trie_pool.specs.Meaning.{isSome}
 use Rattle.trie_pool.proofs.Shape.{within, one-parent, child-found, step, walk-reach, reach-within, scan-new, climb}

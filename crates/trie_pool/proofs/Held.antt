@@ -9,8 +9,8 @@ use lib.ListN.{length, getD}
 use Rattle.char_string_scalars.specs.Scalars.{isScalar}
 use Rattle.char_string_white_space.specs.Trimmed.{isTrimmed}
 use Rattle.trie_pool.specs.Cells.{markAt}
-use Rattle.trie_pool.specs.Words.{Word, Place, none, at, on-place, child, walk, marked, holds}
-use Rattle.trie_pool.specs.inner.Paths.{reach, rev}
+use Rattle.trie_pool.specs.Words.{Word, Place, none, at, on-place, child, walk, marked, holds, rev}
+use Rattle.trie_pool.specs.inner.Paths.{reach}
 use Rattle.trie_pool.specs.inner.Sound.{Sound}
 use Rattle.trie_pool.specs.Levels.{levelEnd}
 use Rattle.trie_pool.proofs.Shape.{child-found, child-after, within, reach-within, walk-is, rev-rev, Step, step}

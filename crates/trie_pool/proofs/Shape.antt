@@ -13,9 +13,9 @@ use lib.Dec.{ltb, eqb}
 use lib.Seq.{take-suc, take-add}
 use lib.ListN.{take, drop, getD, length}
 use Rattle.trie_pool.specs.Cells.{scalarAt, firstAt, countAt, markAt}
-use Rattle.trie_pool.specs.inner.Paths.{reach, rev}
+use Rattle.trie_pool.specs.inner.Paths.{reach}
 use Rattle.trie_pool.specs.inner.Sound.{Shaped, Rising, Fit}
-use Rattle.trie_pool.specs.Words.{Place, none, at, on-place, scan, child, walk}
+use Rattle.trie_pool.specs.Words.{Place, none, at, on-place, scan, child, walk, rev}
 
 -- ---- a node's cells
 

@@ -26,7 +26,7 @@ append-two : (a b c : List ℕ) → (a ++ b) ++ c ≡ a ++ (b ++ c)
 append-two [] b c = refl
 append-two (x ∷ a) b c = ap {B = List ℕ} (λ r. x ∷ r) (append-two a b c)
 
-in-either : (v : List ℕ) (as′ bs : List (List ℕ)) → Member v (as′ ++ bs) → Member v as′ ⊎ Member v bs
+pub in-either : (v : List ℕ) (as′ bs : List (List ℕ)) → Member v (as′ ++ bs) → Member v as′ ⊎ Member v bs
 in-either v [] bs m = inr m
 in-either v (a ∷ as′) bs (inl e) = inl (inl e)
 in-either v (a ∷ as′) bs (inr m) = go (in-either v as′ bs m)
@@ -35,16 +35,16 @@ in-either v (a ∷ as′) bs (inr m) = go (in-either v as′ bs m)
     go (inl k) = inl (inr k)
     go (inr k) = inr k
 
-in-left : (v : List ℕ) (as′ bs : List (List ℕ)) → Member v as′ → Member v (as′ ++ bs)
+pub in-left : (v : List ℕ) (as′ bs : List (List ℕ)) → Member v as′ → Member v (as′ ++ bs)
 in-left v [] bs m = absurd m
 in-left v (a ∷ as′) bs (inl e) = inl e
 in-left v (a ∷ as′) bs (inr m) = inr (in-left v as′ bs m)
 
-in-right : (v : List ℕ) (as′ bs : List (List ℕ)) → Member v bs → Member v (as′ ++ bs)
+pub in-right : (v : List ℕ) (as′ bs : List (List ℕ)) → Member v bs → Member v (as′ ++ bs)
 in-right v [] bs m = m
 in-right v (a ∷ as′) bs m = inr (in-right v as′ bs m)
 
-both-distinct : (as′ bs : List (List ℕ)) → Distinct as′ → Distinct bs → ((v : List ℕ) → Member v as′ → Member v bs → ⊥) → Distinct (as′ ++ bs)
+pub both-distinct : (as′ bs : List (List ℕ)) → Distinct as′ → Distinct bs → ((v : List ℕ) → Member v as′ → Member v bs → ⊥) → Distinct (as′ ++ bs)
 both-distinct [] bs d e f = e
 both-distinct (a ∷ as′) bs d e f = (λ m. go (in-either a as′ bs m), both-distinct as′ bs (d .1) e (λ v m k. f v (inr m) k))
   where

@@ -69,3 +69,8 @@ termAt p w = on-place option.none (λ r. term (markAt p r)) (walk p w 0)
 abbrev pub lacking : List ℕ → List ℕ → ℕ → ℕ
 lacking p [] i = 0
 lacking p (x ∷ w) i = on-place (suc (length w)) (λ r. lacking p w r) (child p i x)
+
+-- the word whose first part, written from its end, is u, and whose rest is w
+abbrev pub rev : List ℕ → List ℕ → List ℕ
+rev [] w = w
+rev (x ∷ u) w = rev u (x ∷ w)

@@ -1,4 +1,10 @@
-use crate::{error::Error, ffi, scalars};
+use crate::{
+    error::{Error, LoadError},
+    ffi,
+    image::{image_of, lines_of},
+    scalars,
+};
+use std::{fs, path::Path};
 
 /// The most nodes of a dictionary: the root, and one for each distinct non-empty prefix of its words.
 pub const MAX_NODES: usize = 1_048_576;
@@ -26,13 +32,44 @@ impl Dictionary {
         Dictionary { pool }
     }
 
-    /// The words of an iterator, each with class 0.
+    /// The words of an iterator, trimmed as `str::trim` does, each with class 0. Blank ones are left out. Refused with 2,
+    /// 7, and 8 where the words need more than [`MAX_NODES`] nodes. All are read at once, as an image.
     pub fn from_words<'w>(words: impl IntoIterator<Item = &'w str>) -> Result<Dictionary, Error> {
-        let mut dictionary = Dictionary::new();
-        for word in words {
-            dictionary.add(word)?;
+        Dictionary::from_image(&image_of(words.into_iter().map(|word| (word, 0)))?)
+    }
+
+    /// The same with classes. Of a word that comes twice the last class is taken.
+    pub fn from_classed_words<'w>(words: impl IntoIterator<Item = (&'w str, u16)>) -> Result<Dictionary, Error> {
+        Dictionary::from_image(&image_of(words)?)
+    }
+
+    /// The words of a file, one to a line, with a tab and the class in decimal behind those that have one.
+    pub fn from_file(path: impl AsRef<Path>) -> Result<Dictionary, LoadError> {
+        Ok(Dictionary::from_classed_words(lines_of(&fs::read_to_string(path)?)?)?)
+    }
+
+    /// The words and classes of an image. Refused with 9, and with 8 where they need more than [`MAX_NODES`] nodes.
+    pub fn from_image(image: &[u8]) -> Result<Dictionary, Error> {
+        let mut dictionary = Dictionary::with_nodes(1);
+        match ffi::read_image(&mut dictionary.pool, image) {
+            Err(Error::TooFewNodes(missing)) if missing < MAX_NODES => {
+                dictionary = Dictionary::with_nodes(1 + missing);
+                ffi::read_image(&mut dictionary.pool, image)?;
+            }
+            Err(Error::TooFewNodes(missing)) => return Err(Error::TooFewNodes(missing - (MAX_NODES - 1))),
+            answer => drop(answer?),
         }
         Ok(dictionary)
+    }
+
+    /// The words and classes as an image: bytes to keep and to send. Equal dictionaries give equal images.
+    pub fn to_image(&self) -> Vec<u8> {
+        let mut image = match ffi::write_image(&self.pool, &mut []) {
+            Err(Error::OutputTooShort(needed)) => vec![0; needed],
+            other => unreachable!("an image of no bytes: {other:?}"),
+        };
+        ffi::write_image(&self.pool, &mut image).expect("the bytes needed");
+        image
     }
 
     /// Takes over the cells of a pool, refused with 4 where they aren't a dictionary.

@@ -1,4 +1,4 @@
-use std::fmt;
+use std::{fmt, io};
 
 /// Why a call was refused, with its detail.
 #[derive(Clone, Copy, Debug, PartialEq, Eq, Hash)]
@@ -20,6 +20,8 @@ pub enum Error {
     WordTooLong(usize),
     /// 8: the dictionary would pass 1,048,576 nodes. The nodes missing.
     TooFewNodes(usize),
+    /// 9: an image isn't as it must be. The offset of its first record that isn't.
+    BadImage(usize),
     /// 10: a position is wrong. It, or its index where it is one of a list.
     WrongPosition(usize),
     /// 11: a map has a bit set above n in its last used cell. The lowest such position. The maps of this crate have none.
@@ -40,6 +42,7 @@ impl Error {
             Error::OutputTooShort(_) => 6,
             Error::WordTooLong(_) => 7,
             Error::TooFewNodes(_) => 8,
+            Error::BadImage(_) => 9,
             Error::WrongPosition(_) => 10,
             Error::BitAboveEnd(_) => 11,
             Error::FiguresFull => 13,
@@ -58,6 +61,7 @@ impl fmt::Display for Error {
             Error::OutputTooShort(n) => write!(f, "the output needs {n} cells"),
             Error::WordTooLong(n) => write!(f, "a word of {n} characters is longer than 255"),
             Error::TooFewNodes(n) => write!(f, "the dictionary has {n} nodes too few"),
+            Error::BadImage(n) => write!(f, "the image's record at byte {n} isn't as it must be"),
             Error::WrongPosition(n) => write!(f, "the position {n}, or the one with that index, is wrong"),
             Error::BitAboveEnd(n) => write!(f, "the map has a bit above its end, at {n}"),
             Error::FiguresFull => write!(f, "a release figure would be too large"),
@@ -66,6 +70,41 @@ impl fmt::Display for Error {
 }
 
 impl std::error::Error for Error {}
+
+/// Why a file of words wasn't loaded.
+#[derive(Debug)]
+pub enum LoadError {
+    /// It can't be read, or isn't UTF-8.
+    File(io::Error),
+    /// The line with this number, counted from 1, has something else than a class behind its tab.
+    Class(usize),
+    /// Its words are refused.
+    Refused(Error),
+}
+
+impl From<io::Error> for LoadError {
+    fn from(error: io::Error) -> LoadError {
+        LoadError::File(error)
+    }
+}
+
+impl From<Error> for LoadError {
+    fn from(error: Error) -> LoadError {
+        LoadError::Refused(error)
+    }
+}
+
+impl fmt::Display for LoadError {
+    fn fmt(&self, f: &mut fmt::Formatter<'_>) -> fmt::Result {
+        match self {
+            LoadError::File(error) => write!(f, "{error}"),
+            LoadError::Class(line) => write!(f, "line {line} has no class from 0 to 65535 behind its tab"),
+            LoadError::Refused(error) => write!(f, "{error}"),
+        }
+    }
+}
+
+impl std::error::Error for LoadError {}
 
 /// The answer, where the number is that of an accepted call.
 pub(crate) fn accepted<T>(number: u32, detail: usize, answer: T) -> Result<T, Error> {
@@ -79,6 +118,7 @@ pub(crate) fn accepted<T>(number: u32, detail: usize, answer: T) -> Result<T, Er
         6 => Error::OutputTooShort(detail),
         7 => Error::WordTooLong(detail),
         8 => Error::TooFewNodes(detail),
+        9 => Error::BadImage(detail),
         10 => Error::WrongPosition(detail),
         11 => Error::BitAboveEnd(detail),
         13 => Error::FiguresFull,

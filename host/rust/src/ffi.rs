@@ -94,6 +94,22 @@ extern "C" {
         detail: &mut usize,
     ) -> u32;
     fn fetlockice_word_count(pool: *const u32, pool_len: usize, count: &mut usize, detail: &mut usize) -> u32;
+    fn fetlockice_read_image(
+        pool: *mut u32,
+        pool_len: usize,
+        image: *const u8,
+        image_len: usize,
+        count: &mut usize,
+        detail: &mut usize,
+    ) -> u32;
+    fn fetlockice_write_image(
+        pool: *const u32,
+        pool_len: usize,
+        out: *mut u8,
+        out_len: usize,
+        count: &mut usize,
+        detail: &mut usize,
+    ) -> u32;
     fn fetlockice_cut_plain(
         text: *const u32,
         text_len: usize,
@@ -425,6 +441,24 @@ pub fn prefix_lengths(pool: &[u32], text: &[u32], out: &mut [u32]) -> Result<usi
 pub fn word_count(pool: &[u32]) -> Result<usize, Error> {
     let (mut count, mut detail) = (0, 0);
     let number = unsafe { fetlockice_word_count(pool.as_ptr(), pool.len(), &mut count, &mut detail) };
+    accepted(number, detail, count)
+}
+
+/// The number of words.
+pub fn read_image(pool: &mut [u32], image: &[u8]) -> Result<usize, Error> {
+    let (mut count, mut detail) = (0, 0);
+    let number = unsafe {
+        fetlockice_read_image(pool.as_mut_ptr(), pool.len(), image.as_ptr(), image.len(), &mut count, &mut detail)
+    };
+    accepted(number, detail, count)
+}
+
+/// The number of bytes.
+pub fn write_image(pool: &[u32], out: &mut [u8]) -> Result<usize, Error> {
+    let (mut count, mut detail) = (0, 0);
+    let number = unsafe {
+        fetlockice_write_image(pool.as_ptr(), pool.len(), out.as_mut_ptr(), out.len(), &mut count, &mut detail)
+    };
     accepted(number, detail, count)
 }
 

@@ -8,6 +8,10 @@
 //! let tokens: Vec<&str> = cut.tokens.iter().map(|token| token.text).collect();
 //! assert_eq!(tokens, ["กข", "คง"]);
 //!
+//! // the words as bytes, to keep and to send: equal words and classes give equal images
+//! let image = words.to_image();
+//! assert_eq!(Dictionary::from_image(&image)?, words);
+//!
 //! // where lines may be broken, one bit for each position
 //! let map = cut.break_map();
 //! assert!(map.is_break(2) && !map.is_break(3));
@@ -39,12 +43,13 @@ mod dictionary;
 mod error;
 mod ffi;
 mod figures;
+mod image;
 mod map;
 
 pub use cutter::{Cut, Cutter, Mode, Reason, Token, Verdict};
 pub use decoded::{decode, Decoded};
 pub use dictionary::{Dictionary, MAX_NODES};
-pub use error::Error;
+pub use error::{Error, LoadError};
 pub use figures::Figures;
 pub use map::{BreakMap, Breaks};
 

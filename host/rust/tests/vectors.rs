@@ -262,3 +262,35 @@ fn tokens_of_another_text() {
     assert_eq!(cutter.check_claim(&words, "กขคง", &[2, usize::MAX]), Ok(Verdict::Wrong(1)));
     assert_eq!(cutter.check_claim(&words, &"ก".repeat(65_536), &[]), Err(Error::TooManyScalars(65_536)));
 }
+
+/// `ok` and the image in hexadecimal.
+fn spelled_image(image: &[u8]) -> String {
+    "ok ".to_string() + &image.iter().map(|byte| format!("{byte:02x}")).collect::<String>()
+}
+
+#[test]
+fn images_are_read_as_the_vectors_say() {
+    let mut held = [0, 0];
+    for (line, expected) in lines("test_word_list", "imgread") {
+        let (image, told) = (bytes(&line[2]), expected.split(' ').collect::<Vec<_>>());
+        match (told[0], told[1]) {
+            ("!", "9") => assert_eq!(Dictionary::from_image(&image), Err(Error::BadImage(told[2].parse().unwrap()))),
+            ("ok", count) => {
+                let words = Dictionary::from_image(&image).expect("an accepted image");
+                assert_eq!((words.len().to_string().as_str(), words.to_image()), (count, image));
+                assert_eq!(Dictionary::from_pool(cells(told[2])), Ok(words));
+            }
+            _ => continue,
+        }
+        held[(told[0] == "ok") as usize] += 1;
+    }
+    assert!(held[0] >= 400 && held[1] >= 80, "{held:?} lines");
+}
+
+#[test]
+fn images_are_written_as_the_vectors_say() {
+    hold(lines("test_word_list", "imgwrite"), 60, |line| {
+        roomy(&line[2])?;
+        Dictionary::from_pool(cells(&line[1])).ok().map(|words| spelled_image(&words.to_image()))
+    });
+}

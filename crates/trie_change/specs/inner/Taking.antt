@@ -5,8 +5,8 @@ use mathlib.Core.List.{List}
 use mathlib.Core.Option as option
 use lib.ListN.{length}
 use Rattle.trie_pool.specs.Cells.{firstAt, countAt, used}
-use Rattle.trie_pool.specs.Words.{at, termAt}
-use Rattle.trie_pool.specs.inner.Paths.{reach, rev}
+use Rattle.trie_pool.specs.Words.{at, termAt, rev}
+use Rattle.trie_pool.specs.inner.Paths.{reach}
 use Rattle.trie_pool.specs.inner.Sound.{Sound}
 use Rattle.trie_leaf.specs.inner.Planting.{Beside}
 

@@ -7,8 +7,3 @@ use Rattle.trie_pool.specs.Words.{Place, none, at, on-place, child}
 abbrev pub reach : List ℕ → List ℕ → Place
 reach p [] = at 0
 reach p (x ∷ u) = on-place none (λ i. child p i x) (reach p u)
-
--- the word whose first part, written from its end, is u, and whose rest is w
-abbrev pub rev : List ℕ → List ℕ → List ℕ
-rev [] w = w
-rev (x ∷ u) w = rev u (x ∷ w)

@@ -1,0 +1,4 @@
+pub mod Raising
+pub mod Readings
+pub mod Surveying
+pub mod Turns

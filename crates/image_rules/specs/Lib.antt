@@ -1,0 +1,5 @@
+pub mod Records
+pub mod Order
+pub mod Lists
+pub mod Reading
+pub mod inner

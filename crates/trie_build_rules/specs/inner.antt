@@ -1,0 +1,3 @@
+-- Words of inner contracts. No public contract needs them.
+pub mod Laid
+pub mod Growing

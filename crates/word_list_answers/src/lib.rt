@@ -1,0 +1,1 @@
+// What reading a word list image answers: the definitions of specs/.
