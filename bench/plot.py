@@ -73,7 +73,8 @@ def curves(growth, words, across, up):
 
 def main():
     results = json.load(open(os.path.join(ROOT, "target/bench/results.json"), encoding="utf-8"))
-    growth, words = results["growth"], results["loads"]["all"]["words"]
+    growth = [{**row, "ours": min(row["ours"])} for row in results["growth"]]
+    words = results["loads"]["all"]["words"]
     costs = [row[side] / row["n"] for row in growth for side in ("ours", "rust") if row[side]]
     across = Axis([row["n"] for row in growth], LEFT, PLOT_WIDTH)
     up = Axis(costs, TOP + PLOT_HEIGHT, -PLOT_HEIGHT)

@@ -1,8 +1,10 @@
 """Writes bench/RESULTS.md from target/bench/results.json, and prints it."""
 import glob
 import json
+import operator
 import os
 import re
+import statistics
 import subprocess
 
 ROOT = os.path.dirname(os.path.dirname(os.path.abspath(__file__)))
@@ -59,14 +61,21 @@ def seconds(x):
 
 
 class Results:
-    def __init__(self):
-        self.all = json.load(open(os.path.join(WORK, "results.json"), encoding="utf-8"))
-        self.rows = {(row["side"], *row["what"]): row for row in self.all["rows"]}
-        self.sizes, self.loads, self.growth = self.all["sizes"], self.all["loads"], self.all["growth"]
-        self.breaks, self.images = self.all["breaks"], self.all["images"]
+    """What was measured. Of the times in all rounds `pick` takes one: the best, or that of a round."""
+
+    def __init__(self, found, pick=min):
+        self.all, self.pick = found, pick
+        self.rows = {(row["side"], *row["what"]): row for row in found["rows"]}
+        self.sizes, self.loads, self.ran = found["sizes"], found["loads"], found["ran"]
+        self.breaks, self.images = found["breaks"], found["images"]
+        self.growth = [{**row, "ours": pick(row["ours"])} for row in found["growth"]]
+
+    def rounds(self):
+        """The same by the times of each round alone, in which the sides took turns."""
+        return [Results(self.all, operator.itemgetter(k)) for k in range(self.ran["rounds"])]
 
     def time(self, *key):
-        return min(self.rows[key]["times"]) - (self.time(*self.check(*key)) if self.check(*key) else 0)
+        return self.pick(self.rows[key]["times"]) - (self.time(*self.check(*key)) if self.check(*key) else 0)
 
     def count(self, *key):
         return self.rows[key]["instructions"] - (self.count(*self.check(*key)) if self.check(*key) else 0)
@@ -75,10 +84,10 @@ class Results:
         """The row that is taken off: ours checks the pool once before it searches at each place."""
         return (side, "check", texts, words) if side in ("ours", "before") and op == "places" else None
 
-    def faster(self, *what):
-        """How many times faster ours is than the Rust, by time and by instructions."""
-        by_time = self.time("rust", *what) / self.time("ours", *what)
-        return by_time, self.count("rust", *what) / self.count("ours", *what)
+    def faster(self, op, texts, words, side="rust"):
+        """How many times faster ours is than another side, by time and by instructions."""
+        key = (side, op, texts, words if side == "rust" else "")
+        return [of(*key) / of("ours", op, texts, words) for of in (self.time, self.count)]
 
     def words(self, name):
         return "{:,}".format(self.loads[name]["words"]) if name in self.loads else "its own"
@@ -95,6 +104,11 @@ class Results:
         return found[len(found) // 2]
 
 
+def spread(ratios):
+    """The lowest and the highest ratio of the rounds."""
+    return "%.2f to %.2f" % (min(ratios), max(ratios))
+
+
 def where(r, texts):
     if texts.startswith("spaced"):
         return "a text of evenly spaced characters"
@@ -104,14 +118,13 @@ def where(r, texts):
 
 
 def both(r):
-    head = ["operation, text, words", "ours ns", "MB/s", "instr.", "Rust ns", "MB/s", "instr.", "faster", "by instr."]
-    rows = []
+    head = ["operation, text, words", "ours ns", "MB/s", "instr.", "Rust ns", "MB/s", "instr.", "faster", "in the rounds", "by instr."]
+    rows, rounds = [], r.rounds()
     for side, op, texts, words in r.rows:
         if side == "ours" and ("rust", op, texts, words) in r.rows:
-            label = "%s; %s" % (NAMES[op], where(r, texts))
-            label += "" if op in ("decode", "clusters") else "; %s words" % r.words(words)
-            ratios = ["%.2f" % x for x in r.faster(op, texts, words)]
-            rows.append([label] + r.cells("ours", op, texts, words) + r.cells("rust", op, texts, words) + ratios)
+            by_time, by_count = r.faster(op, texts, words)
+            ratios = ["%.2f" % by_time, spread([one.faster(op, texts, words)[0] for one in rounds]), "%.2f" % by_count]
+            rows.append([label(r, op, texts, words)] + r.cells("ours", op, texts, words) + r.cells("rust", op, texts, words) + ratios)
     return table(head, rows)
 
 
@@ -263,38 +276,59 @@ def growth(r):
     return table(head, rows)
 
 
+# How many times faster than each side ours has to be, at least.
+ASKED = (
+    ("decode", LONG, "small", {"rust": 1.3, "icu": 0.7}),
+    ("decode", LINES, "small", {"rust": 2, "icu": 1}),
+    ("clusters", LONG, "small", {"rust": 6}),
+    ("clusters", LINES, "small", {"rust": 8}),
+    ("places", LONG, "all", {"rust": 2}),
+    ("places", LONG, "small", {"rust": 2}),
+    ("plain", LONG, "all", {"rust": 3.3, "icu": 1.2, "libthai": 2.5}),
+    ("plain", LONG, "small", {"rust": 5.5, "icu": 2.3, "libthai": 5}),
+    ("safe", LONG, "all", {"rust": 3.5}),
+    ("safe", LONG, "small", {"rust": 5}),
+    ("plain", LINES, "small", {"rust": 1}),
+    ("safe", LINES, "small", {"rust": 1}),
+    ("batch", ALL, "all", {"rust": 3.3, "icu": 1.3, "libthai": 3}),
+    ("batch", ALL, "small", {"rust": 4.5, "icu": 2.2, "libthai": 5}),
+    ("batch", LINES, "all", {"rust": 2}),
+    ("batch", LINES, "small", {"rust": 4.5}),
+)
+SIDES = {"rust": "the Rust", "icu": "ICU", "libthai": "libthai"}
+
+
+def label(r, op, texts, words):
+    return "%s; %s" % (NAMES[op], where(r, texts)) + ("" if op in ("decode", "clusters") else "; %s words" % r.words(words))
+
+
 def targets(r):
-    """Each target: the ratio asked for and the one measured, by time and by instructions."""
-
-    def row(name, asked, what):
-        by_time, by_count = r.faster(*what)
-        return [name, "%g" % asked, "%.2f" % by_time, "%.2f" % by_count, "met" if by_time >= asked else "missed"]
-
-    yield row("clusters, one long text", 6, ("clusters", LONG, "small"))
-    yield row("clusters, lines", 6, ("clusters", LINES, "small"))
-    for words in ("all", "small"):
-        yield row("one long text, everything included, %s words" % r.words(words), 5, ("plain", LONG, words))
-    for words in ("all", "small"):
-        yield row("prefix lookup, %s words" % r.words(words), 2, ("places", LONG, words))
-    yield row("single lines, 700 words, plain", 1, ("plain", LINES, "small"))
-    yield row("single lines, 700 words, safe", 1, ("safe", LINES, "small"))
-    yield row("lines in one call, %s words" % r.words("all"), 2, ("batch", LINES, "all"))
-    yield row("lines in one call, all lines, %s words" % r.words("all"), 3.3, ("batch", ALL, "all"))
-    for texts, name in (LINES, "lines in one call"), (ALL, "lines in one call, all lines"):
-        yield row("%s, %s words" % (name, r.words("small")), 4.5, ("batch", texts, "small"))
+    """Each target: its name, the ratio asked for, and those measured, by time and by instructions."""
+    for op, texts, words, asked in ASKED:
+        for side, least in asked.items():
+            yield ("%s, %s" % (label(r, op, texts, words), SIDES[side]), least, *r.faster(op, texts, words, side))
     took = r.loads["all"]["rust"][0] / r.time("ours", "read-image", LONG, "all")
-    yield ["loading %s words by an image" % r.words("all"), "4", "%.2f" % took, "", "met" if took >= 4 else "missed"]
-    yield row("decoding, one long text", 1, ("decode", LONG, "small"))
-    yield row("decoding, lines", 1, ("decode", LINES, "small"))
+    yield "loading %s words by an image, the Rust" % r.words("all"), 4, took, None
 
 
 def kept(r):
     """Each target that is a share of an earlier library's speed: its time and instructions over ours."""
     what = ("places", LONG, "all")
     if ("before", *what) in r.rows:
-        ratios = [of("before", *what) / of("ours", *what) for of in (r.time, r.count)]
-        shown = ["%.2f" % x for x in ratios]
-        yield ["prefix lookup, %s words" % r.words("all"), "0.95"] + shown + ["met" if ratios[0] >= 0.95 else "missed"]
+        yield ("prefix lookup, %s words" % r.words("all"), 0.95, *(of("before", *what) / of("ours", *what) for of in (r.time, r.count)))
+
+
+def judged(r, make, meets):
+    """The rows of a table of targets. A target is met, or missed, where the best times and the median of the rounds say so alike."""
+    for best, *rounds in zip(make(r), *(make(one) for one in r.rounds())):
+        name, asked, by_time, by_count, *more = best
+        ratios = [row[2] for row in rounds]
+        said = {bool(meets(x, asked)) for x in (by_time, statistics.median(ratios))}
+        found = "within the noise" if len(said) == 2 else "met" if said == {True} else "missed"
+        if more and by_count is not None and len(said) == 1 and meets(by_count, asked) not in said:
+            found = "missed by time" if found == "missed" else "missed by instructions"
+        counted = "" if by_count is None else "%.2f" % by_count
+        yield [name, "%g" % asked, "%.2f" % by_time, spread(ratios), counted, found]
 
 
 def grown(r, case, words, kind):
@@ -302,13 +336,6 @@ def grown(r, case, words, kind):
     rows = of_case(r, case, words)
     off = {"ours": r.time, "instructions": r.count}[kind]("ours", "check", LONG, words) if case == "ordinary" else 0
     return (rows[65535][kind] - off) / 65535 / ((rows[4000][kind] - off) / 4000)
-
-
-def verdict(asked, by_time, by_count, both):
-    """Whether the target is met: by time, or by both."""
-    if by_time > asked:
-        return "missed by time" if both and by_count <= asked else "missed"
-    return "missed by instructions" if both and by_count > asked else "met"
 
 
 # A call, the one that it is held against, and how much it may take of that.
@@ -320,10 +347,10 @@ AGAINST = (
 
 
 def limits(r):
-    """Each target that is an upper end."""
+    """Each target that is an upper end, as `targets` has them; `both` where it holds for instructions too."""
 
-    def row(name, asked, ratios, both=False):
-        return [name, "%g" % asked] + ["%.2f" % x for x in ratios] + [verdict(asked, *ratios, both)]
+    def row(name, asked, ratios, *both):
+        return (name, asked, *ratios, *both)
 
     per = r.sizes[LONG]["characters"]
     for words in ("all", "small"):
@@ -336,7 +363,7 @@ def limits(r):
     ordinary = {("ordinary", words): "ordinary text, %s words, the check left out" % r.words(words) for words in ("all", "small")}
     for (case, words), name in {**ordinary, **{(case, case): name for case, name in WORST.items()}}.items():
         ratios = [grown(r, case, words, kind) for kind in ("ours", "instructions")]
-        yield row("growth, a character at 65,535 against 4,000: " + name, 1.2, ratios, both=True)
+        yield row("growth, a character at 65,535 against 4,000: " + name, 1.2, ratios, "both")
     for words in ("all", "small"):
         ratios = [of("ours", "check", LONG, words) / of("ours", "read", LONG, words) for of in (r.time, r.count)]
         yield row("the check of the pool against a plain read of its cells, %s words" % r.words(words), 1, ratios)
@@ -348,8 +375,7 @@ def limits(r):
             yield row("%s, the check left out, %s words" % (name, r.words(words)), limit, ratios)
         name = "the map of a text's ends against its plain cut, the check left out, %s words" % r.words(words)
         yield row(name, 0.05, map_of_ends(r, words))
-        took = a_break(r, "next", words)[0]
-        yield ["nanoseconds of a next break, %s words" % r.words(words), "3", "%.2f" % took, "", verdict(3, took, took, False)]
+        yield row("nanoseconds of a next break, %s words" % r.words(words), 3, (a_break(r, "next", words)[0], None))
     firsts = {
         "prefix lookup, 26 Latin and 4,974 CJK first characters more, against %s words" % r.words("all"): ((LONG, "many"), (LONG, "all")),
         "prefix lookup, 20,000 evenly spaced first characters against 200": [("spaced-%d.txt" % n, "spaced-%d" % n) for n in (20000, 200)],
@@ -361,9 +387,6 @@ def limits(r):
         yield row("lines in one call against one text of the same characters, %s words" % r.words(words), 1.3, ratios)
     ratios = [of("ours", "read-image", LONG, "all") / r.images["all"] / (of("ours", "read-image", LONG, "some") / r.images["some"]) for of in (r.time, r.count)]
     yield row("reading an image, a byte of %s words against %s" % (r.words("all"), r.words("some")), 1.3, ratios)
-    for side, name in (("libthai", "libthai"), ("icu", "ICU")):
-        ratios = [of("ours", "batch", ALL, "all") / of(side, "batch", ALL, "") for of in (r.time, r.count)]
-        yield row("all lines in one call, %s words, against %s" % (r.words("all"), name), 1, ratios)
 
 
 def opening(r):
@@ -373,17 +396,22 @@ def opening(r):
     yield ""
     yield from ("- " + part for part in machine())
     yield "- Texts: %s" % sizes
-    yield "- Noise: the slowest round is %.0f%% slower than the fastest (median of the rows)" % (100 * r.spread())
+    yield "- Load: every driver on one of the processors%s; %.1f programs were running or waiting before the first round" % (
+        ", before other programs" if r.ran["raised"] else "", r.ran["load"])
+    yield "- Noise: the slowest of %d rounds is %.0f%% slower than the fastest (median of the rows)" % (r.ran["rounds"], 100 * r.spread())
     yield ""
-    yield '"ns" and "instr." are nanoseconds and instructions a character. "faster" is the Rust\'s time over ours.'
+    yield '"ns" and "instr." are nanoseconds and instructions a character. "faster" is the Rust\'s time over ours. A ratio by time is'
+    yield 'that of the best times of all rounds, and "in the rounds" has the lowest and the highest of a round. A target is met or missed'
+    yield 'where the best times and the median of the rounds say so alike; else it is within the noise.'
 
 
 def sections(r):
-    least = table(["target, times faster than the Rust", "asked", "by time", "by instructions", ""], targets(r))
-    most = table(["target, at most", "asked", "by time", "by instructions", ""], limits(r))
+    heads = ["asked", "by time", "in the rounds", "by instructions", ""]
+    least = table(["target, at least: times faster than"] + heads, judged(r, targets, operator.ge))
+    most = table(["target, at most"] + heads, judged(r, limits, operator.le))
     yield "# Measurements", opening(r)
-    before = [*kept(r)]
-    head = ["target, at least: the speed of the library before", "asked", "by time", "by instructions", ""]
+    before = [*judged(r, kept, operator.ge)]
+    head = ["target, at least: the speed of the library before"] + heads
     yield "## Targets", [*least, "", *most] + (["", *table(head, before)] if before else [])
     yield "## Ours and the Rust", both(r)
     yield "## The two matchers of clusters", matchers(r)
@@ -401,7 +429,8 @@ def sections(r):
 
 def main():
     parts = []
-    for head, lines in sections(Results()):
+    found = json.load(open(os.path.join(WORK, "results.json"), encoding="utf-8"))
+    for head, lines in sections(Results(found)):
         parts += [head, "", *lines, ""]
     made = "\n".join(parts[:-1]) + "\n"
     with open(os.path.join(ROOT, "bench", "RESULTS.md"), "w", encoding="utf-8") as file:

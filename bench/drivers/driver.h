@@ -1,7 +1,7 @@
 /* What the C drivers share: a command line, texts, and the timing loop. The Rust driver has the same.
  *
  *   DRIVER answers OP TEXTS [WORDS]   writes the answer for each text, a line each
- *   DRIVER time OP TEXTS [WORDS]      writes the nanoseconds of a pass over all texts: the best of five repetitions
+ *   DRIVER time OP TEXTS [WORDS]      writes the nanoseconds of a pass over all texts: the best of three repetitions
  *   DRIVER once OP TEXTS [WORDS]      makes one pass, for a tool that counts the instructions of bench_pass
  *
  * TEXTS is a file: a text on each line if its name ends in .lines, else all of it is one text.
@@ -83,11 +83,11 @@ static double now_ns(void) {
     return 1e9 * (double)t.tv_sec + (double)t.tv_nsec;
 }
 
-/* The best of five repetitions of at least 0.2 s, fewer once three seconds are over. */
+/* The best of three repetitions of at least 0.1 s, fewer once two seconds are over. */
 static double best_ns(void) {
     double best = 0, all = now_ns();
     size_t passes = 1;
-    for (int i = 0; i < 5 && (i == 0 || now_ns() - all < 3e9); i++) {
+    for (int i = 0; i < 3 && (i == 0 || now_ns() - all < 2e9); i++) {
         double start = now_ns(), took;
         size_t made = 0;
         do {
@@ -95,7 +95,7 @@ static double best_ns(void) {
             made += passes;
             took = now_ns() - start;
             if (took < 2e7) passes *= 2;
-        } while (took < 2e8);
+        } while (took < 1e8);
         if (i == 0 || took / (double)made < best) best = took / (double)made;
     }
     return best;

@@ -98,8 +98,8 @@ fn now_ns() -> f64 {
 
 fn best_ns(bench: &Bench) -> f64 {
     let (mut best, all, mut passes) = (f64::INFINITY, now_ns(), 1);
-    for i in 0..5 {
-        if i > 0 && now_ns() - all >= 3e9 {
+    for i in 0..3 {
+        if i > 0 && now_ns() - all >= 2e9 {
             break;
         }
         let (start, mut made) = (now_ns(), 0);
@@ -110,7 +110,7 @@ fn best_ns(bench: &Bench) -> f64 {
             if took < 2e7 {
                 passes *= 2;
             }
-            if took >= 2e8 {
+            if took >= 1e8 {
                 break took;
             }
         };

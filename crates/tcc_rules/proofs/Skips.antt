@@ -31,6 +31,14 @@ module _ (cl : List Range) (text : List ℕ) (p : ℕ) where
       go true = omega arith
       go false = omega arith
 
+  pub skip-either : (P : ℕ → Type 0) → P p → P (p + 1) → P (skipped cl text p)
+  unfolding skipped
+  skip-either P stays goes = go (holdsAt cl text p)
+    where
+      go : (b : Bool) → P (cond b (p + 1) p)
+      go true = goes
+      go false = stays
+
 -- an optional character in front of all that is left: the rest is the same behind it or without it
 abbrev pub skips : List Range → Pattern → Pattern → Bool
 skips cl a l = (not (holds cl 0) && (asked (some cl) a && (asked (some cl) l && not (stops l)))) && (not (stops a) || stops (prune cl a))

@@ -1,19 +1,18 @@
 -- The group k, and k where the look-ahead takes a character off. Assumes nothing.
 use Prim.Native.Nat.{ℕ, _+_, _-_, _≤_, _<_}
 use native.Mathlib.Omega.{arith}
-use mathlib.Core.Path.{_≡_, refl, sym, _∙_, ap}
+use mathlib.Core.Path.{_≡_, refl, sym, _∙_, ap, subst}
 use mathlib.Core.Bool.{Bool, true, false, cond}
 use mathlib.Core.List.{List, [], _∷_, _++_}
 use lib.ListN.{getD, take}
 use lib.Dec.{T}
 use borrow.Author.Tests.{lt-ltb, le-ltb}
-use Rattle.tcc_rules.specs.Patterns.{Range, holds, Pattern, end, fail, Match, none, upto, match, items, one, opt, optional}
+use Rattle.tcc_rules.specs.Patterns.{holds, Pattern, end, fail, then, Match, none, upto, match, items, one, opt, optional}
 use Rattle.tcc_rules.specs.Rules.{is, consonant, leading, dOrI, ch, k}
 use Rattle.tcc_rules.specs.Clusters.{ended}
-use Rattle.tcc_rules.specs.inner.Optional.{Known, exact, some, place, endOr, kEnd, shorter}
-use Rattle.tcc_rules.proofs.Classes.{NoneOf, all, none-of}
+use Rattle.tcc_rules.specs.inner.Optional.{exact, some, skipped, endOr, kEnd, shorter}
 use Rattle.tcc_rules.proofs.Steps.{endBy, end-fail, end-end, end-sure, step, stay, sure, match-past}
-use Rattle.tcc_rules.proofs.Paths.{Path, left, count, other, clear, along}
+use Rattle.tcc_rules.proofs.Skips.{skip-either, skip}
 
 -- what is left of k behind its first character
 abbrev pub first : Pattern
@@ -36,37 +35,41 @@ module _ (text : List ℕ) (p : ℕ) where
   pub k-first : holds consonant (getD text p 0) ≡ true → kEnd text p ≡ endBy first fail text (p + 1) p
   k-first h = sym (k-end p) ∙ step (some consonant) (optional k) fail text p p (h, refl) tt tt tt tt
 
-  -- k by its characters
-  through : (ks : List Known) (outs : List Range) → Path ks outs text p 0 → T (clear ks outs (optional k) fail)
-      → kEnd text p ≡ endBy (left ks outs (optional k)) (left ks outs fail) text (place p (count ks 0)) (other ks (optional k) p 0 p)
-  through ks outs f t = sym (k-end p) ∙ along ks outs (optional k) fail text p 0 p f t
+  -- where k's last character would stand
+  abbrev pub last : ℕ
+  last = skipped dOrI text (skipped consonant text (p + 1))
 
-  module _ (h : holds consonant (getD text p 0) ≡ true) where
-    pub k-mark : getD text (p + 1) 0 ≡ 0xE4C → p + 2 ≡ kEnd text p
-    k-mark f = sym (through (some consonant ∷ exact 0xE4C ∷ []) [] ((h, refl), (f, refl)) tt ∙ end-end fail text _ _ tt)
+  to-last : holds consonant (getD text p 0) ≡ true → kEnd text p ≡ endBy (then (is 0xE4C) end) fail text last p
+  to-last h =
+      k-first h ∙ skip consonant first fail text (p + 1) p tt refl refl ∙ skip dOrI (items (opt dOrI ∷ ch 0xE4C ∷ []) end) fail text (skipped consonant text (p + 1)) p tt refl refl
 
-    pub k-d-mark : holds dOrI (getD text (p + 1) 0) ≡ true → getD text (p + 2) 0 ≡ 0xE4C → p + 3 ≡ kEnd text p
-    k-d-mark g f = sym (through (some consonant ∷ some dOrI ∷ exact 0xE4C ∷ []) [] ((h, refl), ((g, refl), (f, refl))) tt ∙ end-end fail text _ _ tt)
+  pub k-mark : {q : ℕ} → q ≡ last → holds consonant (getD text p 0) ≡ true → getD text q 0 ≡ 0xE4C → q + 1 ≡ kEnd text p
+  k-mark e h f =
+      ap (λ (q : ℕ). q + 1) e
+      ∙ sym (to-last h ∙ step (exact 0xE4C) (then (is 0xE4C) end) fail text last p (ap (λ (q : ℕ). getD text q 0) (sym e) ∙ f) tt tt tt tt ∙ end-end fail text (last + 1) p tt)
 
-    pub k-d-no : holds dOrI (getD text (p + 1) 0) ≡ true → holds (is 0xE4C) (getD text (p + 2) 0) ≡ false → p ≡ kEnd text p
-    k-d-no g f = sym (through (some consonant ∷ some dOrI ∷ []) (is 0xE4C) ((h, refl), ((g, refl), f)) tt ∙ end-fail _ _ _ _)
+  pub k-no-mark : {q : ℕ} → q ≡ last → holds consonant (getD text p 0) ≡ true → holds (is 0xE4C) (getD text q 0) ≡ false → p ≡ kEnd text p
+  k-no-mark e h f =
+      sym (to-last h ∙ stay (is 0xE4C) (then (is 0xE4C) end) fail text last p (ap (λ (q : ℕ). holds (is 0xE4C) (getD text q 0)) (sym e) ∙ f) tt ∙ end-fail fail text last p)
 
-    pub k-no : NoneOf (is 0xE4C ∷ dOrI ∷ consonant ∷ []) (getD text (p + 1) 0) → p ≡ kEnd text p
-    k-no f =
-        sym (through (some consonant ∷ []) (all (is 0xE4C ∷ dOrI ∷ consonant ∷ [])) ((h, refl), none-of (is 0xE4C ∷ dOrI ∷ consonant ∷ []) (getD text (p + 1) 0) f) tt ∙ end-fail _ _ _ _)
+  abbrev Unmarked : ℕ → Type 0
+  Unmarked q = holds (is 0xE4C) (getD text q 0) ≡ false
 
-    pub k-two-mark : holds consonant (getD text (p + 1) 0) ≡ true → getD text (p + 2) 0 ≡ 0xE4C → p + 3 ≡ kEnd text p
-    k-two-mark g f = sym (through (some consonant ∷ some consonant ∷ exact 0xE4C ∷ []) [] ((h, refl), ((g, refl), (f, refl))) tt ∙ end-end fail text _ _ tt)
+  pub k-unmarked : Unmarked (p + 1) → Unmarked (p + 2) → Unmarked (p + 3) → p ≡ kEnd text p
+  k-unmarked f g i = go (holds consonant (getD text p 0)) refl
+    where
+      second : Unmarked (p + 1 + 1)
+      second = let e : p + 2 ≡ p + 1 + 1 = omega arith in subst Unmarked e g
 
-    pub k-two-no : holds consonant (getD text (p + 1) 0) ≡ true → NoneOf (is 0xE4C ∷ dOrI ∷ []) (getD text (p + 2) 0) → p ≡ kEnd text p
-    k-two-no g f =
-        sym (through (some consonant ∷ some consonant ∷ []) (all (is 0xE4C ∷ dOrI ∷ [])) ((h, refl), ((g, refl), none-of (is 0xE4C ∷ dOrI ∷ []) (getD text (p + 2) 0) f)) tt ∙ end-fail _ _ _ _)
+      third : Unmarked (p + 1 + 1 + 1)
+      third = let e : p + 3 ≡ p + 1 + 1 + 1 = omega arith in subst Unmarked e i
 
-    pub k-all : holds consonant (getD text (p + 1) 0) ≡ true → holds dOrI (getD text (p + 2) 0) ≡ true → getD text (p + 3) 0 ≡ 0xE4C → p + 4 ≡ kEnd text p
-    k-all g i f = sym (through (some consonant ∷ some consonant ∷ some dOrI ∷ exact 0xE4C ∷ []) [] ((h, refl), ((g, refl), ((i, refl), (f, refl)))) tt ∙ end-end fail text _ _ tt)
-
-    pub k-all-no : holds consonant (getD text (p + 1) 0) ≡ true → holds dOrI (getD text (p + 2) 0) ≡ true → holds (is 0xE4C) (getD text (p + 3) 0) ≡ false → p ≡ kEnd text p
-    k-all-no g i f = sym (through (some consonant ∷ some consonant ∷ some dOrI ∷ []) (is 0xE4C) ((h, refl), ((g, refl), ((i, refl), f))) tt ∙ end-fail _ _ _ _)
+      go : (b : Bool) → holds consonant (getD text p 0) ≡ b → p ≡ kEnd text p
+      go true h =
+          k-no-mark refl h
+          (skip-either dOrI text (skipped consonant text (p + 1)) Unmarked (skip-either consonant text (p + 1) Unmarked f second)
+          (skip-either consonant text (p + 1) (λ q. Unmarked (q + 1)) second third))
+      go false h = k-none h
 
   -- where a character of k satisfies the look-ahead
   abbrev ahead : Pattern
