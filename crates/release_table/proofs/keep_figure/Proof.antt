@@ -2,12 +2,12 @@
 use mathlib.Core.List.{[], _∷_}
 use Rattle.sheet_texts.specs.Texts.{decimal}
 use Rattle.why_texts.proofs.Adding.{added, added-more, both}
-use Rattle.release_lines.specs.Table.{figureLine}
+use Rattle.release_table.specs.Table.{figureLine}
 use borrow.Author.Needs.{needs}
-use Rattle.release_lines.proofs.keep_figure.Statement.{statement}
-use Rattle.release_lines.proofs.keep_figure.Tie as tie
-use Rattle.release_lines.proofs.keep_figure.Reads as reads
-use Rattle.release_lines.proofs.keep_figure.Lts as lts
+use Rattle.release_table.proofs.keep_figure.Statement.{statement}
+use Rattle.release_table.proofs.keep_figure.Tie as tie
+use Rattle.release_table.proofs.keep_figure.Reads as reads
+use Rattle.release_table.proofs.keep_figure.Lts as lts
 
 keep-requires : tie.Need-keep-requires
 keep-requires c κs = search needs

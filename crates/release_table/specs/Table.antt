@@ -88,22 +88,49 @@ refused6Name =
 unfoldable pub figureLine : List ℕ → ℕ → List ℕ
 figureLine name n = ((name ++ (32 ∷ [])) ++ decimal n) ++ (10 ∷ [])
 
+-- Texts, characters and tokens.
+unfoldable pub sizeLines : List ℕ → List ℕ
+sizeLines figures =
+    (figureLine textsName (figure figures 0)
+    ++ figureLine charactersName (figure figures 1))
+    ++ figureLine tokensName (figure figures 2)
+
+-- The tokens that are a word or a run.
+unfoldable pub foundLines : List ℕ → List ℕ
+foundLines figures =
+    figureLine wordsName (figure figures 3)
+    ++ figureLine runsName (figure figures 4)
+
+-- The tokens that were skipped, by what stopped them.
+unfoldable pub skippedLines : List ℕ → List ℕ
+skippedLines figures =
+    (figureLine skippedToWordName (figure figures 5)
+    ++ figureLine skippedToRunName (figure figures 6))
+    ++ figureLine skippedToEndName (figure figures 7)
+
+-- Edges, in all and of one text.
+unfoldable pub edgeLines : List ℕ → List ℕ
+edgeLines figures =
+    figureLine edgesName (figure figures 8)
+    ++ figureLine mostEdgesName (figure figures 9)
+
+-- The texts refused with 1 to 3, for themselves.
+unfoldable pub textRefusalLines : List ℕ → List ℕ
+textRefusalLines figures =
+    (figureLine refused1Name (figure figures 10)
+    ++ figureLine refused2Name (figure figures 11))
+    ++ figureLine refused3Name (figure figures 12)
+
+-- The texts refused with 4 to 6, for pool, scratch or output.
+unfoldable pub rowRefusalLines : List ℕ → List ℕ
+rowRefusalLines figures =
+    (figureLine refused4Name (figure figures 13)
+    ++ figureLine refused5Name (figure figures 14))
+    ++ figureLine refused6Name (figure figures 15)
+
 -- THE TABLE: each figure behind its name, in the order of the cells.
 unfoldable pub table : List ℕ → List ℕ
 table figures =
-    ((((((((((((((figureLine textsName (figure figures 0)
-    ++ figureLine charactersName (figure figures 1))
-    ++ figureLine tokensName (figure figures 2))
-    ++ figureLine wordsName (figure figures 3))
-    ++ figureLine runsName (figure figures 4))
-    ++ figureLine skippedToWordName (figure figures 5))
-    ++ figureLine skippedToRunName (figure figures 6))
-    ++ figureLine skippedToEndName (figure figures 7))
-    ++ figureLine edgesName (figure figures 8))
-    ++ figureLine mostEdgesName (figure figures 9))
-    ++ figureLine refused1Name (figure figures 10))
-    ++ figureLine refused2Name (figure figures 11))
-    ++ figureLine refused3Name (figure figures 12))
-    ++ figureLine refused4Name (figure figures 13))
-    ++ figureLine refused5Name (figure figures 14))
-    ++ figureLine refused6Name (figure figures 15)
+    ((((sizeLines figures ++ foundLines figures) ++ skippedLines figures) ++ edgeLines figures)
+    ++ textRefusalLines figures)
+    ++ rowRefusalLines figures
