@@ -15,12 +15,17 @@ import sys
 ROOT = os.path.dirname(os.path.dirname(os.path.abspath(__file__)))
 
 # An error that shows only that a proof does not fit the code, or that something before it failed.
-UNFIT = re.compile(r"that can be named from here|was not admitted|has no field|: module `[^`]*` has no `")
+UNFIT = re.compile(r"that can be named from here|was not admitted|has no field|: module `[^`]*` has no `|expected type `tie\.Need-")
 
 
 def text(path):
     with open(path, encoding="utf-8", errors="replace") as file:
         return file.read()
+
+
+def errors_at(log, place):
+    """The errors at places that a pattern says, each with the indented lines behind it."""
+    return re.findall(r"(?m)^[^ \n]*%s: error: .*(?:\n +.*)*" % place, log)
 
 
 def function_problem(log, crate, name):
@@ -30,16 +35,16 @@ def function_problem(log, crate, name):
         return "%s does not read `not proved`" % name
     if "`search` does not close" in said[1]:
         return ""
-    proof = "/proofs/%s/Proof.antt:" % name.replace("::", "/")
-    errors = [line for line in log.splitlines() if proof in line and ": error: " in line]
-    if all(UNFIT.search(line) for line in errors):
+    errors = errors_at(log, r"/proofs/%s/Proof\.antt:\d+:\d+" % re.escape(name.replace("::", "/")))
+    if all(UNFIT.search(error) for error in errors):
         return "%s is not refused at a fact of its own" % name
     return ""
 
 
 def law_problem(log, name):
     file, law = name.split(".", 1)
-    errors = re.findall(r"(?m)/proofs/%s\.antt:\d+:\d+: error: `%s`: (.*)$" % (re.escape(file), re.escape(law)), log)
+    errors = errors_at(log, r"/proofs/%s\.antt:\d+:\d+" % re.escape(file))
+    errors = [error for error in errors if ": error: `%s`: " % law in error.split("\n")[0]]
     if not errors:
         return "%s has no error" % name
     if all(UNFIT.search(error) for error in errors):
