@@ -5,7 +5,7 @@
 use figures_cells::Figures;
 use libc::STDERR_FILENO;
 use release_lines::count_line;
-use release_lines::write_figures;
+use release_table::write_figures;
 use sheet_bytes::front;
 use sheet_bytes::keep;
 use sheet_bytes::line_end;

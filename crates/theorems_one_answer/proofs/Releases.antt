@@ -1,12 +1,12 @@
--- The library of the program that makes a release's list: the answer, the figures and the words, and the
+-- The libraries of the program that makes a release's list: the answer, the figures and the words, and the
 -- table. Assumes nothing.
 use Prim.Native.Nat.{ℕ}
 use mathlib.Core.Bool.{Bool}
 use mathlib.Core.List.{List}
 use Rattle.release_lines.proofs.count_line.Kinds as count-line-kinds
 use Rattle.release_lines.proofs.count_line.Reads as count-line-contract
-use Rattle.release_lines.proofs.write_figures.Kinds as write-figures-kinds
-use Rattle.release_lines.proofs.write_figures.Reads as write-figures-contract
+use Rattle.release_table.proofs.write_figures.Kinds as write-figures-kinds
+use Rattle.release_table.proofs.write_figures.Reads as write-figures-contract
 use Rattle.theorems_one_answer.specs.OneAnswer.{OneAnswer}
 use Rattle.theorems_one_answer.proofs.Shapes.{answer, both}
 use Rattle.theorems_one_answer.proofs.Sheets.{pool-one}
