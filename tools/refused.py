@@ -35,7 +35,9 @@ def function_problem(log, crate, name):
         return "%s does not read `not proved`" % name
     if "`search` does not close" in said[1]:
         return ""
-    errors = errors_at(log, r"/proofs/%s/Proof\.antt:\d+:\d+" % re.escape(name.replace("::", "/")))
+    *module, last = name.split("::")
+    folder = "".join(re.escape(part) + "/" for part in module) + r"\+?" + re.escape(last)  # a recursive function's has a plus
+    errors = errors_at(log, r"/proofs/%s/Proof\.antt:\d+:\d+" % folder)
     if all(UNFIT.search(error) for error in errors):
         return "%s is not refused at a fact of its own" % name
     return ""
