@@ -3,7 +3,7 @@ use Prim.Native.Nat.{ℕ, _+_, _-_, _/_, _≤_, _<_}
 use native.Mathlib.Omega.{arith}
 use native.Mathlib.Nat.{add-zero}
 use mathlib.Core.Path.{_≡_, sym, _∙_}
-use mathlib.Core.Bool.{true}
+use mathlib.Core.Bool.{true, false}
 use mathlib.Core.List.{List, [], _∷_}
 use lib.ListN.{length, getD, drop, length-drop}
 use lib.Seq.{getD-drop}
@@ -12,6 +12,10 @@ use Rattle.lists.proofs.Ranges.{within-yes}
 use Rattle.utf8_sequences.specs.Sequences.{sizeOf}
 use Rattle.utf8_sequences.proofs.FirstBytes.{low, high, e0, e1, ed, ee, Kind, shut, one, two, three, four, kind-of}
 use Rattle.utf8_sequences.proofs.Sizes.{fourth-range, third-range}
+
+-- where it isn't told, nothing is
+pub untold : {P : Type 0} → false ≡ true → P
+untold h = absurd (let z : _≡_ {A = ℕ} 0 1 = cc in omega arith)
 
 -- a byte below 0x80 is a sequence
 ascii-kind : (b : ℕ) (s : List ℕ) → Kind b → b < 0x80 → sizeOf (b ∷ s) ≡ 1
