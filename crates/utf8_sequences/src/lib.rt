@@ -113,16 +113,19 @@ pub fn next_size(table: &[u32; 256], s: &[u8], at: usize) -> usize
     size_at(table, s, at)
 }
 
+// What the marks of two bytes that are no first ones, 0x80 in each, add to their scalar.
+const TRAIL_BITS: u32 = 0x2080;
+
 // The scalar at a place where a well-formed sequence stands that starts as all of Thai do.
 pub fn piece_of_e0(s: &[u8], at: usize) -> Piece
     requires { ⌜ 0 < sizeOf (drop at (now s)) ⌝ }
     requires { ⌜ getD (now s) at 0 ≡ 0xE0 ⌝ }
     ensures { λ r. ⌜ r ≡ pieceOf (drop at (now (s .entry))) ⌝ }
 {
-    let b = wide(s[at + 1]) % 64;
-    let c = wide(s[at + 2]) % 64;
+    let b = wide(s[at + 1]);
+    let c = wide(s[at + 2]);
     Piece {
-        scalar: b * 64 + c,
+        scalar: b * 64 + c - TRAIL_BITS,
         size: 3,
     }
 }
