@@ -282,20 +282,18 @@ ASKED = (
     ("decode", LINES, "small", {"rust": 2, "icu": 1}),
     ("clusters", LONG, "small", {"rust": 6}),
     ("clusters", LINES, "small", {"rust": 8}),
-    ("places", LONG, "all", {"rust": 2}),
-    ("places", LONG, "small", {"rust": 2}),
     ("plain", LONG, "all", {"rust": 3.3, "icu": 1.2, "libthai": 2.5}),
     ("plain", LONG, "small", {"rust": 5.5, "icu": 2.3, "libthai": 5}),
     ("safe", LONG, "all", {"rust": 3.5}),
     ("safe", LONG, "small", {"rust": 5}),
-    ("plain", LINES, "small", {"rust": 1}),
-    ("safe", LINES, "small", {"rust": 1}),
     ("batch", ALL, "all", {"rust": 3.3, "icu": 1.3, "libthai": 3}),
     ("batch", ALL, "small", {"rust": 4.5, "icu": 2.2, "libthai": 5}),
     ("batch", LINES, "all", {"rust": 2}),
     ("batch", LINES, "small", {"rust": 4.5}),
 )
 SIDES = {"rust": "the Rust", "icu": "ICU", "libthai": "libthai"}
+# what a target holds for, beside the time, or in its place
+BOTH, COUNTED = "both", "instructions"
 
 
 def label(r, op, texts, words):
@@ -319,16 +317,25 @@ def kept(r):
 
 
 def judged(r, make, meets):
-    """The rows of a table of targets. A target is met, or missed, where the best times and the median of the rounds say so alike."""
+    """The rows of a table of targets. A target is met, or missed, where the best times and the median of the rounds say so alike;
+    one by instructions where their number says so."""
     for best, *rounds in zip(make(r), *(make(one) for one in r.rounds())):
-        name, asked, by_time, by_count, *more = best
+        name, asked, by_time, by_count, *how = best
         ratios = [row[2] for row in rounds]
-        said = {bool(meets(x, asked)) for x in (by_time, statistics.median(ratios))}
-        found = "within the noise" if len(said) == 2 else "met" if said == {True} else "missed"
-        if more and by_count is not None and len(said) == 1 and meets(by_count, asked) not in said:
-            found = "missed by time" if found == "missed" else "missed by instructions"
         counted = "" if by_count is None else "%.2f" % by_count
-        yield [name, "%g" % asked, "%.2f" % by_time, spread(ratios), counted, found]
+        yield [name, "%g" % asked, "%.2f" % by_time, spread(ratios), counted, verdict(asked, by_time, by_count, ratios, how, meets)]
+
+
+def verdict(asked, by_time, by_count, ratios, how, meets):
+    """What is said of a target that holds for the time, for the instructions (`COUNTED`), or for both (`BOTH`)."""
+    if how == [COUNTED]:
+        return "met" if meets(by_count, asked) else "missed"
+    said = {bool(meets(x, asked)) for x in (by_time, statistics.median(ratios))}
+    if len(said) == 2:
+        return "within the noise"
+    if how == [BOTH] and meets(by_count, asked) not in said:
+        return "missed by instructions" if said == {True} else "missed by time"
+    return "met" if said == {True} else "missed"
 
 
 def grown(r, case, words, kind):
@@ -347,10 +354,10 @@ AGAINST = (
 
 
 def limits(r):
-    """Each target that is an upper end, as `targets` has them; `both` where it holds for instructions too."""
+    """Each target that is an upper end, as `targets` has them, and what it holds for, where that isn't the time alone."""
 
-    def row(name, asked, ratios, *both):
-        return (name, asked, *ratios, *both)
+    def row(name, asked, ratios, *how):
+        return (name, asked, *ratios, *how)
 
     per = r.sizes[LONG]["characters"]
     for words in ("all", "small"):
@@ -363,13 +370,13 @@ def limits(r):
     ordinary = {("ordinary", words): "ordinary text, %s words, the check left out" % r.words(words) for words in ("all", "small")}
     for (case, words), name in {**ordinary, **{(case, case): name for case, name in WORST.items()}}.items():
         ratios = [grown(r, case, words, kind) for kind in ("ours", "instructions")]
-        yield row("growth, a character at 65,535 against 4,000: " + name, 1.2, ratios, "both")
+        yield row("growth, a character at 65,535 against 4,000: " + name, 1.2, ratios, BOTH)
     for words in ("all", "small"):
         ratios = [of("ours", "check", LONG, words) / of("ours", "read", LONG, words) for of in (r.time, r.count)]
         yield row("the check of the pool against a plain read of its cells, %s words" % r.words(words), 1, ratios)
     for words in ("all", "small"):
         ratios = [of("ours", "sheet", LONG, words) / of("ours", "safe", LONG, words) for of in (r.time, r.count)]
-        yield row("the profile sheet against safe mode, one long text, %s words" % r.words(words), 1.05, ratios)
+        yield row("the profile sheet against safe mode, by instructions, one long text, %s words" % r.words(words), 1.05, ratios, COUNTED)
         for op, base, name, limit in AGAINST:
             ratios = [x / y for x, y in zip(unchecked(r, op, words), unchecked(r, base, words))]
             yield row("%s, the check left out, %s words" % (name, r.words(words)), limit, ratios)
@@ -384,7 +391,7 @@ def limits(r):
         yield row(name, 2, [of("ours", "places", *more) / of("ours", "places", *fewer) for of in (r.time, r.count)])
     for words in ("all", "small"):
         ratios = [of("ours", "batch", LINES, words) / of("ours", "plain", JOINED, words) for of in (r.time, r.count)]
-        yield row("lines in one call against one text of the same characters, %s words" % r.words(words), 1.3, ratios)
+        yield row("lines in one call against one text of the same characters, by instructions, %s words" % r.words(words), 1.3, ratios, COUNTED)
     ratios = [of("ours", "read-image", LONG, "all") / r.images["all"] / (of("ours", "read-image", LONG, "some") / r.images["some"]) for of in (r.time, r.count)]
     yield row("reading an image, a byte of %s words against %s" % (r.words("all"), r.words("some")), 1.3, ratios)
 
@@ -402,7 +409,8 @@ def opening(r):
     yield ""
     yield '"ns" and "instr." are nanoseconds and instructions a character. "faster" is the Rust\'s time over ours. A ratio by time is'
     yield 'that of the best times of all rounds, and "in the rounds" has the lowest and the highest of a round. A target is met or missed'
-    yield 'where the best times and the median of the rounds say so alike; else it is within the noise.'
+    yield 'where the best times and the median of the rounds say so alike; else it is within the noise. A target by instructions is held'
+    yield 'against their number alone.'
 
 
 def sections(r):

@@ -17,7 +17,8 @@ use Rattle.utf8_sequences.specs.Utf8.{scalarOf}
 use Rattle.utf8_sequences.specs.Sequences.{sizeOf}
 use Rattle.utf8.specs.Decoding.{Run, run, runAll, scalarsOf, more, stop}
 use Rattle.utf8_sequences.specs.inner.Pieces.{pieceOf}
-use Rattle.utf8.specs.inner.Passes.{countedOf}
+use Rattle.utf8.specs.inner.Passes.{countedOf, Read}
+use Rattle.utf8_sequences.proofs.Quick.{ascii-at}
 use Rattle.utf8_sequences.proofs.Sizes.{size-inside}
 
 run-empty-at : (f : ℕ) (s : List ℕ) → length s ≡ 0 → run f s ≡ stop true
@@ -78,14 +79,6 @@ run-bounds (suc f) s = go (run-bounds f (drop (sizeOf s) s)) (eqb (length s) 0) 
     go ih false true = (omega arith, omega arith)
     go ih false false = (omega (arith, ih .0), omega (arith, ih .1, size-inside s, length-drop (sizeOf s) s))
 
--- n scalars stand in the first `at` bytes, and the run goes on from there
-pub record Read (s : List ℕ) (at n : ℕ) : Type 0 where
-  pub inside : at ≤ length s
-  pub few : n ≤ at
-  pub number : length (scalarsOf s) ≡ n + length (scalarsOf (drop at s))
-  pub bytes : runAll s .taken ≡ at + runAll (drop at s) .taken
-  pub all : runAll s .whole ≡ runAll (drop at s) .whole
-
 pub read-none : (s : List ℕ) → Read s 0 0
 read-none s = record { inside = omega arith; few = omega arith; number = omega arith; bytes = omega arith; all = refl }
 
@@ -109,6 +102,10 @@ read-more {s} {at} {n} k h e p =
       bytes = omega (arith, ap (λ (q : Run). q .taken) r);
       all = h .all ∙ ap (λ (q : Run). q .whole) r;
     }
+
+-- the same over a byte of ASCII
+pub read-ascii : {s : List ℕ} {at n : ℕ} → Read s at n → at < length s → getD s at 0 < 0x80 → Read s (at + 1) (n + 1)
+read-ascii {s} {at} h i a = read-more 1 h (ascii-at s at (getD s at 0) refl i a) (omega arith)
 
 -- the run stops here
 read-stop : {s : List ℕ} {at n : ℕ} (w : Bool) → Read s at n → runAll (drop at s) ≡ stop w → _≡_ {A = Counted} (record { scalars = n; taken = at; whole = w }) (countedOf (runAll s))

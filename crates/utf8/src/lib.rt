@@ -8,7 +8,7 @@ use utf8_sequences::lead_table;
 use utf8_sequences::next_size;
 use utf8_sequences::piece_at;
 use utf8_sequences::piece_of_e0;
-use utf8_sequences::quick_size;
+use utf8_sequences::thai_at;
 ghost use mathlib.Core.Path.{_≡_};
 ghost use mathlib.Core.Bool.{true};
 ghost use Prim.Native.Nat.{_<_, _≤_};
@@ -17,7 +17,7 @@ ghost use mathlib.Core.List.{_++_};
 ghost use Rattle.refusal.specs.Answers.{output};
 ghost use Rattle.utf8.specs.Decoding.{runAll, scalarsOf, roomIn, decoded};
 ghost use Rattle.utf8.specs.Positions.{positionsOf, endInBytes};
-ghost use Rattle.utf8.specs.inner.Passes.{countedOf};
+ghost use Rattle.utf8.specs.inner.Passes.{countedOf, Read};
 
 // What the first pass finds: how many scalars the longest well-formed prefix has, its length in
 // bytes, and whether it is all.
@@ -25,6 +25,33 @@ pub struct Counted {
     pub scalars: usize,
     pub taken: usize,
     pub whole: bool,
+}
+
+// How far the first pass has come: a place, and how many scalars stand before it.
+pub struct Reached {
+    pub at: usize,
+    pub scalars: usize,
+}
+
+// On over the Thai characters that follow.
+fn over_thai(s: &[u8], from: usize, before: usize) -> Reached
+    requires { ⌜ Read (now s) from before ⌝ }
+    ensures { λ r. ⌜ Read (now (s .entry)) (r .at) (r .scalars) × (from ≤ r .at) ⌝ }
+{
+    let mut at = from;
+    let mut n = before;
+    if s.len() < 3 {
+        return Reached { at, scalars: n };
+    }
+    let end = s.len() - 2;
+    while at < end {
+        if !thai_at(s, at) {
+            return Reached { at, scalars: n };
+        }
+        at += 3;
+        n += 1;
+    }
+    Reached { at, scalars: n }
 }
 
 // The first pass, with the table.
@@ -43,8 +70,9 @@ fn count_by_table(s: &[u8]) -> Counted
                 whole: false,
             };
         }
-        at += size;
-        n += 1;
+        let r = over_thai(s, at + size, n + 1);
+        at = r.at;
+        n = r.scalars;
     }
     Counted {
         scalars: n,
@@ -60,17 +88,26 @@ fn count(s: &[u8]) -> Counted
     let mut at = 0;
     let mut n = 0;
     while at < s.len() {
-        let size = quick_size(s, at);
-        if size == 0 {
-            let rest = count_by_table(&s[at..]);
+        let r = over_thai(s, at, n);
+        let here = r.at;
+        let before = r.scalars;
+        if s.len() <= here {
             return Counted {
-                scalars: n + rest.scalars,
-                taken: at + rest.taken,
+                scalars: before,
+                taken: here,
+                whole: true,
+            };
+        }
+        if 0x80 <= s[here] {
+            let rest = count_by_table(&s[here..]);
+            return Counted {
+                scalars: before + rest.scalars,
+                taken: here + rest.taken,
                 whole: rest.whole,
             };
         }
-        at += size;
-        n += 1;
+        at = here + 1;
+        n = before + 1;
     }
     Counted {
         scalars: n,

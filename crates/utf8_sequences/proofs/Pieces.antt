@@ -16,6 +16,7 @@ use Rattle.utf8_sequences.specs.Sequences.{starts, sizeOf}
 use Rattle.utf8_sequences.specs.inner.Pieces.{pieceOf}
 use Rattle.utf8_sequences.proofs.FirstBytes.{Opens, Kind, shut, one, two, three, four, kind-of}
 use Rattle.utf8_sequences.proofs.Sizes.{third-range, fourth-range, size-inside}
+use Rattle.utf8_sequences.proofs.Quick.{After-e0, after-first}
 
 some : (t : Bool) (k : ℕ) → 0 < cond t k 0 → cond t k 0 ≡ k
 some true k h = refl
@@ -161,10 +162,19 @@ module _ (s : List ℕ) (at : ℕ) (h : 0 < sizeOf (drop at s)) where
         is-4 k d ed = (λ i. record { scalar = a-is i % 8 * 262144 + b-is i % 64 * 4096 + c-is i % 64 * 64 + behind 3 ed i % 64; size = 4 }) ∙ at-4 k .is
 
 -- behind the first byte of all of Thai
-pub is-e0 : (s : List ℕ) (at : ℕ) → 0 < sizeOf (drop at s) → getD s at 0 ≡ 0xE0 → (b : ℕ) → b ≡ getD s (at + 1) 0 → (c : ℕ) → c ≡ getD s (at + 2) 0 → _≡_ {A = Piece} (record { scalar = b % 64 * 64 + c % 64; size = 3 }) (pieceOf (drop at s))
-is-e0 s at h e b eb c ec =
-    let z : b % 64 * 64 + c % 64 ≡ 0xE0 % 16 * 4096 + b % 64 * 64 + c % 64 = omega arith in
-    (λ i. record { scalar = z i; size = 3 }) ∙ is-3 s at h 0xE0 (sym e) (omega arith) b eb (omega arith) c ec (omega arith)
-
 pub room-e0 : (s : List ℕ) (at : ℕ) → 0 < sizeOf (drop at s) → getD s at 0 ≡ 0xE0 → at + 2 < length s
 room-e0 s at h e = room-3 s at h 0xE0 (sym e) (omega arith) (omega arith)
+
+module _ (s : List ℕ) (at : ℕ) (h : 0 < sizeOf (drop at s)) (e : getD s at 0 ≡ 0xE0) (b : ℕ) (eb : b ≡ getD s (at + 1) 0) (c : ℕ) (ec : c ≡ getD s (at + 2) 0) where
+  pub after-e0 : After-e0 b c
+  after-e0 =
+      let z = after-first (drop at s) (omega (arith, room-e0 s at h e, length-drop at s)) h (head-is s at h ∙ e) in
+      let x : b ≡ getD (drop at s) 1 0 = eb ∙ sym (getD-drop at s 1 0) in
+      let y : c ≡ getD (drop at s) 2 0 = ec ∙ sym (getD-drop at s 2 0) in
+      record { least = omega (arith, z .least, x); most = omega (arith, z .most, x); least′ = omega (arith, z .least′, y); most′ = omega (arith, z .most′, y) }
+
+  pub is-e0 : _≡_ {A = Piece} (record { scalar = b * 64 + c - 0x2080; size = 3 }) (pieceOf (drop at s))
+  is-e0 =
+      let w = after-e0 in
+      let z : b * 64 + c - 0x2080 ≡ 0xE0 % 16 * 4096 + b % 64 * 64 + c % 64 = omega (arith, w .least, w .most, w .least′, w .most′) in
+      (λ i. record { scalar = z i; size = 3 }) ∙ is-3 s at h 0xE0 (sym e) (omega arith) b eb (omega arith) c ec (omega arith)

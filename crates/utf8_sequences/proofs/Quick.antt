@@ -1,17 +1,24 @@
--- Sequences whose length is told without the table: ASCII, and the Thai block. Assumes nothing.
+-- Sequences that are told without the table: ASCII, the Thai block, and what may follow its first
+-- byte. Assumes nothing.
 use Prim.Native.Nat.{ℕ, _+_, _-_, _/_, _≤_, _<_}
 use native.Mathlib.Omega.{arith}
 use native.Mathlib.Nat.{add-zero}
-use mathlib.Core.Path.{_≡_, sym, _∙_}
-use mathlib.Core.Bool.{true}
+use mathlib.Core.Path.{_≡_, refl, sym, _∙_}
+use mathlib.Core.Bool.{Bool, true, false, cond, _&&_}
 use mathlib.Core.List.{List, [], _∷_}
 use lib.ListN.{length, getD, drop, length-drop}
 use lib.Seq.{getD-drop}
+use lib.Dec.{leb}
+use borrow.Author.Tests.{leb-true}
 use Rattle.lists.specs.Scans.{within}
 use Rattle.lists.proofs.Ranges.{within-yes}
 use Rattle.utf8_sequences.specs.Sequences.{sizeOf}
 use Rattle.utf8_sequences.proofs.FirstBytes.{low, high, e0, e1, ed, ee, Kind, shut, one, two, three, four, kind-of}
 use Rattle.utf8_sequences.proofs.Sizes.{fourth-range, third-range}
+
+-- where it isn't told, nothing is
+pub untold : {P : Type 0} → false ≡ true → P
+untold h = absurd (let z : _≡_ {A = ℕ} 0 1 = cc in omega arith)
 
 -- a byte below 0x80 is a sequence
 ascii-kind : (b : ℕ) (s : List ℕ) → Kind b → b < 0x80 → sizeOf (b ∷ s) ≡ 1
@@ -43,6 +50,46 @@ thai-first [] h e i j = absurd (omega arith)
 thai-first (b ∷ []) h e i j = absurd (omega arith)
 thai-first (b ∷ x ∷ []) h e i j = absurd (omega arith)
 thai-first (b ∷ x ∷ y ∷ s) h e i j = thai-kind b x y s (kind-of b) e i j
+
+-- the bytes behind E0
+pub record After-e0 (b c : ℕ) : Type 0 where
+  pub least : 0xA0 ≤ b
+  pub most : b ≤ 0xBF
+  pub least′ : 0x80 ≤ c
+  pub most′ : c ≤ 0xBF
+
+both : (u v : Bool) → 0 < cond (u && (v && true)) 3 0 → (u ≡ true) × (v ≡ true)
+both true true h = (refl, refl)
+both true false h = absurd (omega arith)
+both false v h = absurd (omega arith)
+
+inside : (lo hi x : ℕ) → within lo hi x ≡ true → (lo ≤ x) × (x ≤ hi)
+inside lo hi x h = go (leb lo x) (leb x hi) refl refl h
+  where
+    go : (u v : Bool) → leb lo x ≡ u → leb x hi ≡ v → (u && v) ≡ true → (lo ≤ x) × (x ≤ hi)
+    go true true p q e = (leb-true lo x p, leb-true x hi q)
+    go true false p q e = untold e
+    go false v p q e = untold e
+
+after-kind : (a b c : ℕ) (s : List ℕ) → Kind a → a ≡ 0xE0 → 0 < sizeOf (a ∷ b ∷ c ∷ s) → After-e0 b c
+after-kind a b c s (shut x k) e h = absurd (omega (arith, k .size (b ∷ c ∷ s)))
+after-kind a b c s (one x o) e h = absurd (omega arith)
+after-kind a b c s (two x y o) e h = absurd (omega arith)
+after-kind a b c s (three (e0 x y) o) e h =
+    let t = both (within 0xA0 0xBF b) (within 0x80 0xBF c) (omega (arith, o .size (b ∷ c ∷ s))) in
+    let u = inside 0xA0 0xBF b (t .0) in
+    let v = inside 0x80 0xBF c (t .1) in
+    record { least = u .0; most = u .1; least′ = v .0; most′ = v .1 }
+after-kind a b c s (three (e1 x y) o) e h = absurd (omega arith)
+after-kind a b c s (three (ed x y) o) e h = absurd (omega arith)
+after-kind a b c s (three (ee x y) o) e h = absurd (omega arith)
+after-kind a b c s (four r o) e h = let z = fourth-range r in absurd (omega arith)
+
+pub after-first : (s : List ℕ) → 3 ≤ length s → 0 < sizeOf s → getD s 0 0 ≡ 0xE0 → After-e0 (getD s 1 0) (getD s 2 0)
+after-first [] r h e = absurd (omega arith)
+after-first (a ∷ []) r h e = absurd (omega arith)
+after-first (a ∷ b ∷ []) r h e = absurd (omega arith)
+after-first (a ∷ b ∷ c ∷ s) r h e = after-kind a b c s (kind-of a) e h
 
 -- the same at a place, for the bytes as they were read
 module _ (s : List ℕ) (at : ℕ) where

@@ -4,7 +4,8 @@ mod leads;
 use leads::lead;
 pub use leads::lead_table;
 ghost use mathlib.Core.Path.{_≡_};
-ghost use Prim.Native.Nat.{_<_};
+ghost use mathlib.Core.Bool.{true};
+ghost use Prim.Native.Nat.{_+_, _<_};
 ghost use lib.ListN.{length, getD, drop};
 ghost use Rattle.lists.specs.Scans.{within};
 ghost use Rattle.utf8_sequences.specs.Sequences.{Leads, sizeOf};
@@ -67,26 +68,33 @@ fn size_at(table: &[u32; 256], s: &[u8], at: usize) -> usize
     4
 }
 
+// Whether a character of the Thai block stands at a place that two bytes follow.
+pub fn thai_at(s: &[u8], at: usize) -> bool
+    requires { ⌜ at + 2 < length (now s) ⌝ }
+    ensures { λ r. ⌜ (r ≡ true → 3 ≡ sizeOf (drop at (now (s .entry)))) ⌝ }
+{
+    if wide(s[at]) != 0xE0 {
+        return false;
+    }
+    if wide(s[at + 1]) / 2 != 0x5C {
+        return false;
+    }
+    is_trail(s[at + 2])
+}
+
 // The length of the sequence at a place where ASCII or a character of the Thai block stands. 0 says
 // nothing of what stands there.
-pub fn quick_size(s: &[u8], at: usize) -> usize
+fn quick_size(s: &[u8], at: usize) -> usize
     requires { ⌜ at < length (now s) ⌝ }
     ensures { λ r. ⌜ (0 < r → r ≡ sizeOf (drop at (now (s .entry)))) ⌝ }
 {
-    let a = wide(s[at]);
-    if a < 0x80 {
+    if wide(s[at]) < 0x80 {
         return 1;
-    }
-    if a != 0xE0 {
-        return 0;
     }
     if s.len() - at < 3 {
         return 0;
     }
-    if wide(s[at + 1]) / 2 != 0x5C {
-        return 0;
-    }
-    if !is_trail(s[at + 2]) {
+    if !thai_at(s, at) {
         return 0;
     }
     3
@@ -105,16 +113,19 @@ pub fn next_size(table: &[u32; 256], s: &[u8], at: usize) -> usize
     size_at(table, s, at)
 }
 
+// What the marks of two bytes that are no first ones, 0x80 in each, add to their scalar.
+const TRAIL_BITS: u32 = 0x2080;
+
 // The scalar at a place where a well-formed sequence stands that starts as all of Thai do.
 pub fn piece_of_e0(s: &[u8], at: usize) -> Piece
     requires { ⌜ 0 < sizeOf (drop at (now s)) ⌝ }
     requires { ⌜ getD (now s) at 0 ≡ 0xE0 ⌝ }
     ensures { λ r. ⌜ r ≡ pieceOf (drop at (now (s .entry))) ⌝ }
 {
-    let b = wide(s[at + 1]) % 64;
-    let c = wide(s[at + 2]) % 64;
+    let b = wide(s[at + 1]);
+    let c = wide(s[at + 2]);
     Piece {
-        scalar: b * 64 + c,
+        scalar: b * 64 + c - TRAIL_BITS,
         size: 3,
     }
 }

@@ -3,7 +3,8 @@ use Prim.Native.Nat.{_-_}
 use native.Mathlib.Omega.{arith}
 use mathlib.Core.Path.{sym, _∙_}
 use lib.ListN.{length}
-use Rattle.utf8.proofs.Runs.{Read, read-none, read-inside, read-more, read-broken, read-done}
+use Rattle.utf8.specs.inner.Passes.{Read}
+use Rattle.utf8.proofs.Runs.{read-none, read-inside, read-more, read-broken, read-done}
 use borrow.Author.Needs.{needs}
 use Rattle.utf8.proofs.count_by_table.Statement.{statement}
 use Rattle.utf8.proofs.count_by_table.Tie as tie
@@ -29,17 +30,33 @@ returns c =
     let c4 = c3 .before in
     read-broken (c4 .loop .inv) (c3 .loop-test .taken) (sym (c .before .next-size .ensures) ∙ c .if1 .taken)
 
-add-at : tie.Need-add-at Inv-loop μ-loop
-add-at c = let z = read-inside _ _ _ (c .before .before .before .before .loop .inv .inside) (c .before .next-size .ensures) in omega arith
+add-over-thai : tie.Need-add-over-thai Inv-loop μ-loop
+add-over-thai c =
+    let c4 = c .before .before .before .before in
+    let z = read-inside _ _ _ (c4 .loop .inv .inside) (c .before .next-size .ensures) in
+    omega arith
 
-add-n : tie.Need-add-n Inv-loop μ-loop
-add-n c = search needs
+add-over-thai-2 : tie.Need-add-over-thai-2 Inv-loop μ-loop
+add-over-thai-2 c = search needs
+
+over-thai-requires : tie.Need-over-thai-requires Inv-loop μ-loop
+over-thai-requires c κs =
+    let c4 = c .before .before .before .before in
+    read-more _ (c4 .loop .inv) (c .before .next-size .ensures) (omega (arith, c .if1 .left))
 
 loop-less : tie.Need-loop-less Inv-loop μ-loop
-loop-less c = let z = read-inside _ _ _ (c .before .before .before .before .loop .inv .inside) (c .before .next-size .ensures) in omega arith
+loop-less c =
+    let c4 = c .before .before .before .before in
+    omega (
+      arith,
+      c .over-thai .ensures .0 .inside,
+      c .over-thai .ensures .1,
+      c .before .if1 .left,
+      c4 .loop-test .taken,
+    )
 
 loop-again : tie.Need-loop-again Inv-loop μ-loop
-loop-again c = read-more _ (c .before .before .before .before .loop .inv) (c .before .next-size .ensures) (omega (arith, c .if1 .left))
+loop-again c = c .over-thai .ensures .0
 
 returns-2 : tie.Need-returns-2 Inv-loop μ-loop
 returns-2 c = read-done (c .before .loop .inv) (c .loop-test .left)
@@ -54,8 +71,9 @@ count-by-table-spec =
     loop-holds
     next-size-requires
     returns
-    add-at
-    add-n
+    add-over-thai
+    add-over-thai-2
+    over-thai-requires
     loop-less
     loop-again
     returns-2)

@@ -1,5 +1,6 @@
 -- Assumes nothing.
-use Rattle.utf8_sequences.proofs.Pieces.{is-e0, room-e0}
+use native.Mathlib.Omega.{arith}
+use Rattle.utf8_sequences.proofs.Pieces.{room-e0, after-e0, is-e0}
 use borrow.Author.Needs.{needs}
 use Rattle.utf8_sequences.proofs.piece_of_e0.Statement.{statement}
 use Rattle.utf8_sequences.proofs.piece_of_e0.Tie as tie
@@ -30,11 +31,29 @@ shared-slice-read-wide-2 c =
 wide-requires-2 : tie.Need-wide-requires-2
 wide-requires-2 c κs = search needs
 
-mul-t5 : tie.Need-mul-t5
-mul-t5 c = search needs
+mul-t9 : tie.Need-mul-t9
+mul-t9 c =
+    let c2 = c .before .before in
+    let c5 = c2 .before .before .before in
+    let w = after-e0 (c5 .args .s .now) (c5 .args .at) (c5 .pre .0) (c5 .pre .1) _ (c2 .wide .ensures) _
+    (c .wide2 .ensures) in
+    omega (arith, w .most)
 
 add-t10 : tie.Need-add-t10
-add-t10 c = search needs
+add-t10 c =
+    let c2 = c .before .before in
+    let c5 = c2 .before .before .before in
+    let w = after-e0 (c5 .args .s .now) (c5 .args .at) (c5 .pre .0) (c5 .pre .1) _ (c2 .wide .ensures) _
+    (c .wide2 .ensures) in
+    omega (arith, w .most, w .most′)
+
+sub-t11 : tie.Need-sub-t11
+sub-t11 c =
+    let c2 = c .before .before in
+    let c5 = c2 .before .before .before in
+    let w = after-e0 (c5 .args .s .now) (c5 .args .at) (c5 .pre .0) (c5 .pre .1) _ (c2 .wide .ensures) _
+    (c .wide2 .ensures) in
+    omega (arith, w .least, w .least′)
 
 returns : tie.Need-returns
 returns c =
@@ -52,6 +71,7 @@ piece-of-e0-spec =
     add-wide-2
     shared-slice-read-wide-2
     wide-requires-2
-    mul-t5
+    mul-t9
     add-t10
+    sub-t11
     returns)
