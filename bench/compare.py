@@ -15,10 +15,6 @@ WORK = os.path.join(measure.WORK, "compare")
 DRIVERS = os.path.join(measure.ROOT, "bench", "drivers")
 HEADER = os.path.join(measure.ROOT, "host", "include")
 
-# words, and how many of them are taken out and put in again
-WORDS = {"small": 100, "all": 10}
-
-
 def build(side, folder):
     """The driver over the archives of a folder."""
     program = os.path.join(WORK, side)
@@ -40,15 +36,6 @@ def load(program, words):
     return pool
 
 
-def edits(words):
-    """A file with some of the words, taken evenly."""
-    path = os.path.join(WORK, words + ".lines")
-    held = open(measure.inputs(words + ".words.lines"), encoding="utf-8").read().splitlines()
-    with open(path, "w", encoding="utf-8") as file:
-        file.writelines(word + "\n" for word in held[len(held) // WORDS[words] // 2 :: len(held) // WORDS[words]][: WORDS[words]])
-    return path
-
-
 def instructions(program, op, texts, pool, counted="bench_pass"):
     """Those of one pass, within the function that is counted."""
     tool = ["valgrind", "--tool=callgrind", "--toggle-collect=" + counted, "--callgrind-out-file=/dev/null"]
@@ -59,7 +46,7 @@ def instructions(program, op, texts, pool, counted="bench_pass"):
 
 def rows(program, words):
     """What is measured, in order, with the instructions of one call."""
-    pool, long, some = load(program, words), measure.inputs(measure.LONG), edits(words)
+    pool, long, some = load(program, words), measure.inputs(measure.LONG), measure.inputs(measure.edits(words))
     check = instructions(program, "check", long, pool)
     yield "check of the pool", check
     places = [instructions(program, "places", texts, pool) for texts in (long, os.devnull)]
@@ -67,7 +54,7 @@ def rows(program, words):
     for mode in "plain", "safe":
         yield "%s cut of the long text" % mode, instructions(program, mode, long, pool)
     for name in "add", "remove":
-        each = instructions(program, "edit", some, pool, "fetlockice_" + name) // WORDS[words]
+        each = instructions(program, "edit", some, pool, "fetlockice_" + name) // measure.EDITED[words]
         yield name, each
         yield name + " without the check", each - check
 
@@ -77,7 +64,7 @@ def main():
     os.makedirs(WORK, exist_ok=True)
     programs = {side: build(side, folder) for side, folder in folders.items()}
     print("| Words | Row | before | now | now / before |\n|---|---|--:|--:|--:|")
-    for words in WORDS:
+    for words in measure.EDITED:
         before, now = (list(rows(programs[side], words)) for side in ("before", "now"))
         for (name, old), (_, new) in zip(before, now):
             print("| %s | %s | %d | %d | %.3f |" % (words, name, old, new, new / old), flush=True)

@@ -51,8 +51,10 @@ ROWS = (
 )
 # words that are loaded by an image
 IMAGES = ("small", "some", "all")
-# how many times the nodes it uses a roomy pool is lent with
+# how many times the nodes it uses a roomy pool is lent with; a double one has room for the words of two plants
 ROOM = 8
+# words, and how many of them are taken out and put in again
+EDITED = {"small": 100, "all": 10}
 # what the other sides do text by text
 ONE_BY_ONE = {"batch": "plain"}
 OTHERS = [("libthai", "plain"), ("icu", "plain"), ("icu", "decode")]
@@ -132,8 +134,19 @@ def make_roomy():
     """The same pools lent with more nodes, which are 0."""
     for words in ("small", "all"):
         pool = open(os.path.join(WORK, words + ".pool"), "rb").read()
-        with open(os.path.join(WORK, words + "-roomy.pool"), "wb") as file:
-            file.write(pool + bytes((ROOM - 1) * len(pool)))
+        for name, more in ("roomy", (ROOM - 1) * len(pool)), ("double", len(pool) - 32):
+            with open(os.path.join(WORK, "%s-%s.pool" % (words, name)), "wb") as file:
+                file.write(pool + bytes(more))
+
+
+def edits(words):
+    """The name of a file with some of the words, taken evenly."""
+    name = "edits-%s.lines" % words
+    held = open(inputs(words + ".words.lines"), encoding="utf-8").read().splitlines()
+    step = len(held) // EDITED[words]
+    with open(inputs(name), "w", encoding="utf-8") as file:
+        file.writelines(word + "\n" for word in held[step // 2 :: step][: EDITED[words]])
+    return name
 
 
 def limit_memory():
@@ -180,6 +193,11 @@ def measure_rows():
     wanted += [("ours", ("sheet", texts, words)) for words in ("small", "all") for texts in (LINES, LONG)]
     wanted += [("ours", (op, LONG, words)) for words in ("small", "all") for op in ("cut", "reasons", "feed", "claim", "map", "next", "next-bare")]
     wanted += [("ours", (op, LONG, words)) for words in IMAGES for op in ("read-image", "write-image")]
+    wanted += [("ours", ("plant-check", LONG, words)) for words in lent]
+    for words in ("small", "all"):
+        double, some = words + "-double", edits(words)
+        wanted += [("ours", (op, LONG, double)) for op in ("check", "cut", "plant-check", "plant-cut")]
+        wanted += [("ours", (op, some, double)) for op in ("check", "edit", "plant-check", "plant-edit")]
     if os.path.exists(DRIVERS["before"]):
         wanted += [("before", (op, LONG, "all")) for op in ("places", "check")]
     times = rounds(wanted)

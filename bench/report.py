@@ -353,6 +353,43 @@ AGAINST = (
 )
 
 
+# How a pool of two plants is lent, by the name of its plain pool: what is said of it.
+PLANTS = {"": "all of them one plant's", "-double": "in both plants", "-roomy": "in both plants, with %d times the nodes" % ROOM}
+
+
+def plant_edits(r, words):
+    """A word of a plant taken out and put in again over a plain one, without the two checks: by time and by instructions."""
+    found = []
+    for of in (r.time, r.count):
+        plain, plant = (of("ours", edit, "edits-%s.lines" % words, words + "-double") - 2 * of("ours", check, "edits-%s.lines" % words, words + "-double")
+                        for edit, check in (("edit", "check"), ("plant-edit", "plant-check")))
+        found.append(plant / plain)
+    return found
+
+
+def plant_cuts(r, words):
+    """The plain cut of a plant over the plain one, each without its check."""
+    double = words + "-double"
+    return [(of("ours", "plant-cut", LONG, double) - of("ours", "plant-check", LONG, double)) / (of("ours", "cut", LONG, double) - of("ours", "check", LONG, double))
+            for of in (r.time, r.count)]
+
+
+def plant_checks(r, words):
+    """The check of a pool of two plants over that of a plain one with as many cells."""
+    return [of("ours", "plant-check", LONG, words) / of("ours", "check", LONG, words) for of in (r.time, r.count)]
+
+
+def plants(r):
+    """Calls of a plant over plain ones on a pool with as many cells."""
+    rows = []
+    for words in ("small", "all"):
+        for kind, said in PLANTS.items():
+            rows.append(["check, %s words, %s" % (r.words(words), said)] + ["%.2f" % x for x in plant_checks(r, words + kind)])
+        rows.append(["plain cut without the check, %s words" % r.words(words)] + ["%.2f" % x for x in plant_cuts(r, words)])
+        rows.append(["a word taken out and put in again, without the checks, %s words" % r.words(words)] + ["%.2f" % x for x in plant_edits(r, words)])
+    return table(["of a plant, over the plain call", "by time", "by instr."], rows)
+
+
 def limits(r):
     """Each target that is an upper end, as `targets` has them, and what it holds for, where that isn't the time alone."""
 
@@ -392,6 +429,12 @@ def limits(r):
     for words in ("all", "small"):
         ratios = [of("ours", "batch", LINES, words) / of("ours", "plain", JOINED, words) for of in (r.time, r.count)]
         yield row("lines in one call against one text of the same characters, by instructions, %s words" % r.words(words), 1.3, ratios, COUNTED)
+    for words in ("all", "small"):
+        for kind, said in PLANTS.items():
+            name = "the check of a plants' pool against that of a plain one with as many cells, %s words, %s" % (r.words(words), said)
+            yield row(name, 2.2, plant_checks(r, words + kind))
+        yield row("a plant's cut against the plain cut, the check left out, %s words" % r.words(words), 1.05, plant_cuts(r, words))
+        yield row("a plant's word taken out and put in again against a plain one, the checks left out, %s words" % r.words(words), 1.1, plant_edits(r, words))
     ratios = [of("ours", "read-image", LONG, "all") / r.images["all"] / (of("ours", "read-image", LONG, "some") / r.images["some"]) for of in (r.time, r.count)]
     yield row("reading an image, a byte of %s words against %s" % (r.words("all"), r.words("some")), 1.3, ratios)
 
@@ -432,6 +475,7 @@ def sections(r):
     yield "## Maps of breaks", ["Of the long text. A next break is a call from each break to the one behind it.", "", *maps(r)]
     how = "Ours adds the words one by one, or reads them as an image. The pool is as long as its nodes need."
     yield "## Loading and memory", [how, "", *memory(r), "", *images(r)]
+    yield "## Two plants in one pool", plants(r)
     yield "## Growth", ["![cost a character against the text's length](cost.svg)", "", *growth(r)]
 
 

@@ -26,6 +26,12 @@ size_t search_places(const uint32_t *pool, size_t pool_len, const uint32_t *text
 #pragma weak fetlockice_next_break
 #pragma weak fetlockice_read_image
 #pragma weak fetlockice_write_image
+#pragma weak fetlockice_plants_start
+#pragma weak fetlockice_plant_add
+#pragma weak fetlockice_plant_remove
+#pragma weak fetlockice_plant_contains
+#pragma weak fetlockice_plant_cut_plain
+#pragma weak fetlockice_plant_read_image
 
 enum op {
     DECODE,
@@ -48,19 +54,25 @@ enum op {
     EDIT,
     READ_IMAGE,
     WRITE_IMAGE,
+    PLANT_CUT,
+    PLANT_CHECK,
+    PLANT_EDIT,
     READ,
     READ_WIDE
 };
 static const char *const names[] = {"decode",     "clusters",    "winners", "prefix",    "places",  "plain",
                                     "safe",       "sheet",       "batch",   "cut",       "reasons", "feed",
                                     "claim",      "map",         "next",    "next-bare", "check",   "edit",
-                                    "read-image", "write-image", "read",    "read-wide"};
+                                    "read-image", "write-image", "plant-cut", "plant-check", "plant-edit", "read",
+                                    "read-wide"};
 
 static enum op op;
 static uint32_t *pool, *out, *won, *scratch, *cells, *positions, *text_ends, *told, **scalars, **ends;
 static uint64_t **maps;
 static uint8_t *image;
 static size_t pool_len, image_len, scratch_len, *lengths, *end_counts;
+static uint32_t *shared; /* a pool of two plants, as long as the pool */
+static bool plant_b;
 static volatile uint32_t kept;
 
 static void accepted(uint32_t answer) {
@@ -198,6 +210,28 @@ static size_t write_image(void) {
     return count;
 }
 
+/* The same of a plant in a pool of two. */
+static size_t plant_cut(size_t i) {
+    size_t n = lengths[i], count, edges, detail;
+    accepted(fetlockice_plant_cut_plain(scalars[i], n, shared, pool_len, plant_b, out, n, scratch, FETLOCKICE_SCRATCH_CELLS(n),
+                                        &count, &edges, &detail));
+    return count;
+}
+
+static size_t plant_check(void) {
+    size_t count, word_class, detail;
+    accepted(fetlockice_plant_contains(shared, pool_len, plant_b, cells, 0, &count, &word_class, &detail));
+    return count;
+}
+
+static size_t plant_edit(size_t i) {
+    size_t count, detail;
+    accepted(fetlockice_plant_remove(shared, pool_len, plant_b, scalars[i], lengths[i], &count, &detail));
+    if (count != 1) die("a plant did not hold a word");
+    accepted(fetlockice_plant_add(shared, pool_len, plant_b, scalars[i], lengths[i], 0, &count, &detail));
+    return count;
+}
+
 __attribute__((noinline, optimize("O2", "no-tree-vectorize"))) static uint32_t read_cells(void) {
     uint32_t sum = 0;
     for (size_t i = 0; i < pool_len; i++) sum += pool[i];
@@ -237,6 +271,9 @@ static size_t answer(size_t i) {
     case EDIT: return edit(i);
     case READ_IMAGE: return read_image();
     case WRITE_IMAGE: return write_image();
+    case PLANT_CUT: return plant_cut(i);
+    case PLANT_CHECK: return plant_check();
+    case PLANT_EDIT: return plant_edit(i);
     case READ: return read_cells();
     case READ_WIDE: return read_wide();
     }
@@ -355,6 +392,18 @@ static void prepare_image(void) {
     free(before);
 }
 
+/* A pool of two plants with as many cells. Both have the pool's words where there is room for that, and plant B is asked;
+ * else plant A has them, and plant B none. */
+static void prepare_plants(void) {
+    size_t count, detail, nodes = pool_len / FETLOCKICE_NODE_CELLS, limit = pool[0] - 1;
+    plant_b = 2 * limit < nodes;
+    shared = room(4 * pool_len);
+    accepted(fetlockice_plants_start(shared, pool_len, plant_b ? (nodes - 1) / 2 : limit, plant_b ? nodes - 1 - (nodes - 1) / 2 : 0,
+                                     &count, &detail));
+    accepted(fetlockice_plant_read_image(shared, pool_len, false, image, image_len, &count, &detail));
+    if (plant_b) accepted(fetlockice_plant_read_image(shared, pool_len, true, image, image_len, &count, &detail));
+}
+
 int main(int argc, char **argv) {
     if ((argc == 5 || argc == 6) && !strcmp(argv[1], "load")) {
         load(argv[2], strtoul(argv[3], NULL, 10), argv[4], argv[5]);
@@ -366,7 +415,8 @@ int main(int argc, char **argv) {
     prepare(argv[3]);
     if (argc > 4) pool = (uint32_t *)read_file(argv[4], &pool_len), pool_len /= 4;
     if (op >= CLAIM && op <= NEXT_BARE) prepare_ends();
-    if (op == READ_IMAGE || op == WRITE_IMAGE) prepare_image();
+    if (op >= READ_IMAGE && op <= PLANT_EDIT) prepare_image();
+    if (op >= PLANT_CUT && op <= PLANT_EDIT) prepare_plants();
     if (!strcmp(argv[1], "size")) return printf("%zu\n", image_len), 0;
     if (!strcmp(argv[1], "answers")) answers();
     else if (!strcmp(argv[1], "time")) printf("%.1f\n", best_ns());

@@ -17,6 +17,11 @@
         size_t *detail
 #define MANY_WITH texts, n, text_ends, text_count, pool, cells, answers, told, out, room, scratch, len, count, detail
 
+#define PLANT_CUT                                                                                                      \
+    const uint32_t *text, size_t n, const uint32_t *pool, size_t cells, bool plant_b, uint32_t *out, size_t room,      \
+        uint32_t *scratch, size_t len, size_t *count, size_t *edges, size_t *detail
+#define PLANT_CUT_OF(plant) text, n, pool, cells, plant, out, room, scratch, len, count, edges, detail
+
 uint32_t __real_fetlockice_decode(const uint8_t *, size_t, uint32_t *, size_t, uint32_t *, size_t, size_t *, size_t *);
 uint32_t __real_fetlockice_end_in_bytes(const uint32_t *, size_t, size_t, size_t, size_t *, size_t *);
 uint32_t __real_fetlockice_clusters(const uint32_t *, size_t, uint32_t *, size_t, size_t *, size_t *);
@@ -52,6 +57,22 @@ uint32_t __real_fetlockice_cut_many_sheet(MANY);
 uint32_t __real_fetlockice_break_map(size_t, const uint32_t *, size_t, uint64_t *, size_t, size_t *, size_t *);
 uint32_t __real_fetlockice_breaks_up_to(size_t, const uint64_t *, size_t, size_t, size_t *, size_t *);
 uint32_t __real_fetlockice_next_break(size_t, const uint64_t *, size_t, size_t, size_t *, size_t *, size_t *);
+uint32_t __real_fetlockice_plants_start(uint32_t *, size_t, size_t, size_t, size_t *, size_t *);
+uint32_t __real_fetlockice_plant_add(uint32_t *, size_t, bool, const uint32_t *, size_t, uint16_t, size_t *, size_t *);
+uint32_t __real_fetlockice_plant_remove(uint32_t *, size_t, bool, const uint32_t *, size_t, size_t *, size_t *);
+uint32_t __real_fetlockice_plant_contains(const uint32_t *, size_t, bool, const uint32_t *, size_t, size_t *, size_t *,
+                                          size_t *);
+uint32_t __real_fetlockice_plant_prefix_lengths(const uint32_t *, size_t, bool, const uint32_t *, size_t, uint32_t *,
+                                                size_t, size_t *, size_t *);
+uint32_t __real_fetlockice_plant_word_count(const uint32_t *, size_t, bool, size_t *, size_t *);
+uint32_t __real_fetlockice_plant_cut_plain(PLANT_CUT);
+uint32_t __real_fetlockice_plant_cut_safe(PLANT_CUT);
+uint32_t __real_fetlockice_plant_cut_sheet(PLANT_CUT);
+uint32_t __real_fetlockice_plant_reasons_plain(PLANT_CUT);
+uint32_t __real_fetlockice_plant_reasons_safe(PLANT_CUT);
+uint32_t __real_fetlockice_plant_reasons_sheet(PLANT_CUT);
+uint32_t __real_fetlockice_plant_read_image(uint32_t *, size_t, bool, const uint8_t *, size_t, size_t *, size_t *);
+uint32_t __real_fetlockice_plant_write_image(const uint32_t *, size_t, bool, uint8_t *, size_t, size_t *, size_t *);
 
 /* 1: the detail of a refusal is one too high; 40: the position of the end is left out; 41: the position row is looked at
  * first; 42: a position row that is too short is written as far as it goes */
@@ -371,5 +392,144 @@ uint32_t __wrap_fetlockice_write_image(const uint32_t *pool, size_t cells, uint8
     }
     if (FAULT == 69 && number == FETLOCKICE_OUTPUT_TOO_SHORT) *detail -= 10;
     if (FAULT == 70 && number == 0 && *count < room) out[*count] ^= 1;
+    return number;
+}
+
+/* 71: limits that sum to the pool's nodes are taken; 72: limits are looked at before the cells; 73: a refused start ends
+ * what was there; 74: limits whose sum wraps are taken for their sum */
+uint32_t __wrap_fetlockice_plants_start(uint32_t *pool, size_t cells, size_t limit_a, size_t limit_b, size_t *count,
+                                        size_t *detail) {
+    uint32_t number = __real_fetlockice_plants_start(pool, cells, limit_a, limit_b, count, detail);
+    size_t nodes = cells / 8;
+    if (FAULT == 71 && number == FETLOCKICE_LIMITS_TOO_LARGE && limit_a <= nodes && limit_b == nodes - limit_a &&
+        limit_a > 0) {
+        number = __real_fetlockice_plants_start(pool, cells, limit_a - 1, limit_b, count, detail);
+        pool[3] += 1;
+    }
+    if (FAULT == 72 && number == FETLOCKICE_TOO_FEW_NODES && limit_a > 0)
+        return *detail = 0, FETLOCKICE_LIMITS_TOO_LARGE;
+    if (FAULT == 73 && number == FETLOCKICE_LIMITS_TOO_LARGE) {
+        size_t none, nothing;
+        __real_fetlockice_fresh(pool, cells, &none, &nothing);
+    }
+    if (FAULT == 74 && number == FETLOCKICE_LIMITS_TOO_LARGE && limit_a + limit_b < limit_a)
+        return __real_fetlockice_plants_start(pool, cells, 0, limit_a + limit_b, count, detail);
+    return number;
+}
+
+/* 75: 8 looks at the pool's nodes; 76: 8 counts the root; 77: the other plant gets the word, too; 78: a class has eight
+ * bits; 79: a held word is refused at the limit */
+uint32_t __wrap_fetlockice_plant_add(uint32_t *pool, size_t cells, bool plant_b, const uint32_t *word, size_t n,
+                                     uint16_t word_class, size_t *count, size_t *detail) {
+    uint16_t given = FAULT == 78 ? word_class & 0xFF : word_class;
+    size_t none, nothing, at = plant_b ? 4 : 0, held = 0;
+    if (FAULT == 79) __real_fetlockice_plant_contains(pool, cells, plant_b, word, n, &held, &none, &nothing);
+    if (held == 1 && pool[at] == pool[at + 3]) return *count = 0, *detail = 1, FETLOCKICE_TOO_FEW_NODES;
+    uint32_t number = __real_fetlockice_plant_add(pool, cells, plant_b, word, n, given, count, detail);
+    if (FAULT == 75 && number == FETLOCKICE_TOO_FEW_NODES && pool[at] + n < cells / 8) {
+        uint32_t room = pool[at + 3], other = pool[4 - at + 3];
+        pool[at + 3] = room + (uint32_t)*detail, pool[4 - at + 3] = pool[4 - at];
+        uint32_t again = __real_fetlockice_plant_add(pool, cells, plant_b, word, n, given, &none, &nothing);
+        pool[at + 3] = room, pool[4 - at + 3] = other;
+        if (again == 0) return *count = none, *detail = 0;
+    }
+    if (FAULT == 76 && number == FETLOCKICE_TOO_FEW_NODES) *detail += 1;
+    if (FAULT == 77 && number == 0) __real_fetlockice_plant_add(pool, cells, !plant_b, word, n, given, &none, &nothing);
+    return number;
+}
+
+/* 80: a word that the plant doesn't hold is removed from the other; 81: a cell behind the last whole node is written */
+uint32_t __wrap_fetlockice_plant_remove(uint32_t *pool, size_t cells, bool plant_b, const uint32_t *word, size_t n,
+                                        size_t *count, size_t *detail) {
+    uint32_t number = __real_fetlockice_plant_remove(pool, cells, plant_b, word, n, count, detail);
+    if (FAULT == 80 && number == 0 && *count == 0)
+        return __real_fetlockice_plant_remove(pool, cells, !plant_b, word, n, count, detail);
+    if (FAULT == 81 && number == 0 && cells % 8 != 0) pool[cells - 1] ^= 1;
+    return number;
+}
+
+/* 82: the other plant's class is told where the word is in both; 83: a word of either plant is held */
+uint32_t __wrap_fetlockice_plant_contains(const uint32_t *pool, size_t cells, bool plant_b, const uint32_t *word,
+                                          size_t n, size_t *count, size_t *word_class, size_t *detail) {
+    size_t held = 0, other = 0, nothing;
+    if (FAULT == 82 || FAULT == 83)
+        __real_fetlockice_plant_contains(pool, cells, !plant_b, word, n, &held, &other, &nothing);
+    uint32_t number = __real_fetlockice_plant_contains(pool, cells, plant_b, word, n, count, word_class, detail);
+    if (FAULT == 82 && number == 0 && *count == 1 && held == 1) *word_class = other;
+    if (FAULT == 83 && number == 0 && *count == 0) *count = held, *word_class = other;
+    return number;
+}
+
+/* 84: the words of the other plant */
+uint32_t __wrap_fetlockice_plant_prefix_lengths(const uint32_t *pool, size_t cells, bool plant_b, const uint32_t *text,
+                                                size_t n, uint32_t *out, size_t room, size_t *count, size_t *detail) {
+    return __real_fetlockice_plant_prefix_lengths(pool, cells, FAULT == 84 ? !plant_b : plant_b, text, n, out, room,
+                                                  count, detail);
+}
+
+/* 85: the words of both; 86: a plain pool has the words of plant A */
+uint32_t __wrap_fetlockice_plant_word_count(const uint32_t *pool, size_t cells, bool plant_b, size_t *count,
+                                            size_t *detail) {
+    size_t other = 0, nothing;
+    if (FAULT == 85) __real_fetlockice_plant_word_count(pool, cells, !plant_b, &other, &nothing);
+    uint32_t number = __real_fetlockice_plant_word_count(pool, cells, plant_b, count, detail);
+    if (FAULT == 85 && number == 0) *count += other;
+    if (FAULT == 86 && number != 0 && !plant_b) return __real_fetlockice_word_count(pool, cells, count, detail);
+    return number;
+}
+
+/* 87: by the words of the other plant */
+uint32_t __wrap_fetlockice_plant_cut_plain(PLANT_CUT) {
+    return __real_fetlockice_plant_cut_plain(PLANT_CUT_OF(FAULT == 87 ? !plant_b : plant_b));
+}
+
+/* 88: a plain pool is cut by; 89: scratch is cleared before 4 is given */
+uint32_t __wrap_fetlockice_plant_cut_safe(PLANT_CUT) {
+    uint32_t number = __real_fetlockice_plant_cut_safe(PLANT_CUT_OF(plant_b));
+    if (FAULT == 88 && number == FETLOCKICE_NOT_A_DICTIONARY) return __real_fetlockice_cut_safe(CUT_WITH);
+    if (FAULT == 89 && number == FETLOCKICE_NOT_A_DICTIONARY && len > 0) scratch[0] = 0;
+    return number;
+}
+
+/* 90: the profile "sheet" is safe mode */
+uint32_t __wrap_fetlockice_plant_cut_sheet(PLANT_CUT) {
+    if (FAULT == 90) return __real_fetlockice_plant_cut_safe(PLANT_CUT_OF(plant_b));
+    return __real_fetlockice_plant_cut_sheet(PLANT_CUT_OF(plant_b));
+}
+
+/* 91: by the words of the other plant */
+uint32_t __wrap_fetlockice_plant_reasons_plain(PLANT_CUT) {
+    return __real_fetlockice_plant_reasons_plain(PLANT_CUT_OF(FAULT == 91 ? !plant_b : plant_b));
+}
+
+/* 92: refusal 6 counts cells */
+uint32_t __wrap_fetlockice_plant_reasons_safe(PLANT_CUT) {
+    uint32_t number = __real_fetlockice_plant_reasons_safe(PLANT_CUT_OF(plant_b));
+    if (FAULT == 92 && number == FETLOCKICE_OUTPUT_TOO_SHORT) *detail *= 2;
+    return number;
+}
+
+/* 93: the profile "sheet" is safe mode */
+uint32_t __wrap_fetlockice_plant_reasons_sheet(PLANT_CUT) {
+    if (FAULT == 93) return __real_fetlockice_plant_reasons_safe(PLANT_CUT_OF(plant_b));
+    return __real_fetlockice_plant_reasons_sheet(PLANT_CUT_OF(plant_b));
+}
+
+/* 94: the other plant's words are replaced; 95: 8 counts the root; 96: the plant's limit is what it needs then */
+uint32_t __wrap_fetlockice_plant_read_image(uint32_t *pool, size_t cells, bool plant_b, const uint8_t *image,
+                                            size_t size, size_t *count, size_t *detail) {
+    bool given = FAULT == 94 ? !plant_b : plant_b;
+    uint32_t number = __real_fetlockice_plant_read_image(pool, cells, given, image, size, count, detail);
+    if (FAULT == 95 && number == FETLOCKICE_TOO_FEW_NODES) *detail += 1;
+    if (FAULT == 96 && number == 0) pool[plant_b ? 7 : 3] = pool[plant_b ? 4 : 0];
+    return number;
+}
+
+/* 97: the image of the other plant; 98: a byte behind the image is written */
+uint32_t __wrap_fetlockice_plant_write_image(const uint32_t *pool, size_t cells, bool plant_b, uint8_t *out,
+                                             size_t room, size_t *count, size_t *detail) {
+    bool given = FAULT == 97 ? !plant_b : plant_b;
+    uint32_t number = __real_fetlockice_plant_write_image(pool, cells, given, out, room, count, detail);
+    if (FAULT == 98 && number == 0 && *count < room) out[*count] ^= 1;
     return number;
 }

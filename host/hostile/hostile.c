@@ -9,6 +9,7 @@
 #include "maps.h"
 #include "model.h"
 #include "parts.h"
+#include "plants.h"
 #include "reasons.h"
 #include "rows.h"
 #include <signal.h>
@@ -302,16 +303,20 @@ int main(int argc, char **argv) {
         struct answer a = call_twice(&fresh);
         memcpy(living[i].cells, a.pool, 4 * living[i].length);
     }
+    start_plants();
     while (calls < most) {
         alarm(300);
         for (size_t k = 0; k < 100 && calls < most; k++) {
-            size_t which = below(OPS + 7);
+            size_t which = below(OPS + 13);
             if (which < OPS)
                 step();
             else if (which == OPS)
                 many_step();
             else
-                which < OPS + 3 ? map_step() : which < OPS + 5 ? figure_step() : image_step();
+                which < OPS + 3   ? map_step()
+                : which < OPS + 5 ? figure_step()
+                : which < OPS + 7 ? image_step()
+                                  : plant_step();
         }
     }
     printf("hostile: calls of each function:");
@@ -324,7 +329,9 @@ int main(int argc, char **argv) {
     for (size_t i = 0; i < FIGURE_OPS; i++) printf(" %lu", figure_calls[i]);
     printf(", %lu of them full, of images:", figures_full);
     for (size_t i = 0; i < IMAGE_OPS; i++) printf(" %lu", image_calls[i]);
-    printf(", %lu of them refused", image_refused);
+    printf(", %lu of them refused, of plants:", image_refused);
+    for (size_t i = 0; i < PLANT_OPS; i++) printf(" %lu", plant_calls[i]);
+    printf(", %lu of them refused", plants_refused);
     printf("\nhostile: answers 0 to 8:");
     for (size_t i = 0; i < 9; i++) printf(" %lu", answers[i]);
     printf("\nhostile: %lu calls, no error\n", calls);

@@ -22,7 +22,7 @@
  *   1. A row is a pointer and, straight behind it, its length in elements: bytes for const uint8_t *, cells for
  *      uint32_t * and uint64_t *. That many are there, and may be read, and written where the row isn't const. Figures
  *      have no length behind them: they are FETLOCKICE_FIGURES cells. Const rows, figures and the pools of add, remove
- *      and read_image hold values; outputs, scratch and the pool of fresh may hold anything.
+ *      and read_image hold values; outputs, scratch and the pools of fresh and plants_start may hold anything.
  *   2. No pointer is NULL, also where the length is 0. Rows of cells and size_t numbers are aligned as C aligns them.
  *   3. A row or number that a call may write overlaps no other row or number of that call. Two const rows may overlap.
  *   4. While a call runs, no other thread writes what it was lent, or reads what it may write. So calls on different
@@ -33,6 +33,7 @@
 #ifndef FETLOCKICE_H
 #define FETLOCKICE_H
 
+#include <stdbool.h>
 #include <stddef.h>
 #include <stdint.h>
 
@@ -48,11 +49,12 @@ extern "C" {
 #define FETLOCKICE_MAX_WORD 255
 
 /* A pool has eight cells to a node: a first half of four, in which the dictionary stands, and a second half of four
- * zeros. Nodes in use are the root and one for each distinct non-empty prefix of the words held; a dictionary's first
- * cell tells how many. Cells after the last whole node, and after this many nodes, are never read or written. A call on
- * a dictionary reads the rest of the pool, to see that it is a dictionary. To give a pool more nodes, lend it with cells
- * of 0 behind its last whole node. No word of a dictionary starts or ends with a trimmed character. A pool that was kept
- * from an earlier release, with such a word or in another layout, is refused with 4. */
+ * zeros; two plants that share a pool have a half each. Nodes in use are the root and one for each distinct non-empty
+ * prefix of the words held; a dictionary's first cell tells how many. Cells after the last whole node, and after this
+ * many nodes, are never read or written. A call on a dictionary reads the rest of the pool, to see that it is a
+ * dictionary. To give a pool more nodes, lend it with cells of 0 behind its last whole node. No word of a dictionary
+ * starts or ends with a trimmed character. A pool that was kept from an earlier release, with such a word or in another
+ * layout, is refused with 4. */
 #define FETLOCKICE_NODE_CELLS 8
 #define FETLOCKICE_MAX_NODES 1048576
 
@@ -75,7 +77,8 @@ extern "C" {
 #define FETLOCKICE_FIGURES 16
 
 /* What a call answers. The lowest number that applies to the call is given; a cut of many texts gives 10 before 6, the
- * reading of an image 9 before 8, and calls with release figures 13 before all others. */
+ * reading of an image 9 before 8, and calls with release figures 13 before all others. Calls of a plant tell 4 of a pool
+ * that two plants don't share, and 8 by the plant's limit. */
 enum fetlockice_answer {
     FETLOCKICE_ACCEPTED = 0,
     FETLOCKICE_ILL_FORMED = 1,        /* the bytes aren't well-formed UTF-8; length of the longest well-formed prefix */
@@ -90,6 +93,7 @@ enum fetlockice_answer {
     FETLOCKICE_BAD_IMAGE = 9,         /* an image isn't as it must be; the offset of its first wrong record */
     FETLOCKICE_WRONG_POSITION = 10,   /* a position is wrong; it, or its index where it is one of a list */
     FETLOCKICE_BIT_ABOVE_END = 11,    /* a map has a bit set above n in its last used cell; the lowest such position */
+    FETLOCKICE_LIMITS_TOO_LARGE = 12, /* the limits of two plants sum to more than the pool's nodes less one; 0 */
     FETLOCKICE_FIGURES_FULL = 13      /* a release figure would be too large; 0 */
 };
 
@@ -368,6 +372,86 @@ uint32_t fetlockice_breaks_up_to(size_t n, const uint64_t *map, size_t map_len, 
  * as for fetlockice_breaks_up_to. */
 uint32_t fetlockice_next_break(size_t n, const uint64_t *map, size_t map_len, size_t position, size_t *found,
                                size_t *at, size_t *detail);
+
+/* Two plants in one pool: plant A and plant B, each with words and classes of its own; a word may be in both. Each gets a
+ * limit in nodes at the start, and is charged one for each distinct non-empty prefix of its own words, whatever the
+ * other has. So nothing that one plant calls changes an answer, a count or a refusal of the other, as long as only calls
+ * of the two touch the pool. Its cells tell the words of both to whoever holds it.
+ *
+ * plant_b says whose words a call reads and changes: false is plant A, true plant B. Counts, details, refusals and lent
+ * memory are as in the call of the same name without plants, with two differences. Refusal 4: two plants don't share the
+ * pool. A call without plants refuses a pool of two plants with 4, too, but for fetlockice_fresh, which ends both. Refusal
+ * 8: the plant's charge would pass its limit; by how many. The pool's other nodes don't matter, nor does the other plant.
+ * Claims, many texts and figures are for pools without plants: an image carries a plant's words to one.
+ *
+ * A pool of two plants has plant A's words in the first halves of its nodes and plant B's in the second. Lent with fewer
+ * nodes than its limits and one, it is refused with 4; with more nodes, of zeros, it answers as before. */
+
+/* Makes the pool one of two plants without words, with these limits, whatever it held. *count: 0. Limits of 0 are right:
+ * such a plant holds no word. Refusals, in this order: 8, one node missing, for a pool under eight cells; 12, the limits
+ * sum to more than the pool's nodes less one. */
+uint32_t fetlockice_plants_start(uint32_t *pool, size_t pool_len, size_t limit_a, size_t limit_b, size_t *count,
+                                 size_t *detail);
+
+/* fetlockice_add_class for a plant. Refusals 2, 3, 4, 7, 8. */
+uint32_t fetlockice_plant_add(uint32_t *pool, size_t pool_len, bool plant_b, const uint32_t *word, size_t word_len,
+                              uint16_t word_class, size_t *count, size_t *detail);
+
+/* fetlockice_remove for a plant; its charge falls. Refusals 2, 3, 4, 7. */
+uint32_t fetlockice_plant_remove(uint32_t *pool, size_t pool_len, bool plant_b, const uint32_t *word, size_t word_len,
+                                 size_t *count, size_t *detail);
+
+/* fetlockice_contains_class for a plant. Refusals 2, 3, 4. */
+uint32_t fetlockice_plant_contains(const uint32_t *pool, size_t pool_len, bool plant_b, const uint32_t *word,
+                                   size_t word_len, size_t *count, size_t *word_class, size_t *detail);
+
+/* fetlockice_prefix_lengths for a plant. Refusals 2, 3, 4, 6. */
+uint32_t fetlockice_plant_prefix_lengths(const uint32_t *pool, size_t pool_len, bool plant_b, const uint32_t *text,
+                                         size_t text_len, uint32_t *out, size_t out_len, size_t *count,
+                                         size_t *detail);
+
+/* fetlockice_word_count for a plant. Refusal 4. */
+uint32_t fetlockice_plant_word_count(const uint32_t *pool, size_t pool_len, bool plant_b, size_t *count,
+                                     size_t *detail);
+
+/* fetlockice_cut_plain by the words of a plant. Refusals 2, 3, 4, 5, 6. */
+uint32_t fetlockice_plant_cut_plain(const uint32_t *text, size_t text_len, const uint32_t *pool, size_t pool_len,
+                                    bool plant_b, uint32_t *out, size_t out_len, uint32_t *scratch, size_t scratch_len,
+                                    size_t *count, size_t *edges, size_t *detail);
+
+/* The same in safe mode. */
+uint32_t fetlockice_plant_cut_safe(const uint32_t *text, size_t text_len, const uint32_t *pool, size_t pool_len,
+                                   bool plant_b, uint32_t *out, size_t out_len, uint32_t *scratch, size_t scratch_len,
+                                   size_t *count, size_t *edges, size_t *detail);
+
+/* The same by the profile "sheet". */
+uint32_t fetlockice_plant_cut_sheet(const uint32_t *text, size_t text_len, const uint32_t *pool, size_t pool_len,
+                                    bool plant_b, uint32_t *out, size_t out_len, uint32_t *scratch, size_t scratch_len,
+                                    size_t *count, size_t *edges, size_t *detail);
+
+/* fetlockice_reasons_plain by the words of a plant. Refusals 2, 3, 4, 5, 6; 6 counts tokens. */
+uint32_t fetlockice_plant_reasons_plain(const uint32_t *text, size_t text_len, const uint32_t *pool, size_t pool_len,
+                                        bool plant_b, uint32_t *pairs, size_t pairs_len, uint32_t *scratch,
+                                        size_t scratch_len, size_t *count, size_t *edges, size_t *detail);
+
+/* The same in safe mode. */
+uint32_t fetlockice_plant_reasons_safe(const uint32_t *text, size_t text_len, const uint32_t *pool, size_t pool_len,
+                                       bool plant_b, uint32_t *pairs, size_t pairs_len, uint32_t *scratch,
+                                       size_t scratch_len, size_t *count, size_t *edges, size_t *detail);
+
+/* The same by the profile "sheet". */
+uint32_t fetlockice_plant_reasons_sheet(const uint32_t *text, size_t text_len, const uint32_t *pool, size_t pool_len,
+                                        bool plant_b, uint32_t *pairs, size_t pairs_len, uint32_t *scratch,
+                                        size_t scratch_len, size_t *count, size_t *edges, size_t *detail);
+
+/* fetlockice_read_image for a plant. Refusals, in this order: 4, 9, 8. */
+uint32_t fetlockice_plant_read_image(uint32_t *pool, size_t pool_len, bool plant_b, const uint8_t *image,
+                                     size_t image_len, size_t *count, size_t *detail);
+
+/* fetlockice_write_image for a plant: equal words and classes have equal images, in either plant or in a pool without
+ * plants. Refusals 4, 6. */
+uint32_t fetlockice_plant_write_image(const uint32_t *pool, size_t pool_len, bool plant_b, uint8_t *out,
+                                      size_t out_len, size_t *count, size_t *detail);
 
 #ifdef __cplusplus
 }

@@ -16,14 +16,15 @@ static ucontext_t here, there;
 static void (*call)(void);
 
 static uint8_t bytes[4 * LONG], image[16 * CELLS];
-static uint32_t pool[CELLS], text[LONG + 1], word[1024], out[2 * LONG + 2], positions[LONG + 1], won[LONG + 1],
-    claim[LONG + 1];
+static uint32_t pool[CELLS], shared[CELLS], text[LONG + 1], word[1024], out[2 * LONG + 2], positions[LONG + 1],
+    won[LONG + 1], claim[LONG + 1];
 static uint32_t scratch[FETLOCKICE_SCRATCH_CELLS(LONG)];
 static uint32_t text_ends[TEXTS], answers[FETLOCKICE_ANSWER_CELLS * TEXTS];
 static uint64_t map[FETLOCKICE_MAP_CELLS(LONG)], figures[FETLOCKICE_FIGURES], batch[FETLOCKICE_FIGURES];
 static size_t map_len, position;
 static size_t bytes_len, pool_len, text_len, word_len, out_len, claim_len, scratch_len, answers_len;
-static size_t image_len, image_room;
+static size_t image_len, image_room, limit_a, limit_b;
+static bool plant_b;
 static size_t count, word_class, edges, detail;
 
 static void decode(void) { fetlockice_decode(bytes, bytes_len, out, out_len, positions, LONG + 1, &count, &detail); }
@@ -102,18 +103,139 @@ static void next(void) { fetlockice_next_break(text_len, map, map_len, position,
 static void read_image(void) { fetlockice_read_image(pool, pool_len, image, image_len, &count, &detail); }
 static void write_image(void) { fetlockice_write_image(pool, pool_len, image, image_room, &count, &detail); }
 
-static void (*const calls[])(void) = {
-    decode,       end_in_bytes,  clusters,   winners,   fresh,      add,          add_class,    drop,
-    contains,     class_of,      lengths,    words,     plain,      safe,         sheet,        reasons_plain,
-    reasons_safe, reasons_sheet, feed_plain, feed_safe, feed_sheet, feed_refused, join_figures, judge,
-    many_plain,   many_safe,     many_sheet, breaks,    up_to,      next,         read_image,   write_image};
-static const char *const names[] = {
-    "decode",         "end_in_bytes",  "clusters",       "winners",        "fresh",          "add",
-    "add_class",      "remove",        "contains",       "contains_class", "prefix_lengths", "word_count",
-    "cut_plain",      "cut_safe",      "cut_sheet",      "reasons_plain",  "reasons_safe",   "reasons_sheet",
-    "feed_plain",     "feed_safe",     "feed_sheet",     "feed_refused",   "join_figures",   "check_claim",
-    "cut_many_plain", "cut_many_safe", "cut_many_sheet", "break_map",      "breaks_up_to",   "next_break",
-    "read_image",     "write_image"};
+static void plants_start(void) { fetlockice_plants_start(shared, CELLS, limit_a, limit_b, &count, &detail); }
+static void plant_add(void) { fetlockice_plant_add(shared, CELLS, plant_b, word, word_len, 9, &count, &detail); }
+static void plant_remove(void) { fetlockice_plant_remove(shared, CELLS, plant_b, word, word_len, &count, &detail); }
+static void plant_contains(void) {
+    fetlockice_plant_contains(shared, CELLS, plant_b, word, word_len, &count, &word_class, &detail);
+}
+static void plant_lengths(void) {
+    fetlockice_plant_prefix_lengths(shared, CELLS, plant_b, text, text_len, out, out_len, &count, &detail);
+}
+static void plant_words(void) { fetlockice_plant_word_count(shared, CELLS, plant_b, &count, &detail); }
+static void plant_cut_plain(void) {
+    fetlockice_plant_cut_plain(text, text_len, shared, CELLS, plant_b, out, out_len, scratch, scratch_len, &count,
+                               &edges, &detail);
+}
+static void plant_cut_safe(void) {
+    fetlockice_plant_cut_safe(text, text_len, shared, CELLS, plant_b, out, out_len, scratch, scratch_len, &count,
+                              &edges, &detail);
+}
+static void plant_cut_sheet(void) {
+    fetlockice_plant_cut_sheet(text, text_len, shared, CELLS, plant_b, out, out_len, scratch, scratch_len, &count,
+                               &edges, &detail);
+}
+static void plant_reasons_plain(void) {
+    fetlockice_plant_reasons_plain(text, text_len, shared, CELLS, plant_b, out, 2 * out_len, scratch, scratch_len,
+                                   &count, &edges, &detail);
+}
+static void plant_reasons_safe(void) {
+    fetlockice_plant_reasons_safe(text, text_len, shared, CELLS, plant_b, out, 2 * out_len, scratch, scratch_len,
+                                  &count, &edges, &detail);
+}
+static void plant_reasons_sheet(void) {
+    fetlockice_plant_reasons_sheet(text, text_len, shared, CELLS, plant_b, out, 2 * out_len, scratch, scratch_len,
+                                   &count, &edges, &detail);
+}
+static void plant_read_image(void) {
+    fetlockice_plant_read_image(shared, CELLS, plant_b, image, image_len, &count, &detail);
+}
+static void plant_write_image(void) {
+    fetlockice_plant_write_image(shared, CELLS, plant_b, image, image_room, &count, &detail);
+}
+
+static void (*const calls[])(void) = {decode,
+                                      end_in_bytes,
+                                      clusters,
+                                      winners,
+                                      fresh,
+                                      add,
+                                      add_class,
+                                      drop,
+                                      contains,
+                                      class_of,
+                                      lengths,
+                                      words,
+                                      plain,
+                                      safe,
+                                      sheet,
+                                      reasons_plain,
+                                      reasons_safe,
+                                      reasons_sheet,
+                                      feed_plain,
+                                      feed_safe,
+                                      feed_sheet,
+                                      feed_refused,
+                                      join_figures,
+                                      judge,
+                                      many_plain,
+                                      many_safe,
+                                      many_sheet,
+                                      breaks,
+                                      up_to,
+                                      next,
+                                      read_image,
+                                      write_image,
+                                      plants_start,
+                                      plant_add,
+                                      plant_remove,
+                                      plant_contains,
+                                      plant_lengths,
+                                      plant_words,
+                                      plant_cut_plain,
+                                      plant_cut_safe,
+                                      plant_cut_sheet,
+                                      plant_reasons_plain,
+                                      plant_reasons_safe,
+                                      plant_reasons_sheet,
+                                      plant_read_image,
+                                      plant_write_image};
+static const char *const names[] = {"decode",
+                                    "end_in_bytes",
+                                    "clusters",
+                                    "winners",
+                                    "fresh",
+                                    "add",
+                                    "add_class",
+                                    "remove",
+                                    "contains",
+                                    "contains_class",
+                                    "prefix_lengths",
+                                    "word_count",
+                                    "cut_plain",
+                                    "cut_safe",
+                                    "cut_sheet",
+                                    "reasons_plain",
+                                    "reasons_safe",
+                                    "reasons_sheet",
+                                    "feed_plain",
+                                    "feed_safe",
+                                    "feed_sheet",
+                                    "feed_refused",
+                                    "join_figures",
+                                    "check_claim",
+                                    "cut_many_plain",
+                                    "cut_many_safe",
+                                    "cut_many_sheet",
+                                    "break_map",
+                                    "breaks_up_to",
+                                    "next_break",
+                                    "read_image",
+                                    "write_image",
+                                    "plants_start",
+                                    "plant_add",
+                                    "plant_remove",
+                                    "plant_contains",
+                                    "plant_prefix_lengths",
+                                    "plant_word_count",
+                                    "plant_cut_plain",
+                                    "plant_cut_safe",
+                                    "plant_cut_sheet",
+                                    "plant_reasons_plain",
+                                    "plant_reasons_safe",
+                                    "plant_reasons_sheet",
+                                    "plant_read_image",
+                                    "plant_write_image"};
 enum {
     DECODE,
     END_IN_BYTES,
@@ -147,6 +269,20 @@ enum {
     NEXT_BREAK,
     READ_IMAGE,
     WRITE_IMAGE,
+    PLANTS_START,
+    PLANT_ADD,
+    PLANT_REMOVE,
+    PLANT_CONTAINS,
+    PLANT_PREFIX_LENGTHS,
+    PLANT_WORD_COUNT,
+    PLANT_CUT_PLAIN,
+    PLANT_CUT_SAFE,
+    PLANT_CUT_SHEET,
+    PLANT_REASONS_PLAIN,
+    PLANT_REASONS_SAFE,
+    PLANT_REASONS_SHEET,
+    PLANT_READ_IMAGE,
+    PLANT_WRITE_IMAGE,
     ALL
 };
 
@@ -309,8 +445,31 @@ static void images(void) {
     make(READ_IMAGE);
 }
 
+/* Both plants with words as long as a word may be, each removed, written, read and cut by; and limits that don't fit. */
+static void plants(void) {
+    limit_a = CELLS / 8, limit_b = draw(2);
+    make(PLANTS_START);
+    limit_a = CELLS / 16, limit_b = CELLS / 16 - 1;
+    make(PLANTS_START);
+    for (int i = 0; i < 6; i++) {
+        plant_b = i % 2 == 1;
+        word_len = 255;
+        for (size_t k = 0; k < word_len; k++) word[k] = 0xE01 + (k < (size_t)(20 * i));
+        make(PLANT_ADD), make(PLANT_CONTAINS), make(PLANT_WORD_COUNT);
+        word[254] = 0xE06;
+        make(PLANT_ADD), make(PLANT_REMOVE);
+        image_room = sizeof image;
+        make(PLANT_WRITE_IMAGE);
+        image_len = count;
+        make(PLANT_READ_IMAGE);
+        for (int which = PLANT_PREFIX_LENGTHS; which <= PLANT_REASONS_SHEET; which++) make(which);
+    }
+    make(PLANT_REMOVE);
+}
+
 static void hostile_pool(void) {
     pool[draw(64)] = draw(3) ? draw(300) : draw(0xFFFFFFFF);
+    shared[draw(64)] = draw(3) ? draw(300) : draw(0xFFFFFFFF);
     for (int which = ADD; which < ALL; which++) make(which);
 }
 
@@ -323,6 +482,7 @@ int main(int argc, char **argv) {
         on_clusters();
         on_bytes();
         images();
+        plants();
         hostile_pool();
     }
     for (int which = 0; which < ALL; which++) {

@@ -140,11 +140,11 @@ module _ (mode : Mode) (text pool scratch : List ℕ) (room : ℕ) where
   abbrev took : Answer
   took = accepts mode text (meaning pool) (length scratch) room
 
-  module _ {after : List ℕ} {told′ : CutAnswer} (t : Tells text pool scratch room mode told′ after) where
+  module _ {after : List ℕ} {told′ : CutAnswer} (t : Tells text (meaning pool) scratch room mode told′ after) where
     took-k : (k e : ℕ) → told′ ≡ variants.Ends k e → (took ≡ Accepted k) × (edges ≡ e)
     took-k k e h = told-ends took edges k e (sym (t .0) ∙ h)
 
-    here : (k e : ℕ) → told′ ≡ variants.Ends k e → Came mode text pool scratch after room k
+    here : (k e : ℕ) → told′ ≡ variants.Ends k e → Came mode text (meaning pool) scratch after room k
     here k e h = came t (sym (ap endsTold h))
 
     reasons-here : (k e : ℕ) → told′ ≡ variants.Ends k e → reasonsIn (take k after) ≡ reasonsTold toks

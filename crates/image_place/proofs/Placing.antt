@@ -10,16 +10,18 @@ use borrow.Author.Tests.{lt-ltb, le-ltb, le-leb, lt-leb, ltb-true}
 use lib.Dec.{ltb, leb}
 use lib.ListN.{length, getD, take, drop, drop-of-length-le}
 use Rattle.utf8.specs.Decoding.{runAll, scalarsOf}
-use Rattle.trie_pool.specs.Cells.{scalarAt}
+use Rattle.trie_pool.specs.Cells.{scalarAt, used}
 use Rattle.trie_pool.specs.Words.{Word, termAt}
 use Rattle.trie_pool.specs.Meaning.{Terms, withTerm, noTerm}
-use Rattle.trie_pool.specs.inner.Sound.{Sound, Plain}
+use Rattle.trie_pool.specs.inner.Sound.{Sound}
 use Rattle.image_rules.specs.Records.{Term}
 use Rattle.image_rules.specs.Order.{below, common}
 use Rattle.image_rules.specs.Lists.{termsIn}
 use Rattle.image_rules.specs.Reading.{wordBytes, termOf, follows, isWord, isLast, Read, broken, list, onto, ended, read, readOf}
 use Rattle.image_rules.specs.inner.News.{new, newsFrom}
 use Rattle.trie_pool.proofs.Rules.{clash}
+use Rattle.trie_leaf.specs.inner.Planting.{Beside}
+use Rattle.trie_change.proofs.Sides.{no-change, both-change}
 use Rattle.image_rules.proofs.Order.{Parts, parts}
 use Rattle.image_rules.proofs.Lists.{Climbs, over, over-none, over-end, hand-over}
 use Rattle.image_rules.proofs.Readings.{no-list}
@@ -88,7 +90,6 @@ module _ {image p next w : List ℕ} {at : ℕ} (g : Going image p next w at) wh
           let size : g .s 256 ≡ n = sym (g .built .grown .in-use) ∙ scalar-is p 0 ∙ u in
           record {
             sound = subst (λ (k : ℕ). Sound p k 0) size (whole-sound p (g .s) (row next) (g .held) (g .built .grown) full);
-            plain = g .built .grown .plain;
             held = λ v.
                 whole-terms p (g .s) (row next) (g .held) (g .built .grown) full v ∙ sym (over-end (g .held) v) ∙ ap (λ (q : List Term). over (termsIn q v) (g .held v)) (sym e) ∙ g .all v
                 ∙ ap (λ (q : List Term). termsIn q v) same;
@@ -210,17 +211,22 @@ module _ {image p next w : List ℕ} {at : ℕ} (g : Going image p next w at) wh
           roomy d l (yes h) (yes k) = omega (arith, g .room d l, news d, new-high shared size d k, q .kept d (λ a b. omega (arith, long)))
           roomy d l (no h) k = omega (arith, g .room d l, news d, new-low shared size d (omega arith), q .kept d (λ a b. omega arith))
 
+      pub same-use : {mark : ℕ} {p′ next′ : List ℕ} → mark ≡ c + 1 → Put p next (take size prev) shared mark p′ next′ → used p′ ≡ used p
+      same-use {mark} {p′} {next′} m q = sym (scalar-is p′ 0) ∙ q .built (g .s) w (g .held) (fits m) .grown .in-use ∙ sym (g .built .grown .in-use) ∙ scalar-is p 0
+
 -- ---- the turns, as the code takes them
 
 pub record Turn (p₀ image p next prev row positions : List ℕ) (before at : ℕ) : Type 0 where
   pub size : length p ≡ length p₀
+  pub beside : Beside p₀ p
+  pub in-use : used p ≡ used p₀
   pub going : Going image p next (take before prev) at
   pub upto : before ≤ 255
   pub long : length prev ≡ 255
   pub rows : Rows row positions
 
 pub turn-none : {image p next prev row positions : List ℕ} → Opens image p next → Lent prev row positions → Turn p image p next prev row positions 0 0
-turn-none o l = record { size = refl; going = going-none o; upto = omega arith; long = l .words; rows = l .rows }
+turn-none {image} {p} o l = record { size = refl; beside = no-change p; in-use = refl; going = going-none o; upto = omega arith; long = l .words; rows = l .rows }
 
 module _ {p₀ image p next prev row positions : List ℕ} {before at : ℕ} (t : Turn p₀ image p next prev row positions before at) where
   pub all-placed : length image ≤ at → Placed image p
@@ -256,6 +262,8 @@ module _ {p₀ image p next prev row positions : List ℕ} {before at : ℕ} (t 
               → Turn p₀ image p′ next′ prev′ row′ positions′ size to
           turn-next m h f a b d = record {
             size = f ∙ t .size;
+            beside = both-change (t .beside) (h .beside);
+            in-use = same-use (t .going) entry follows′ m h ∙ t .in-use;
             going = going-next (t .going) entry follows′ m h;
             upto = few;
             long = a ∙ t .long;

@@ -5,6 +5,9 @@ use image_record::record_at;
 use image_word::Taken;
 use image_word::take_word;
 use trie_build::append;
+ghost use mathlib.Core.Path.{_≡_};
+ghost use Rattle.trie_pool.specs.Cells.{used};
+ghost use Rattle.trie_leaf.specs.inner.Planting.{Beside};
 ghost use Rattle.image_place.specs.inner.Placing.{Opens, Lent, Placed};
 
 // Puts in the words, record by record: next[d] is the first free node of level d.
@@ -19,6 +22,8 @@ pub fn place(
     requires { ⌜ Opens (now image) (now p) (now next) ⌝ }
     requires { ⌜ Lent (now prev) (now row) (now positions) ⌝ }
     ensures { λ _. ⌜ Placed (now (image .entry)) (now (p .exit)) ⌝ }
+    ensures { λ _. ⌜ Beside (now (p .entry)) (now (p .exit)) ⌝ }
+    ensures { λ _. ⌜ used (now (p .exit)) ≡ used (now (p .entry)) ⌝ }
 {
     let mut before = 0;
     let mut at = 0;

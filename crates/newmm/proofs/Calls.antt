@@ -1,4 +1,5 @@
--- What the public cut answers and leaves. Assumes nothing.
+-- What a cut by the words in a view of a pool answers and leaves, and what a refused one does.
+-- Assumes nothing.
 use Prim.Native.Nat.{ℕ, zero, suc, _+_, _-_, _*_, _/_, _≤_, _<_, min}
 use native.Mathlib.Omega.{arith}
 use native.Mathlib.Decide.{decLt}
@@ -17,22 +18,20 @@ use Rattle.refusal.specs.declared.Answer.the-variants.{Accepted, Refused}
 use Rattle.refusal.specs.Answers.{Cause, answer, output}
 use Rattle.refusal.proofs.Order.{refused-first, accepted-first}
 use Rattle.trie_pool.specs.Words.{holds}
-use Rattle.trie_pool.specs.Meaning.{Words, meaning}
+use Rattle.trie_pool.specs.Meaning.{Words}
 use Rattle.trie_check.specs.Refusals.{held}
 use Rattle.refusal.proofs.Causes.{still}
-use Rattle.trie_check.proofs.Parts.{readable, held-part}
 use Rattle.newmm_rules.specs.Cutting.{Cut}
 use Rattle.newmm_one_cut.specs.declared.Ends.{Ends}
 use Rattle.newmm_rules.specs.declared.Mode.{Mode}
-use Rattle.newmm_answers.proofs.Checks.{at-most, known, room}
+use Rattle.newmm_answers.proofs.Checks.{at-most, room}
 use Rattle.newmm_answers.proofs.Cuts.{few-ends}
 use Rattle.newmm_answers.specs.declared.CutAnswer.{CutAnswer}
 use Rattle.newmm_answers.specs.declared.CutAnswer.the-variants as variants
 use Rattle.newmm_answers.specs.Answers.{cutOf, scratchFor, outCauses, firstCauses, accepts, told, cutAnswer, outAfter, cleared, scratchAfter}
-use Rattle.newmm_answers.specs.Calls.{Call, call, answerOf, outOf, scratchOf, Cuts}
 use Rattle.newmm_segment.specs.inner.Written.{Ready, Written}
 use Rattle.newmm_segment.proofs.Samples.{front, behind, fits}
-use Rattle.newmm_answers.specs.inner.Passing.{Passes, Blank}
+use Rattle.newmm_answers.specs.inner.Passing.{Passes, inView, Sees, Blank, CutsBy}
 
 -- ---- a call that passes
 
@@ -47,25 +46,21 @@ zeros-blank n k = go (decLt k n)
 pub cleared-all : (row : List ℕ) {row₁ : List ℕ} → row₁ ≡ replicate {A = ℕ} (length row) 0 ++ drop (length row) row → row₁ ≡ replicate {A = ℕ} (length row) 0
 cleared-all row e = e ∙ ap (λ (l : List ℕ). replicate {A = ℕ} (length row) 0 ++ l) (drop-length row) ∙ append-nil (replicate {A = ℕ} (length row) 0)
 
--- what is lent on: the pool's n nodes, and as many cells of 0 as scratch has
-pub record Lent (text pool row : List ℕ) (cells n : ℕ) : Type 0 where
-  pub passes : Passes text pool cells
-  pub nodes : n ≡ min (length pool / 8) 1048576
+-- what is lent on: a view of the pool, and as many cells of 0 as scratch has
+pub record Lent (text view row : List ℕ) (cells : ℕ) : Type 0 where
+  pub sees : Sees text view cells
   pub blank : row ≡ replicate {A = ℕ} cells 0
 
-module _ {text pool row : List ℕ} {cells n : ℕ} (p : Lent text pool row cells n) where
-  pub words : held (meaning pool) ≡ holds (take (8 * n) pool)
-  words = held-part pool n (p .nodes) (known (p .passes))
-
+module _ {text view row : List ℕ} {cells : ℕ} (p : Lent text view row cells) where
   room-is : scratchFor (length text) ≤ cells
-  room-is = room (p .passes)
+  room-is = room (p .sees .passes)
 
-  pub ready : Ready text (take (8 * n) pool) row
+  pub ready : Ready text view row
   ready =
-      subst (λ (l : List ℕ). Ready text (take (8 * n) pool) l) (sym (p .blank))
+      subst (λ (l : List ℕ). Ready text view l) (sym (p .blank))
       (record {
-        short = at-most (p .passes);
-        root-is = readable pool n (p .nodes) (known (p .passes));
+        short = at-most (p .sees .passes);
+        root-is = p .sees .readable;
         room = omega (arith, room-is, length-replicate {A = ℕ} cells 0);
         blank = zeros-blank cells;
       })
@@ -79,28 +74,25 @@ pub the-cut : Like cutOf
 the-cut = record { many = λ mode words text. refl; edges = λ mode words text. refl }
 
 -- it stands at the front of scratch
-pub record Ended (made : Mode → Words → List ℕ → Cut) (mode : Mode) (text pool row : List ℕ) (cells : ℕ) (r : Ends) : Type 0 where
+pub record Ended (made : Mode → Words → List ℕ → Cut) (mode : Mode) (text view row : List ℕ) (cells : ℕ) (r : Ends) : Type 0 where
   pub like : Like made
   pub blank-row : List ℕ
-  pub n : ℕ
-  pub lent : Lent text pool blank-row cells n
-  pub written : Written (made mode (holds (take (8 * n) pool)) text) blank-row row r
+  pub lent : Lent text view blank-row cells
+  pub written : Written (made mode (holds view) text) blank-row row r
 
-module _ {made : Mode → Words → List ℕ → Cut} {mode : Mode} {text pool row : List ℕ} {cells : ℕ} {r : Ends} (z : Ended made mode text pool row cells r) where
+module _ {made : Mode → Words → List ℕ → Cut} {mode : Mode} {text view row : List ℕ} {cells : ℕ} {r : Ends} (z : Ended made mode text view row cells r) where
   abbrev whole : Cut
-  whole = made mode (held (meaning pool)) text
+  whole = made mode (holds view) text
 
   pub v : Written whole (replicate {A = ℕ} cells 0) row r
-  v =
-      subst (λ (c : Cut). Written c (replicate {A = ℕ} cells 0) row r) (ap (λ (f : Words). made mode f text) (sym (words (z .lent))))
-      (subst (λ (l : List ℕ). Written (made mode (holds (take (8 * z .n) pool)) text) l row r) (z .lent .blank) (z .written))
+  v = subst (λ (l : List ℕ). Written whole l row r) (z .lent .blank) (z .written)
 
   -- as many as the cut has ends
-  ends-are : r .ends ≡ length (cutOf mode (held (meaning pool)) text .ends)
-  ends-are = v .ends ∙ z .like .many mode (held (meaning pool)) text
+  ends-are : r .ends ≡ length (cutOf mode (holds view) text .ends)
+  ends-are = v .ends ∙ z .like .many mode (holds view) text
 
   inside : r .ends ≤ cells
-  inside = omega (arith, ends-are, few-ends mode (held (meaning pool)) text, room-is (z .lent))
+  inside = omega (arith, ends-are, few-ends mode (holds view) text, room-is (z .lent))
 
   pub ends-fit : r .ends ≤ length row
   ends-fit = fits v (omega (arith, v .ends, inside, length-replicate {A = ℕ} cells 0))
@@ -121,48 +113,48 @@ module _ {made : Mode → Words → List ℕ → Cut} {mode : Mode} {text pool r
       e ∙ ap (λ (x : List ℕ). replicate {A = ℕ} (r .ends) 0 ++ x) (behind v ∙ y)
       ∙ replicate-append-replicate {A = ℕ} (r .ends) (cells - r .ends) 0 ∙ ap (λ (k : ℕ). replicate {A = ℕ} k 0) (sym d)
 
-  late : (room : ℕ) → accepts mode text (meaning pool) cells room ≡ answer (outCauses (cutOf mode (held (meaning pool)) text .ends) room) (length (cutOf mode (held (meaning pool)) text .ends))
+  late : (room : ℕ) → accepts mode text (inView view) cells room ≡ answer (outCauses (cutOf mode (holds view) text .ends) room) (length (cutOf mode (holds view) text .ends))
   late room =
-      accepted-first (firstCauses text (meaning pool) cells) (outCauses (cutOf mode (held (meaning pool)) text .ends) room) 0 (length (cutOf mode (held (meaning pool)) text .ends)) (z .lent .passes .accepted)
+      accepted-first (firstCauses text (inView view) cells) (outCauses (cutOf mode (holds view) text .ends) room) 0 (length (cutOf mode (holds view) text .ends)) (z .lent .sees .passes .accepted)
 
-  tested : (room : ℕ) {b : Bool} → ltb room (r .ends) ≡ b → accepts mode text (meaning pool) cells room ≡ cond b (Refused (OutputTooShort (r .ends))) (Accepted (r .ends))
+  tested : (room : ℕ) {b : Bool} → ltb room (r .ends) ≡ b → accepts mode text (inView view) cells room ≡ cond b (Refused (OutputTooShort (r .ends))) (Accepted (r .ends))
   tested room e =
       late room ∙ ap (λ (n : ℕ). cond (ltb room n) (Refused (OutputTooShort n)) (Accepted n)) (sym ends-are)
       ∙ ap (λ (b : Bool). cond b (Refused (OutputTooShort (r .ends))) (Accepted (r .ends))) e
 
-  pub accepts-no : (room : ℕ) → room < r .ends → accepts mode text (meaning pool) cells room ≡ Refused (OutputTooShort (r .ends))
+  pub accepts-no : (room : ℕ) → room < r .ends → accepts mode text (inView view) cells room ≡ Refused (OutputTooShort (r .ends))
   accepts-no room h = tested room (lt-ltb room (r .ends) h)
 
-  pub accepts-yes : (room : ℕ) → r .ends ≤ room → accepts mode text (meaning pool) cells room ≡ Accepted (r .ends)
+  pub accepts-yes : (room : ℕ) → r .ends ≤ room → accepts mode text (inView view) cells room ≡ Accepted (r .ends)
   accepts-yes room h = tested room (le-ltb room (r .ends) h)
 
   -- what is answered with room enough, and without
-  pub answers-yes : (room : ℕ) → r .ends ≤ room → variants.Ends (r .ends) (r .edges) ≡ cutAnswer mode text (meaning pool) cells room
+  pub answers-yes : (room : ℕ) → r .ends ≤ room → variants.Ends (r .ends) (r .edges) ≡ cutAnswer mode text (inView view) cells room
   answers-yes room h =
-      ap (variants.Ends (r .ends)) (v .edges ∙ z .like .edges mode (held (meaning pool)) text)
-      ∙ sym (ap (λ (a : Answer). told a (cutOf mode (held (meaning pool)) text .edges)) (accepts-yes room h))
+      ap (variants.Ends (r .ends)) (v .edges ∙ z .like .edges mode (holds view) text)
+      ∙ sym (ap (λ (a : Answer). told a (cutOf mode (holds view) text .edges)) (accepts-yes room h))
 
-  pub answers-no : (room : ℕ) → room < r .ends → variants.Refused (OutputTooShort (r .ends)) ≡ cutAnswer mode text (meaning pool) cells room
-  answers-no room h = sym (ap (λ (a : Answer). told a (cutOf mode (held (meaning pool)) text .edges)) (accepts-no room h))
+  pub answers-no : (room : ℕ) → room < r .ends → variants.Refused (OutputTooShort (r .ends)) ≡ cutAnswer mode text (inView view) cells room
+  answers-no room h = sym (ap (λ (a : Answer). told a (cutOf mode (holds view) text .edges)) (accepts-no room h))
 
 -- scratch of a call that passes
-pub scratch-zero : {text pool : List ℕ} (scratch : List ℕ) → Passes text pool (length scratch) → scratchAfter text (meaning pool) scratch ≡ replicate {A = ℕ} (length scratch) 0
+pub scratch-zero : {text : List ℕ} {m : Option Words} (scratch : List ℕ) → Passes text m (length scratch) → scratchAfter text m scratch ≡ replicate {A = ℕ} (length scratch) 0
 scratch-zero scratch p = ap (λ (x : Answer). cleared x scratch) (p .accepted)
 
 -- refusal 6, and an accepted call: what is answered and left
-module _ {mode : Mode} {text pool row : List ℕ} (scratch out : List ℕ) {r : Ends} (z : Ended cutOf mode text pool row (length scratch) r) where
-  zeroed : {row′ : List ℕ} → row′ ≡ replicate {A = ℕ} (r .ends) 0 ++ drop (r .ends) row → row′ ≡ scratchOf (call text pool out scratch mode)
-  zeroed e = all-zero z e ∙ sym (scratch-zero scratch (z .lent .passes))
+module _ {mode : Mode} {text view row : List ℕ} (scratch out : List ℕ) {r : Ends} (z : Ended cutOf mode text view row (length scratch) r) where
+  zeroed : {row′ : List ℕ} → row′ ≡ replicate {A = ℕ} (r .ends) 0 ++ drop (r .ends) row → row′ ≡ scratchAfter text (inView view) scratch
+  zeroed e = all-zero z e ∙ sym (scratch-zero scratch (z .lent .sees .passes))
 
   pub short-cuts : {row′ : List ℕ} → length out < r .ends → row′ ≡ replicate {A = ℕ} (r .ends) 0 ++ drop (r .ends) row
-      → Cuts (call text pool out scratch mode) (variants.Refused (OutputTooShort (r .ends))) out row′
+      → CutsBy (inView view) text out scratch mode (variants.Refused (OutputTooShort (r .ends))) out row′
   short-cuts h e = (
     answers-no z (length out) h,
     (sym (ap (λ (a : Answer). output a (whole z .ends) out) (accepts-no z (length out) h)), zeroed e),
   )
 
   pub done-cuts : {out′ row′ : List ℕ} → r .ends ≤ length out → out′ ≡ take (r .ends) (take (r .ends) row) ++ drop (r .ends) out
-      → row′ ≡ replicate {A = ℕ} (r .ends) 0 ++ drop (r .ends) row → Cuts (call text pool out scratch mode) (variants.Ends (r .ends) (r .edges)) out′ row′
+      → row′ ≡ replicate {A = ℕ} (r .ends) 0 ++ drop (r .ends) row → CutsBy (inView view) text out scratch mode (variants.Ends (r .ends) (r .edges)) out′ row′
   done-cuts h f e = (
     answers-yes z (length out) h,
     (
@@ -176,46 +168,46 @@ module _ {mode : Mode} {text pool row : List ℕ} (scratch out : List ℕ) {r : 
 
 -- ---- scratch that was cleared for the call
 
-module _ (scratch : List ℕ) {text pool row : List ℕ} (p : Passes text pool (length scratch)) (e : row ≡ replicate {A = ℕ} (length scratch) 0) where
+module _ (scratch : List ℕ) {row : List ℕ} (e : row ≡ replicate {A = ℕ} (length scratch) 0) where
   as-long : length row ≡ length scratch
   as-long = ap length e ∙ length-replicate {A = ℕ} (length scratch) 0
 
-  pub still-passes : Passes text pool (length row)
-  still-passes = subst (λ (k : ℕ). Passes text pool k) (sym as-long) p
+  pub still-sees : {text view : List ℕ} → Sees text view (length scratch) → Sees text view (length row)
+  still-sees {text} {view} p = subst (λ (k : ℕ). Sees text view k) (sym as-long) p
 
   pub now-blank : Blank row
   now-blank = e ∙ ap (λ (k : ℕ). replicate {A = ℕ} k 0) (sym as-long)
 
   -- what scratch held before decides nothing
-  pub cleared-cuts : (out : List ℕ) (mode : Mode) {r : CutAnswer} {out′ row′ : List ℕ}
-      → Cuts (call text pool out row mode) r out′ row′ → Cuts (call text pool out scratch mode) r out′ row′
-  cleared-cuts out mode c = (
-    c .0 ∙ ap (λ (k : ℕ). cutAnswer mode text (meaning pool) k (length out)) as-long,
+  pub cleared-cuts : {text view : List ℕ} → Sees text view (length scratch) → (out : List ℕ) (mode : Mode) {r : CutAnswer} {out′ row′ : List ℕ}
+      → CutsBy (inView view) text out row mode r out′ row′ → CutsBy (inView view) text out scratch mode r out′ row′
+  cleared-cuts {text} {view} p out mode c = (
+    c .0 ∙ ap (λ (k : ℕ). cutAnswer mode text (inView view) k (length out)) as-long,
     (
-      c .1 .0 ∙ ap (λ (k : ℕ). outAfter mode text (meaning pool) k out) as-long,
-      c .1 .1 ∙ ap (λ (x : Answer). cleared x row) (still-passes .accepted) ∙ ap (λ (k : ℕ). replicate {A = ℕ} k 0) as-long ∙ sym (ap (λ (x : Answer). cleared x scratch) (p .accepted)),
+      c .1 .0 ∙ ap (λ (k : ℕ). outAfter mode text (inView view) k out) as-long,
+      c .1 .1 ∙ scratch-zero row (still-sees p .passes) ∙ ap (λ (k : ℕ). replicate {A = ℕ} k 0) as-long ∙ sym (scratch-zero scratch (p .passes)),
     ),
   )
 
--- ---- the whole call
+-- ---- refusals 2 to 5
 
-module _ (mode : Mode) (text pool scratch : List ℕ) {a : Answer} (is : a ≡ answer (firstCauses text (meaning pool) (length scratch)) (length text)) where
+module _ (mode : Mode) (text : List ℕ) (m : Option Words) (scratch : List ℕ) {a : Answer} (is : a ≡ answer (firstCauses text m (length scratch)) (length text)) where
   module _ {r : Refusal} (no′ : a ≡ Refused r) where
-    refused : (m : ℕ) → answer (firstCauses text (meaning pool) (length scratch)) m ≡ Refused r
-    refused m = sym (still (firstCauses text (meaning pool) (length scratch)) (length text) m (sym is ∙ no′))
+    refused : (n : ℕ) → answer (firstCauses text m (length scratch)) n ≡ Refused r
+    refused n = sym (still (firstCauses text m (length scratch)) (length text) n (sym is ∙ no′))
 
     -- whatever the room
-    pub refused-all : (room : ℕ) → accepts mode text (meaning pool) (length scratch) room ≡ Refused r
-    refused-all room = refused-first (firstCauses text (meaning pool) (length scratch)) (outCauses (cutOf mode (held (meaning pool)) text .ends) room) 0 _ (refused 0)
+    pub refused-all : (room : ℕ) → accepts mode text m (length scratch) room ≡ Refused r
+    refused-all room = refused-first (firstCauses text m (length scratch)) (outCauses (cutOf mode (held m) text .ends) room) 0 _ (refused 0)
 
-    pub refused-told : (room : ℕ) → variants.Refused r ≡ cutAnswer mode text (meaning pool) (length scratch) room
-    refused-told room = sym (ap (λ (x : Answer). told x (cutOf mode (held (meaning pool)) text .edges)) (refused-all room))
+    pub refused-told : (room : ℕ) → variants.Refused r ≡ cutAnswer mode text m (length scratch) room
+    refused-told room = sym (ap (λ (x : Answer). told x (cutOf mode (held m) text .edges)) (refused-all room))
 
-    pub scratch-kept : scratch ≡ scratchAfter text (meaning pool) scratch
+    pub scratch-kept : scratch ≡ scratchAfter text m scratch
     scratch-kept = sym (ap (λ (x : Answer). cleared x scratch) (refused 0))
 
-  pub early-cuts : (out : List ℕ) {r : Refusal} → a ≡ Refused r → Cuts (call text pool out scratch mode) (variants.Refused r) out scratch
+  pub early-cuts : (out : List ℕ) {r : Refusal} → a ≡ Refused r → CutsBy m text out scratch mode (variants.Refused r) out scratch
   early-cuts out no′ = (
     refused-told no′ (length out),
-    (sym (ap (λ (x : Answer). output x (cutOf mode (held (meaning pool)) text .ends) out) (refused-all no′ (length out))), scratch-kept no′),
+    (sym (ap (λ (x : Answer). output x (cutOf mode (held m) text .ends) out) (refused-all no′ (length out))), scratch-kept no′),
   )

@@ -2,7 +2,7 @@
 use Prim.Native.Nat.{ℕ, _≤_, _<_}
 use native.Mathlib.Omega.{arith}
 use mathlib.Core.Path.{_≡_, sym, _∙_, ap}
-use mathlib.Core.Bool.{true}
+use mathlib.Core.Bool.{false}
 use mathlib.Core.List.{List}
 use mathlib.Core.Option.{Option}
 use lib.ListN.{length}
@@ -14,11 +14,9 @@ use Rattle.refusal.specs.declared.Answer.the-variants.{Accepted, Refused}
 use Rattle.refusal.specs.Answers.{answer}
 use Rattle.refusal.proofs.Order.{refused-first}
 use Rattle.refusal.proofs.Causes.{None, none-of, again, cause-yes, cause-kept}
-use Rattle.trie_pool.specs.Rules.{isDictionary}
-use Rattle.trie_pool.specs.Meaning.{Words, meaning}
-use Rattle.trie_check.specs.Refusals.{readCauses}
+use Rattle.trie_pool.specs.Meaning.{Words}
+use Rattle.trie_check.specs.Refusals.{isNone, readCauses}
 use Rattle.trie_check.proofs.Refusals.{read-of}
-use Rattle.trie_check.proofs.Parts.{known-is}
 use Rattle.newmm_answers.specs.Answers.{scratchFor, scratchCause, scratchCauses, firstCauses}
 use Rattle.newmm_answers.specs.inner.Passing.{Passes}
 
@@ -49,18 +47,18 @@ module _ (text : List ℕ) (m : Option Words) (cells : ℕ) {a : Answer} (is : a
 
 -- ---- past them
 
-pub passes : (text pool : List ℕ) (cells : ℕ) {a : Answer} → a ≡ answer (firstCauses text (meaning pool) cells) (length text) → {n : ℕ} → a ≡ Accepted n → Passes text pool cells
-passes text pool cells is yes′ = record { accepted = sym (again (firstCauses text (meaning pool) cells) (length text) 0 (sym is ∙ yes′)) }
+pub passes : (text : List ℕ) (m : Option Words) (cells : ℕ) {a : Answer} → a ≡ answer (firstCauses text m cells) (length text) → {n : ℕ} → a ≡ Accepted n → Passes text m cells
+passes text m cells is yes′ = record { accepted = sym (again (firstCauses text m cells) (length text) 0 (sym is ∙ yes′)) }
 
-module _ {text pool : List ℕ} {cells : ℕ} (p : Passes text pool cells) where
-  none-due : None (firstCauses text (meaning pool) cells)
-  none-due = none-of (firstCauses text (meaning pool) cells) 0 0 (p .accepted)
+module _ {text : List ℕ} {m : Option Words} {cells : ℕ} (p : Passes text m cells) where
+  none-due : None (firstCauses text m cells)
+  none-due = none-of (firstCauses text m cells) 0 0 (p .accepted)
 
   pub at-most : length text ≤ 65535
   at-most = ltb-false 65535 (length text) (none-due .0)
 
-  pub known : isDictionary pool ≡ true
-  known = known-is pool (none-due .1 .1 .0)
+  pub known : isNone m ≡ false
+  known = none-due .1 .1 .0
 
   pub room : scratchFor (length text) ≤ cells
   room = ltb-false cells (scratchFor (length text)) (none-due .1 .1 .1 .0)

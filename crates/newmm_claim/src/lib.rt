@@ -12,6 +12,7 @@ use trie_check::capacity;
 use trie_pool::NODE;
 ghost use mathlib.Core.Path.{_≡_};
 ghost use lib.ListN.{length};
+ghost use Rattle.trie_pool.specs.Meaning.{meaning};
 ghost use Rattle.newmm_answers.specs.inner.Passing.{Passes};
 ghost use Rattle.newmm_rules.specs.Claims.{tokenRight, verdict};
 ghost use Rattle.newmm_word_step.specs.inner.Places.{Place};
@@ -68,7 +69,7 @@ fn judge(text: &[u32], pool: &[u32], flags: &[u32], claimed: &[u32]) -> ClaimAns
 
 // Checks a claim that none of the refusals 2 to 5 is due to.
 fn claim_checked(text: &[u32], pool: &[u32], claimed: &[u32], scratch: &mut [u32]) -> ClaimAnswer
-    requires { ⌜ Passes (now text) (now pool) (length (now scratch)) ⌝ }
+    requires { ⌜ Passes (now text) (meaning (now pool)) (length (now scratch)) ⌝ }
     ensures { λ r. ⌜ Claims
         (claim (now (text .entry)) (now (pool .entry)) (now (claimed .entry)) (now (scratch .entry)))
         r (now (scratch .exit)) ⌝ }

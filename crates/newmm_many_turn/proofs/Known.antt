@@ -4,7 +4,7 @@ use mathlib.Core.Path.{_≡_, refl, sym, _∙_, ap}
 use mathlib.Core.Bool.{Bool, true, false, cond}
 use mathlib.Core.List.{List, [], _∷_, _++_}
 use mathlib.Core.Option.{Option}
-use lib.ListN.{length, replicate, length-replicate}
+use lib.ListN.{length}
 use Rattle.refusal.specs.declared.Refusal.the-variants.{NotADictionary}
 use Rattle.refusal.specs.declared.Answer.{Answer}
 use Rattle.refusal.specs.Answers.{Cause, answer}
@@ -15,9 +15,9 @@ use Rattle.trie_check.specs.Refusals.{isNone}
 use Rattle.trie_check.proofs.Parts.{is-none}
 use Rattle.newmm_rules.specs.declared.Mode.{Mode}
 use Rattle.newmm_answers.specs.declared.CutAnswer.{CutAnswer}
-use Rattle.newmm_answers.specs.Answers.{scratchCauses, firstCauses, cleared}
-use Rattle.newmm_answers.specs.Calls.{call, Cuts}
-use Rattle.newmm_answers.specs.inner.Passing.{Passes, Blank}
+use Rattle.newmm_answers.specs.Answers.{scratchCauses, firstCauses}
+use Rattle.newmm_answers.specs.inner.Passing.{inView, Sees, Blank, CutsBy}
+use Rattle.newmm.proofs.Calls.{scratch-zero, now-blank}
 use Rattle.newmm_many_turn.specs.inner.Knowing.{knownAs}
 
 none-as : (b : Bool) → isNone (knownAs b) ≡ cond b false true
@@ -35,7 +35,5 @@ pub as-pool : (text pool : List ℕ) (b : Bool) (cells n : ℕ) {a : Answer} →
 as-pool text pool b cells n e is = is ∙ ap (λ (h : Bool). answer ((textCauses text ++ (record { refusal = NotADictionary; holds = h } ∷ [])) ++ scratchCauses text cells) n) (none-as b ∙ sym (is-none pool b e))
 
 -- a cut that passed leaves scratch all 0
-pub left-blank : (text pool out row : List ℕ) (mode : Mode) {r : CutAnswer} {out′ row′ : List ℕ} → Passes text pool (length row) → Cuts (call text pool out row mode) r out′ row′ → Blank row′
-left-blank text pool out row mode {row′ = row′} p c =
-    let e : row′ ≡ replicate {A = ℕ} (length row) 0 = c .1 .1 ∙ ap (λ (x : Answer). cleared x row) (p .accepted) in
-    e ∙ ap (λ (k : ℕ). replicate {A = ℕ} k 0) (sym (ap length e ∙ length-replicate {A = ℕ} (length row) 0))
+pub left-blank : {text view : List ℕ} (out row : List ℕ) (mode : Mode) {r : CutAnswer} {out′ row′ : List ℕ} → Sees text view (length row) → CutsBy (inView view) text out row mode r out′ row′ → Blank row′
+left-blank out row mode p c = now-blank row (c .1 .1 ∙ scratch-zero row (p .passes))

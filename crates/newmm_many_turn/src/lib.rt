@@ -8,6 +8,8 @@ use newmm_answers::scratch_for;
 use newmm_rules::Mode;
 use refusal::Answer;
 use refusal::Refusal;
+use trie_check::capacity;
+use trie_pool::NODE;
 ghost use mathlib.Core.Path.{_≡_};
 ghost use mathlib.Core.Bool.{true};
 ghost use lib.ListN.{length, replicate};
@@ -79,7 +81,8 @@ pub fn cut_next(
         },
         Answer::Accepted(_) => {
             blank_all(scratch, blank);
-            let told = cut_ready(text, pool, out, scratch, mode);
+            let cells = NODE * capacity(pool.len());
+            let told = cut_ready(text, &pool[..cells], out, scratch, mode);
             Turn { told, blank: true }
         }
     }

@@ -3,12 +3,13 @@ use Prim.Native.Nat.{ℕ, zero, suc, _+_, _*_, _/_, _%_, _≤_, _<_}
 use native.Mathlib.Omega.{arith}
 use mathlib.Core.Path.{_≡_, refl, sym, _∙_, ap}
 use mathlib.Core.List.{List, [], _∷_, _++_}
+use mathlib.Core.Option.{Option}
 use lib.ListN.{length, getD, set, take, drop, length-map, length-set}
 use lib.Seq.{length-take-le, take-length, take-at, getD-take}
 use Rattle.cells.proofs.Filling.{Filled, filled-none, filled-more, filled-all, long}
 use Rattle.refusal.specs.declared.Answer.{Answer}
 use Rattle.refusal.specs.Answers.{output}
-use Rattle.trie_pool.specs.Meaning.{meaning}
+use Rattle.trie_pool.specs.Meaning.{Words}
 use Rattle.trie_check.specs.Refusals.{held}
 use Rattle.newmm_rules.specs.declared.Mode.{Mode}
 use Rattle.newmm_answers.specs.Answers.{accepts}
@@ -75,14 +76,14 @@ module _ {cells old row : List ℕ} {k i : ℕ} (p : Putting cells old row k i) 
 
 -- ---- the output
 
-module _ {mode : Mode} {text pool scratch after : List ℕ} {k : ℕ} (out : List ℕ) where
-  pub wrote : Came mode text pool scratch after (pairRoom out) k → {row : List ℕ} → row ≡ unpacked (take k after) ++ drop (2 * k) out → row ≡ pairsAfter mode text (meaning pool) (length scratch) out
+module _ {mode : Mode} {text : List ℕ} {m : Option Words} {scratch after : List ℕ} {k : ℕ} (out : List ℕ) where
+  pub wrote : Came mode text m scratch after (pairRoom out) k → {row : List ℕ} → row ≡ unpacked (take k after) ++ drop (2 * k) out → row ≡ pairsAfter mode text m (length scratch) out
   wrote (accepted h c l z w) e =
-      let ts = toldOf mode (held (meaning pool)) text in
+      let ts = toldOf mode (held m) text in
       let n : 2 * k ≡ length (pairs ts) = omega (arith, c, length-map ts cellOf, pairs-long ts) in
       e ∙ ap (λ (x : List ℕ). unpacked x ++ drop (2 * k) out) (ap (take k) w ∙ take-at (cellsOf ts) _ k (sym c))
-      ∙ (λ i. unpack ts (told-small (held (meaning pool)) mode text) i ++ drop (n i) out)
+      ∙ (λ i. unpack ts (told-small (held m) mode text) i ++ drop (n i) out)
       ∙ sym (ap (λ (a : Answer). output a (pairs ts) out) h)
   wrote (refused h c w) e =
       e ∙ ap (λ (j : ℕ). unpacked (take j after) ++ drop (2 * j) out) c
-      ∙ sym (ap (λ (a : Answer). output a (pairs (toldOf mode (held (meaning pool)) text)) out) h)
+      ∙ sym (ap (λ (a : Answer). output a (pairs (toldOf mode (held m) text)) out) h)

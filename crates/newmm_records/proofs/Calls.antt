@@ -41,8 +41,8 @@ cell-record [] s = refl
 cell-record (t ∷ ts) s = (λ i. record { end = end-back t (s .0) i; reason = reason-back t (s .0) i } ∷ cell-record ts (s .1) i)
 
 module _ (mode : Mode) (text pool scratch : List ℕ) (rows : List Record) {told : CutAnswer} {after : List ℕ} {k : ℕ}
-    (t : Tells text pool scratch (length rows) mode told after) (kept : length after ≡ length scratch) (is : k ≡ endsTold told) where
-  at : Came mode text pool scratch after (length rows) k
+    (t : Tells text (meaning pool) scratch (length rows) mode told after) (kept : length after ≡ length scratch) (is : k ≡ endsTold told) where
+  at : Came mode text (meaning pool) scratch after (length rows) k
   at = came t is
 
   pub fill-fits : (k ≤ length rows) × (k ≤ length after)
@@ -55,7 +55,7 @@ module _ (mode : Mode) (text pool scratch : List ℕ) (rows : List Record) {told
       ts : List Told
       ts = toldOf mode (held (meaning pool)) text
 
-      go : Came mode text pool scratch after (length rows) k → rows′ ≡ records after k ++ drop k rows → rows′ ≡ recordsOf (recordsCall text pool rows scratch mode)
+      go : Came mode text (meaning pool) scratch after (length rows) k → rows′ ≡ records after k ++ drop k rows → rows′ ≡ recordsOf (recordsCall text pool rows scratch mode)
       go (accepted h c l z w) e =
           let n : k ≡ length (map recordTold ts) = c ∙ length-map ts cellOf ∙ sym (length-map ts recordTold) in
           e ∙ ap (λ (x : List Record). x ++ drop k rows)

@@ -7,25 +7,27 @@ use newmm_tell::tell_text;
 use refusal::Answer;
 use refusal::Refusal;
 use trie_check::capacity;
+use trie_pool::NODE;
 ghost use lib.ListN.{length};
-ghost use Rattle.newmm_answers.specs.inner.Passing.{Passes};
+ghost use Rattle.trie_pool.specs.Meaning.{meaning};
+ghost use Rattle.newmm_answers.specs.inner.Passing.{inView, Sees};
 ghost use Rattle.newmm_reasons_answers.specs.inner.Cells.{Tells};
 
-// Tells a text that none of the refusals 2 to 5 is due to.
-fn tell_checked(
+// Tells a text that none of the refusals 2 to 5 is due to, by the words in a view of a pool.
+pub fn tell_checked(
     text: &[u32],
-    pool: &[u32],
+    view: &[u32],
     scratch: &mut [u32],
     room: usize,
     mode: Mode,
 ) -> CutAnswer
-    requires { ⌜ Passes (now text) (now pool) (length (now scratch)) ⌝ }
-    ensures { λ r. ⌜ Tells (now (text .entry)) (now (pool .entry)) (now (scratch .entry)) room mode r (now (scratch .exit)) ⌝ }
+    requires { ⌜ Sees (now text) (now view) (length (now scratch)) ⌝ }
+    ensures { λ r. ⌜ Tells (now (text .entry)) (inView (now (view .entry))) (now (scratch .entry)) room mode
+        r (now (scratch .exit)) ⌝ }
 {
     let all = scratch.len();
     clear_first(scratch, all);
-    let cells = 8 * capacity(pool.len());
-    let r = tell_text(text, &pool[..cells], scratch, mode);
+    let r = tell_text(text, view, scratch, mode);
     let n = r.ends;
     if room < n {
         clear_first(scratch, n);
@@ -38,11 +40,15 @@ fn tell_checked(
 // told stands at the front of scratch then, one cell a token; a refused call leaves scratch as a
 // refused cut does.
 pub fn tell(text: &[u32], pool: &[u32], scratch: &mut [u32], room: usize, mode: Mode) -> CutAnswer
-    ensures { λ r. ⌜ Tells (now (text .entry)) (now (pool .entry)) (now (scratch .entry)) room mode r (now (scratch .exit)) ⌝ }
+    ensures { λ r. ⌜ Tells (now (text .entry)) (meaning (now (pool .entry))) (now (scratch .entry)) room mode
+        r (now (scratch .exit)) ⌝ }
 {
     let checked = check_cut(text, pool, scratch.len());
     match checked {
         Answer::Refused(r) => CutAnswer::Refused(r),
-        Answer::Accepted(_) => tell_checked(text, pool, scratch, room, mode),
+        Answer::Accepted(_) => {
+            let cells = NODE * capacity(pool.len());
+            tell_checked(text, &pool[..cells], scratch, room, mode)
+        }
     }
 }

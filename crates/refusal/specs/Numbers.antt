@@ -3,7 +3,7 @@ use Prim.Native.Nat.{ℕ}
 use Rattle.refusal.specs.declared.Refusal.{Refusal}
 use Rattle.refusal.specs.declared.Refusal.the-variants.{IllFormed, TooManyScalars, NotAScalar, NotADictionary}
 use Rattle.refusal.specs.declared.Refusal.the-variants.{ScratchTooShort, OutputTooShort, WordTooLong, TooFewNodes}
-use Rattle.refusal.specs.declared.Refusal.the-variants.{BadImage, WrongPosition, BitAboveEnd, FiguresFull}
+use Rattle.refusal.specs.declared.Refusal.the-variants.{BadImage, WrongPosition, BitAboveEnd, LimitsTooLarge, FiguresFull}
 
 abbrev pub numberOf : Refusal → ℕ
 numberOf (IllFormed d) = 1
@@ -17,6 +17,7 @@ numberOf (TooFewNodes d) = 8
 numberOf (BadImage d) = 9
 numberOf (WrongPosition d) = 10
 numberOf (BitAboveEnd d) = 11
+numberOf LimitsTooLarge = 12
 numberOf FiguresFull = 13
 
 abbrev pub detailOf : Refusal → ℕ
@@ -31,4 +32,5 @@ detailOf (TooFewNodes d) = d
 detailOf (BadImage d) = d
 detailOf (WrongPosition d) = d
 detailOf (BitAboveEnd d) = d
+detailOf LimitsTooLarge = 0
 detailOf FiguresFull = 0

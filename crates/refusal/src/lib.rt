@@ -29,6 +29,8 @@ pub enum Refusal {
     WrongPosition(usize),
     // 11: a map of breaks has a bit set above n in its last used cell. The lowest such position.
     BitAboveEnd(usize),
+    // 12: the limits of two plants are too large for the pool.
+    LimitsTooLarge,
     // 13: a figure would be too large.
     FiguresFull,
 }
@@ -55,6 +57,7 @@ pub fn number(r: Refusal) -> u8
         Refusal::BadImage(_) => 9,
         Refusal::WrongPosition(_) => 10,
         Refusal::BitAboveEnd(_) => 11,
+        Refusal::LimitsTooLarge => 12,
         Refusal::FiguresFull => 13,
     }
 }
@@ -75,6 +78,7 @@ pub fn detail(r: Refusal) -> usize
         Refusal::BadImage(d) => d,
         Refusal::WrongPosition(d) => d,
         Refusal::BitAboveEnd(d) => d,
+        Refusal::LimitsTooLarge => 0,
         Refusal::FiguresFull => 0,
     }
 }

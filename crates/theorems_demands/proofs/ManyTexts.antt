@@ -7,7 +7,7 @@ use lib.ListN.{length, getD, take, drop, replicate, length-drop}
 use lib.Seq.{take-take}
 use Rattle.refusal.specs.declared.Refusal.{Refusal}
 use Rattle.refusal.specs.declared.Refusal.the-variants.{IllFormed, TooManyScalars, NotAScalar, NotADictionary, ScratchTooShort}
-use Rattle.refusal.specs.declared.Refusal.the-variants.{OutputTooShort, WordTooLong, TooFewNodes, BadImage, WrongPosition, BitAboveEnd, FiguresFull}
+use Rattle.refusal.specs.declared.Refusal.the-variants.{OutputTooShort, WordTooLong, TooFewNodes, BadImage, WrongPosition, BitAboveEnd, LimitsTooLarge, FiguresFull}
 use Rattle.refusal.specs.declared.Answer.{Answer}
 use Rattle.refusal.specs.declared.Answer.the-variants.{Accepted}
 use Rattle.refusal.specs.Numbers.{numberOf}
@@ -96,6 +96,7 @@ some-number (TooFewNodes d) e = omega arith
 some-number (BadImage d) e = omega arith
 some-number (WrongPosition d) e = omega arith
 some-number (BitAboveEnd d) e = omega arith
+some-number LimitsTooLarge e = omega arith
 some-number FiguresFull e = omega arith
 
 -- number 0 is told of an accepted text alone

@@ -35,7 +35,7 @@ use Rattle.newmm_reasons_answers.proofs.Told.{same-ends, as-many}
 use Rattle.newmm_reasons_answers.proofs.Cells.{pairs-long}
 use Rattle.newmm_records.specs.Calls.{RecordsCall, recordTold, recordRows, recordsOf}
 use Rattle.theorems_demands.specs.Reasons.{SameTokens, ReasonedParts, none, one, whole, TrueReasons, AnswersAsCut, ReasonsWrote, telling, Demand3AnyReasons, Demand3Reasons, RecordsWrote, recording, Demand3AnyRecords, Demand3Records}
-use Rattle.theorems_demands.proofs.Demand3.{Cuts, demand-3-any-for, demand-3-for}
+use Rattle.theorems_demands.proofs.Demand3.{Cuts, wordsOf, demand-3-any-for, demand-3-for}
 
 pub same-tokens : SameTokens
 same-tokens mode words text = same-ends words text mode
@@ -79,7 +79,7 @@ many-of : (mode : Mode) (text : List ℕ) (pool : Option Words) (n cells room : 
 many-of mode text pool n cells room h = as-many (held pool) text mode ∙ accepted-is (cutCauses mode text pool cells room) _ n h
 
 -- the pairs of an accepted call stand at the front of its output
-pairs-of : (mode : Mode) (text : List ℕ) (pool : Option Words) (n cells : ℕ) (out : List ℕ) → accepts mode text pool cells (pairRoom out) ≡ Accepted n
+pub pairs-of : (mode : Mode) (text : List ℕ) (pool : Option Words) (n cells : ℕ) (out : List ℕ) → accepts mode text pool cells (pairRoom out) ≡ Accepted n
     → take (2 * n) (pairsAfter mode text pool cells out) ≡ pairs (toldOf mode (held pool) text)
 pairs-of mode text pool n cells out h =
     let ts = toldOf mode (held pool) text in
@@ -150,7 +150,7 @@ records-wrote c n edges h =
 
 -- ---- demand 3
 
-the-reasons : Cuts telling
+the-reasons : Cuts telling (wordsOf telling)
 the-reasons =
     record {
       room = λ c. pairRoom (c .out);
@@ -166,7 +166,7 @@ demand-3-any-reasons = demand-3-any-for telling the-reasons
 pub demand-3-reasons : Demand3Reasons
 demand-3-reasons = demand-3-for telling the-reasons
 
-the-records : Cuts recording
+the-records : Cuts recording (wordsOf recording)
 the-records =
     record {
       room = λ c. length (c .records);

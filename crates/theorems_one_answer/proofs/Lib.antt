@@ -19,3 +19,6 @@ pub mod Releases
 pub mod Figures
 pub mod Images
 pub mod WordLines
+pub mod Plants
+pub mod PlantCuts
+pub mod PlantHosts

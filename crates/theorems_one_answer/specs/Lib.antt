@@ -7,3 +7,5 @@ pub mod WinnerRuns
 pub mod OrderRuns
 pub mod ReasonRuns
 pub mod FigureRuns
+pub mod PlantRuns
+pub mod PlantCutRuns

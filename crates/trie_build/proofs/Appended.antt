@@ -14,6 +14,8 @@ use Rattle.trie_pool.specs.Meaning.{Terms, withTerm}
 use Rattle.trie_pool.specs.inner.Paths.{reach}
 use Rattle.trie_pool.proofs.Shape.{child-found, step, count-is}
 use Rattle.trie_pool.proofs.Edges.{Edges, edges-of}
+use Rattle.trie_leaf.specs.inner.Planting.{Beside}
+use Rattle.trie_change.proofs.Sides.{no-change, both-change}
 use Rattle.trie_build_rules.specs.inner.Laid.{Laid}
 use Rattle.trie_build_rules.specs.inner.Growing.{Grown, Path, Built, Above}
 use Rattle.trie_build_rules.proofs.Building.{levels-apart}
@@ -21,7 +23,7 @@ use Rattle.trie_build_rules.proofs.Paths.{Last, last, path-same, rev-take}
 use Rattle.trie_build_rules.proofs.Leaf.{Asks, Done, leaf-grown, leaf-path, no-mark, no-child}
 use Rattle.trie_build_rules.proofs.Mark.{Sets, mark-grown, mark-path}
 use Rattle.trie_build.specs.inner.Appending.{row, Spot, leafCells, oneMore, Fits, Puts, Put}
-use Rattle.trie_build.proofs.Stores.{leaf-done, leaf-long, mark-set}
+use Rattle.trie_build.proofs.Stores.{leaf-done, leaf-long, leaf-beside, mark-set, mark-beside}
 
 -- the first d characters of w stand in the trie, at the last nodes of their levels
 pub record State (s : ℕ → ℕ) (held : Terms) (p : List ℕ) (next : ℕ → ℕ) (w : List ℕ) (l d : ℕ) : Type 0 where
@@ -35,7 +37,6 @@ except {p} {s} {next} {held} cur g = record {
   laid = g .laid;
   top = g .top;
   in-use = g .in-use;
-  plain = g .plain;
   fits = g .fits;
   small = g .small;
   fit = g .fit;
@@ -82,6 +83,7 @@ pub record Going (p₀ next₀ w : List ℕ) (l mark : ℕ) (p next : List ℕ) 
   pub low : l ≤ d
   pub high : d ≤ length w
   pub long : length p ≡ length p₀
+  pub beside : Beside p₀ p
   pub levels : length next ≡ 257
   pub state : (s : ℕ → ℕ) (before : List ℕ) (held : Terms) → Fits s before held p₀ next₀ w l mark → State s held p (row next) w l d
   pub raised : (e : ℕ) → l < e → e ≤ d → row next e ≡ suc (row next₀ e)
@@ -92,6 +94,7 @@ going-none {p} {next} {w} {l} {mark} h = record {
   low = omega arith;
   high = omega (arith, h .may .above .inside);
   long = refl;
+  beside = no-change p;
   levels = h .levels;
   state = λ s before held f. state-first f;
   raised = λ e a b. absurd (omega arith);
@@ -182,7 +185,7 @@ module _ {p₀ next₀ w : List ℕ} {l mark : ℕ} {p next : List ℕ} {d : ℕ
         let n : row next (suc d) ≡ row next (d + 1) = ap (row next) (sym s1) in
         leaf-done p next d (row next d - 1) (getD w d 0) p′ next′ (omega (arith, q .high)) deep (g .levels) (h .parent) (h .leaf)
         (λ z. omega (arith, t .parent, v .low (suc d) (omega (arith, deep)), q .high))
-        (ap (countAt p) (sym n) ∙ st .grown .blank (row next (suc d)) (λ k few a c. free k few a c) .count) (st .grown .plain) e e′
+        (ap (countAt p) (sym n) ∙ st .grown .blank (row next (suc d)) (λ k few a c. free k few a c) .count) e e′
       where
         free : (k : ℕ) → k ≤ 256 → s k ≤ row next (suc d) → row next (suc d) < row next k → ⊥
         free k few a c = go (decLt k (suc d)) (decLt (suc d) k)
@@ -220,6 +223,7 @@ going-next {p₀} {next₀} {w} {l} {mark} {p} {next} {d} g more p′ next′ e 
   low = omega (arith, g .low);
   high = omega arith;
   long = ap length e ∙ length-set (leafCells p (row next (d + 1)) (getD w d 0) (row next (d + 2))) (8 * (row next d - 1) + 2) _ ∙ leaf-long p (row next (d + 1)) (getD w d 0) (row next (d + 2)) ∙ g .long;
+  beside = both-change (g .beside) (subst (Beside p) (sym e) (leaf-beside p (row next (d + 1)) (getD w d 0) (row next (d + 2)) (row next d - 1)));
   levels = ap length e′ ∙ length-set next (d + 1) (row next (d + 1) + 1) ∙ g .levels;
   state = λ s before held f. let z : suc d ≡ d + 1 = omega arith in subst (λ (k : ℕ). State s held p′ (row next′) w l k) z (state-next g more s before held f p′ next′ e e′);
   raised = λ k a c. raise k a c (decLt k (d + 1));
@@ -241,7 +245,7 @@ going-next {p₀} {next₀} {w} {l} {mark} {p} {next} {d} g more p′ next′ e 
 pub record End (p next : List ℕ) (d : ℕ) : Type 0 where
   pub some : 1 ≤ row next d
   pub past : 0 < row next d - 1
-  pub inside : 8 * row next d ≤ length p
+  pub inside : 8 * row next d ≤ length p + 4
   pub small : row next d ≤ 1048576
 
 pub end-of : {p₀ next₀ w : List ℕ} {l mark : ℕ} {p next : List ℕ} {d : ℕ} → Going p₀ next₀ w l mark p next d → length w ≤ d → Puts p₀ next₀ w l mark → End p next d
@@ -259,6 +263,7 @@ going-done : {p₀ next₀ w : List ℕ} {l mark : ℕ} {p next : List ℕ} {d :
     → p′ ≡ set p (8 * (row next d - 1) + 3) mark → Put p₀ next₀ w l mark p′ next
 going-done {p₀} {next₀} {w} {l} {mark} {p} {next} {d} g all end p′ e = record {
   built = λ s before held f. done s before held f;
+  beside = both-change (g .beside) (subst (Beside p) (sym e) (mark-beside p (row next d - 1) mark (end .past)));
   raised = λ k a c. g .raised k a (omega arith);
   kept = λ k n. g .kept k (λ a c. n a (omega (arith, g .high)));
   levels = g .levels;
@@ -300,7 +305,7 @@ going-done {p₀} {next₀} {w} {l} {mark} {p} {next} {d} g all end p′ e = rec
         sets : Sets p p′ b (suc (mark - 1))
         sets =
             let z : suc (mark - 1) ≡ mark = omega (arith, f .marks) in
-            subst (λ (m : ℕ). Sets p p′ b m) (sym z) (mark-set p b mark p′ (end .past) (omega (arith, end .some, end .inside)) (gr .plain) e)
+            subst (λ (m : ℕ). Sets p p′ b m) (sym z) (mark-set p b mark p′ (end .past) (omega (arith, end .some, end .inside)) e)
 
 pub going-end : {p₀ next₀ w : List ℕ} {l mark : ℕ} {p next : List ℕ} {d : ℕ} → Going p₀ next₀ w l mark p next d → length w ≤ d → End p next d → Put p₀ next₀ w l mark (set p (8 * (row next d - 1) + 3) mark) next
 going-end {p₀} {next₀} {w} {l} {mark} {p} {next} {d} g all end = going-done g all end (set p (8 * (row next d - 1) + 3) mark) refl

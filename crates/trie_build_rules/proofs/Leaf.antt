@@ -14,7 +14,7 @@ use Rattle.trie_pool.specs.Cells.{scalarAt, firstAt, countAt, markAt}
 use Rattle.trie_pool.specs.Words.{none, at, on-place, child, rev}
 use Rattle.trie_pool.specs.Meaning.{Terms}
 use Rattle.trie_pool.specs.inner.Paths.{reach}
-use Rattle.trie_pool.specs.inner.Sound.{Fit, Plain}
+use Rattle.trie_pool.specs.inner.Sound.{Fit}
 use Rattle.trie_pool.proofs.Shape.{scan-new, climb, refit}
 use Rattle.trie_build_rules.specs.inner.Laid.{Laid, Appended}
 use Rattle.trie_build_rules.specs.inner.Growing.{Grown, Path, Leads, Marked, Ended, Blank}
@@ -38,7 +38,6 @@ pub record Done (p p′ : List ℕ) (next next′ : ℕ → ℕ) (d b x : ℕ) :
   pub appended : Appended p p′ b (next (suc d)) x (next (suc (suc d)))
   pub up : next′ (suc d) ≡ suc (next (suc d))
   pub other : (e : ℕ) → (e ≡ suc d → ⊥) → next′ e ≡ next e
-  pub plain : Plain p′
   pub same-long : length p′ ≡ length p
 
 module _ (p : List ℕ) (s next : ℕ → ℕ) (held : Terms) (w : List ℕ) (d b : ℕ) (a : Asks p s next held w d b) (p′ : List ℕ) (next′ : ℕ → ℕ) (h : Done p p′ next next′ d b (getD w d 0)) where
@@ -176,7 +175,6 @@ module _ (p : List ℕ) (s next : ℕ → ℕ) (held : Terms) (w : List ℕ) (d 
     laid = lays;
     top = h .other 256 (omega (arith, deep)) ∙ a .grown .top;
     in-use = h .appended .scalar-other 0 (λ z. fresh 0 0 (omega arith) (omega (arith, v .zero′)) (omega (arith, v .root)) z) ∙ a .grown .in-use;
-    plain = h .plain;
     fits = omega (arith, a .grown .fits, h .same-long);
     small = a .grown .small;
     fit = fit′;

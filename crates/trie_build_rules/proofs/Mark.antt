@@ -15,7 +15,7 @@ use Rattle.trie_pool.specs.Cells.{scalarAt, firstAt, countAt, markAt}
 use Rattle.trie_pool.specs.Words.{Place, none, at, on-place, scan, child, rev}
 use Rattle.trie_pool.specs.Meaning.{Terms, same, withTerm}
 use Rattle.trie_pool.specs.inner.Paths.{reach}
-use Rattle.trie_pool.specs.inner.Sound.{Fit, Plain, Rising}
+use Rattle.trie_pool.specs.inner.Sound.{Fit, Rising}
 use Rattle.trie_pool.proofs.Shape.{child-found, step, refit}
 use Rattle.trie_pool.proofs.Sets.{same-true, same-self}
 use Rattle.trie_build_rules.specs.inner.Laid.{Laid}
@@ -29,7 +29,6 @@ pub record Sets (p p′ : List ℕ) (i m : ℕ) : Type 0 where
   pub count-same : (k : ℕ) → countAt p′ k ≡ countAt p k
   pub mark-new : markAt p′ i ≡ m
   pub mark-other : (k : ℕ) → (k ≡ i → ⊥) → markAt p′ k ≡ markAt p k
-  pub plain : Plain p′
   pub same-long : length p′ ≡ length p
 
 with-is : (w : List ℕ) (c : ℕ) (held : Terms) (v : List ℕ) → 1 ≤ length w → withTerm w c held v ≡ cond (same v w) (some c) (held v)
@@ -197,7 +196,6 @@ module _ (p : List ℕ) (s next : ℕ → ℕ) (held : Terms) (w : List ℕ) (e 
     laid = laid-same p p′ e (suc c) h s next (g .laid);
     top = g .top;
     in-use = h .scalar-same 0 ∙ g .in-use;
-    plain = h .plain;
     fits = omega (arith, g .fits, h .same-long);
     small = g .small;
     fit = fit′;

@@ -12,23 +12,27 @@ use Rattle.trie_pool.specs.Cells.{scalarAt, firstAt, countAt, markAt}
 use Rattle.trie_pool.specs.Words.{at, rev}
 use Rattle.trie_pool.specs.Meaning.{noTerm}
 use Rattle.trie_pool.specs.inner.Paths.{reach}
-use Rattle.trie_pool.specs.inner.Sound.{Plain, Fit}
+use Rattle.trie_pool.specs.inner.Sound.{Fit}
 use Rattle.trie_pool.proofs.Shape.{first-is, count-is, mark-is}
 use Rattle.trie_pool.proofs.Held.{root-mark}
 use Rattle.trie_build_rules.specs.inner.Laid.{Laid}
 use Rattle.trie_build_rules.specs.inner.Growing.{Grown, Path, Blank, Marked, Ended, Built, Bare, Starts}
 use Rattle.trie_build_rules.proofs.Whole.{scalar-is}
 
+first-cell : (i : ℕ) → 8 * i ≡ 8 * i + 0
+first-cell i = omega arith
+
 module _ (p : List ℕ) (s next : ℕ → ℕ) (b : Bare p (s 256)) (t : Starts s next) where
   first-root : firstAt p 0 ≡ 1
   first-root = first-is p 0 ∙ b .first
 
   no-count : (i : ℕ) → countAt p i ≡ 0
-  no-count i = count-is p i ∙ b .others (8 * i + 2) (omega arith) (omega arith)
+  no-count zero = count-is p 0 ∙ b .count
+  no-count (suc i) = count-is p (suc i) ∙ b .blank (suc i) 2 (omega arith) (omega arith)
 
   no-mark : (i : ℕ) → markAt p i ≡ 0
   no-mark zero = root-mark p
-  no-mark (suc i) = mark-is p (suc i) (omega arith) ∙ b .others (8 * suc i + 3) (omega arith) (omega arith)
+  no-mark (suc i) = mark-is p (suc i) (omega arith) ∙ b .blank (suc i) 3 (omega arith) (omega arith)
 
   -- only the root stands
   only-root : (d i : ℕ) → d ≤ 256 → s d ≤ i → i < next d → (d ≡ 0) × (i ≡ 0)
@@ -79,8 +83,8 @@ module _ (p : List ℕ) (s next : ℕ → ℕ) (b : Bare p (s 256)) (t : Starts 
   blank′ : (i : ℕ) → ((d : ℕ) → d ≤ 256 → s d ≤ i → i < next d → ⊥) → Blank p i
   blank′ zero no′ = absurd (no′ 0 (omega arith) (omega (arith, t .zero′)) (omega (arith, t .root)))
   blank′ (suc i) no′ = record {
-    scalar = scalar-is p (suc i) ∙ b .others (8 * suc i) (omega arith) (omega arith);
-    first = first-is p (suc i) ∙ b .others (8 * suc i + 1) (omega arith) (omega arith);
+    scalar = scalar-is p (suc i) ∙ ap (λ (k : ℕ). getD p k 0) (first-cell (suc i)) ∙ b .blank (suc i) 0 (omega arith) (omega arith);
+    first = first-is p (suc i) ∙ b .blank (suc i) 1 (omega arith) (omega arith);
     count = no-count (suc i);
     mark = no-mark (suc i);
   }
@@ -90,7 +94,6 @@ module _ (p : List ℕ) (s next : ℕ → ℕ) (b : Bare p (s 256)) (t : Starts 
     laid = laid;
     top = t .empty 256 (omega arith) (omega arith);
     in-use = scalar-is p 0 ∙ b .used;
-    plain = record { root = b .others 3 (omega arith) (omega arith); aside = λ i r l m. b .others (8 * i + r) (omega arith) (omega arith) };
     fits = b .fits;
     small = b .small;
     fit = λ d i o l a c. absurd (none-yet d i o l a c);

@@ -64,7 +64,7 @@ module _ (p : List ℕ) (s next : ℕ → ℕ) (held : Terms) (g : Grown p s nex
   pub whole-sound : Sound p (s 256) 0
   whole-sound = record {
     shaped = all-shaped p s next v full (g .top);
-    fits = omega (arith, g .fits);
+    fits = g .fits;
     small = g .small;
     rising = all-rising p s next v full (g .top);
     fit = λ i o l. let y = below i o l in g .fit (y .d) i (y .some′) (y .few) (y .low) (y .high);

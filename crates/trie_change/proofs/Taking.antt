@@ -54,10 +54,10 @@ past : (p : List ℕ) (b j : ℕ) → Prunes p b j → 0 < j
 past p b j h = omega (arith, h .sound .shaped .ahead b (inside-prune p b j h .2), h .from)
 
 pub stays-count : (p : List ℕ) (b j : ℕ) → Prunes p b j → (getD p (8 * j + 2) 0 ≡ 0 → ⊥) → Pruned p p b
-stays-count p b j h ne = record { sound = sound-any p (used p) j b (omega (arith, count-is p j)) (h .sound); keeps = λ v z e l. e; same = λ v. refl; beside = no-change p }
+stays-count p b j h ne = record { sound = sound-any p (used p) j b (omega (arith, count-is p j)) (h .sound); keeps = λ v z e l. e; same = λ v. refl; fewer = omega arith; beside = no-change p }
 
 pub stays-mark : (p : List ℕ) (b j : ℕ) → Prunes p b j → (getD p (8 * j + 3) 0 ≡ 0 → ⊥) → Pruned p p b
-stays-mark p b j h ne = record { sound = sound-any p (used p) j b (omega (arith, mark-is p j (past p b j h))) (h .sound); keeps = λ v z e l. e; same = λ v. refl; beside = no-change p }
+stays-mark p b j h ne = record { sound = sound-any p (used p) j b (omega (arith, mark-is p j (past p b j h))) (h .sound); keeps = λ v z e l. e; same = λ v. refl; fewer = omega arith; beside = no-change p }
 
 suc-of : (p : List ℕ) (b j n : ℕ) → Prunes p b j → n ≡ used p → used p ≡ suc (n - 1)
 suc-of p b j n h e = omega (arith, h .sound .shaped .some)
@@ -86,6 +86,7 @@ pruned p q b j n h e long k = record {
       let f = back p q (n - 1) b j s par (h .from) (h .upto) (k .planted) r v x t (omega (arith, after)) in
       f .leads ∙ ap at (pick (decLt (f .old) j) (f .is) (omega (arith, after)));
   same = terms′ p q (n - 1) b j s par (h .from) (h .upto) (k .planted) r;
+  fewer = omega (arith, k .spare .used, e);
   beside = turned (k .planted .beside);
 }
   where
@@ -131,6 +132,7 @@ cleared p [] b h z u e =
       keeps = λ v x t c. reach-same p b 0 l some v ∙ t;
       gone = held p b 0 l some u e;
       others = λ v ne. others p b 0 l some (used p) (h .sound .shaped) u v e ne;
+      fewer = omega (arith, same);
       beside = beside p b 0 l some;
     }
 cleared p (x ∷ w) b h z u e = absurd (omega arith)
@@ -149,6 +151,7 @@ lost p (x ∷ w) b k h ne e q u t = record {
   keeps = λ v z f l. f;
   gone = ap (on-place option.none (λ r. term (markAt p r))) (walk-reach p u (x ∷ w) ∙ ap (on-place none (λ i. walk p (x ∷ w) i)) t ∙ ap (on-place none (λ r. walk p w r)) (sym e ∙ ap toPlace q));
   others = λ v n. refl;
+  fewer = omega arith;
   beside = no-change p;
 }
   where
@@ -205,6 +208,7 @@ module _ (p w p₁ : List ℕ) (b r : ℕ) (k : Kid) (h : Removes p b w) (ne : l
         keeps = λ v z g l. t .keeps v z (d .keeps v z g (omega (arith, later))) l;
         gone = t .same (rev u w) ∙ ap (termAt p₁) (sym (word u)) ∙ d .gone;
         others = λ v n. t .same v ∙ d .others v (λ z. n (z ∙ word u));
+        fewer = omega (arith, t .fewer, d .fewer);
         beside = both-change (d .beside) (t .beside);
       }
 

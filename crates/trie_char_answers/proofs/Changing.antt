@@ -39,20 +39,20 @@ use Rattle.trie_check.proofs.Parts.{known-is, terms-yes, terms-is, inside, cell
 
 -- ---- marks and classes
 
-term-mark : (m c : ℕ) → m ≡ c + 1 → term m ≡ some c
+pub term-mark : (m c : ℕ) → m ≡ c + 1 → term m ≡ some c
 term-mark m c e = ap term (e ∙ add-one c)
 
 -- another mark is another class, or none
-changed : (m c : ℕ) → (m ≡ c + 1 → ⊥) → 1 ≡ differ (term m) (some c)
+pub changed : (m c : ℕ) → (m ≡ c + 1 → ⊥) → 1 ≡ differ (term m) (some c)
 changed zero c ne = refl
 changed (suc a) c ne = sym (ap {B = ℕ} (λ (b : Bool). cond b 0 1) (ne-eqb a c (λ e. ne (omega arith))))
 
-gone : (m : ℕ) → (m ≡ 0 → ⊥) → 1 ≡ differ (term m) none
+pub gone : (m : ℕ) → (m ≡ 0 → ⊥) → 1 ≡ differ (term m) none
 gone zero ne = absurd (ne refl)
 gone (suc a) ne = refl
 
 -- a word that is held is not empty
-some-word : (p t : List ℕ) (m : ℕ) → term m ≡ termAt p t → (m ≡ 0 → ⊥) → 1 ≤ length t
+pub some-word : (p t : List ℕ) (m : ℕ) → term m ≡ termAt p t → (m ≡ 0 → ⊥) → 1 ≤ length t
 some-word p (x ∷ t) m e ne = omega arith
 some-word p [] m e ne = absurd (ne (zero-of m (e ∙ ap term (root-mark p))))
   where

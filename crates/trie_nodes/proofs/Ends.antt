@@ -10,15 +10,18 @@ use Rattle.trie_pool.proofs.Shape.{count-is}
 use Rattle.trie_node.specs.inner.Checks.{Decides, Stands}
 use Rattle.trie_nodes.specs.declared.Walk.{Walk}
 use Rattle.trie_nodes.specs.inner.Falls.{none, fall, first}
-use Rattle.trie_nodes.specs.inner.Walking.{Aside, Nodes, Walking, Next, At, Parents, Leaves}
+use Rattle.trie_nodes.specs.inner.Walking.{Aside, Nodes, PlainNodes, Walking, Next, At, Parents, Leaves}
 use Rattle.trie_nodes.proofs.Cells.{first-none}
 use Rattle.trie_nodes.proofs.Walks.{walking-none, walking-more, wrong-far, done}
 
 -- ---- the root
 
-pub root-of : {p : List ℕ} {n : ℕ} → Nodes p n → (getD p 1 0 ≡ 1) × Aside p 0
+pub root-first : {p : List ℕ} {n : ℕ} → Nodes p n → getD p 1 0 ≡ 1
 unfolding firstAt
-root-of h = (h .shaped .start, h .aside 0 (h .shaped .some))
+root-first h = h .shaped .start
+
+pub root-of : {p : List ℕ} {n : ℕ} → PlainNodes p n → (getD p 1 0 ≡ 1) × Aside p 0
+root-of h = (root-first (h .nodes), h .aside 0 (h .nodes .shaped .some))
 
 -- k children
 pub walking-first : (p : List ℕ) (n k b : ℕ) → k ≡ getD p 2 0 → 0 < n → b ≤ 1 → (k < n → scalarAt p 0 < none → b ≡ first (scalarAt p) 1 k) → Walking p n 1 (1 + k) 0 b
@@ -45,24 +48,34 @@ walking-leaf p n i s f b r v e l stands q falls =
 
 -- ---- how they end
 
+pub parents-wrong : {p : List ℕ} {n s : ℕ} {W : Type 0} → s < n → (Nodes p n → ⊥) → Parents p n s W
+parents-wrong l no′ = record { right = λ e. absurd (omega arith); wrong = λ q. no′ }
+
+module _ {p : List ℕ} {n i s : ℕ} {W : Type 0} where
+  pub leaves-wrong : W → s ≡ n → (Nodes p n → ⊥) → Leaves p n i s W
+  leaves-wrong w e no′ = record { walk = w; here = e; wrong = λ q. no′ }
+
+  module _ {f b : ℕ} (v : Walking p n i s f b) (w : W) where
+    pub parents-right : n ≤ s → Parents p n s W
+    parents-right l = record { right = λ e. w; wrong = λ q. wrong-far v l q }
+
+    pub leaves-right : s ≡ n → n ≤ i → Leaves p n i s W
+    leaves-right e l = record { walk = w; here = e; wrong = λ q h. q (omega (arith, v .upto)) }
+
+-- the walk is through
+pub ended : {p : List ℕ} {n i s f b : ℕ} → Walking p n i s f b → s ≡ n → i ≡ n → 0 < n → n ≤ 1048576 → getD p 0 0 ≡ n → getD p 1 0 ≡ 1 → Decides (eqb f b) (Nodes p n)
+ended {p} {n} {i} {s} {f} {b} v h e some small used root = done p n (subst (λ (t : ℕ). Walking p n t s f b) e v) h some small used root
+
+-- second halves that are 0
 module _ {p : List ℕ} {n : ℕ} {w : Walk} where
-  pub parents-wrong : w .s < n → (Nodes p n → ⊥) → Parents p n w
-  parents-wrong l no′ = record { right = λ e. absurd (omega arith); wrong = λ q. no′ }
-
-  pub parents-right : At p n w → n ≤ w .s → Parents p n w
-  parents-right v l = record { right = λ e. v; wrong = λ q. wrong-far (v .0) l q }
-
-  pub leaves-wrong : At p n w → w .s ≡ n → (Nodes p n → ⊥) → Leaves p n w
-  leaves-wrong v e no′ = record { walk = v; here = e; wrong = λ q. no′ }
-
-  pub leaves-right : At p n w → w .s ≡ n → n ≤ w .i → Leaves p n w
-  leaves-right v e l = record { walk = v; here = e; wrong = λ q h. q (omega (arith, v .0 .upto)) }
-
-  -- second halves that are 0
-  pub zeros-in : At p n w → w .i ≡ n → Nodes p n → (w .fifth ≡ 0) × (w .sixth ≡ 0) × (w .seventh ≡ 0) × (w .eighth ≡ 0)
+  pub zeros-in : At p n w → w .i ≡ n → PlainNodes p n → (w .fifth ≡ 0) × (w .sixth ≡ 0) × (w .seventh ≡ 0) × (w .eighth ≡ 0)
   zeros-in v e h = v .1 .all (λ j l. h .aside j (omega arith))
 
-  pub finish : Leaves p n w → w .i ≡ n → 0 < n → n ≤ 1048576 → getD p 0 0 ≡ n → getD p 1 0 ≡ 1 → (w .fifth ≡ 0) × (w .sixth ≡ 0) × (w .seventh ≡ 0) × (w .eighth ≡ 0) → Decides (eqb (w .falls) (w .starts)) (Nodes p n)
+  pub finish : Leaves p n (w .i) (w .s) (At p n w) → w .i ≡ n → 0 < n → n ≤ 1048576 → getD p 0 0 ≡ n → getD p 1 0 ≡ 1 → (w .fifth ≡ 0) × (w .sixth ≡ 0) × (w .seventh ≡ 0) × (w .eighth ≡ 0)
+      → Decides (eqb (w .falls) (w .starts)) (PlainNodes p n)
   finish h e some small used root z =
-      done p n (subst (λ (t : ℕ). Walking p n t (w .s) (w .falls) (w .starts)) e (h .walk .0)) (h .here) some small used root
-      (λ j l. h .walk .1 .none (z .0) (z .1) (z .2) (z .3) j (omega arith))
+      let d = ended (h .walk .0) (h .here) e some small used root in
+      record {
+        yes′ = λ y. record { nodes = d .yes′ y; aside = λ j l. h .walk .1 .none (z .0) (z .1) (z .2) (z .3) j (omega arith) };
+        no′ = λ y q. d .no′ y (q .nodes);
+      }

@@ -14,7 +14,7 @@ use Rattle.trie_pool.specs.inner.Sound.{Shaped, Rising}
 use Rattle.trie_node.specs.inner.Checks.{Decides, Stands}
 use Rattle.trie_node.proofs.Decide.{clash}
 use Rattle.trie_nodes.specs.inner.Falls.{none, fall, falls, place, first, starts}
-use Rattle.trie_nodes.specs.inner.Walking.{Each, Aside, Nodes, Low, Walking, Next}
+use Rattle.trie_nodes.specs.inner.Walking.{Each, Nodes, Low, Walking, Next}
 use Rattle.trie_nodes.proofs.Falls.{all-rise, as-many}
 use Rattle.trie_nodes.proofs.Cells.{falls-few}
 
@@ -140,7 +140,7 @@ scalar-low c e = pick (decLt c 0x110000)
     pick (yes q) = omega arith
     pick (no q) = clash (sym (simp (le-ltb c 0xD800 (omega arith), le-leb 0xE000 c (omega arith), lt-leb c 0x10FFFF (omega arith))) ∙ e)
 
-module _ (p : List ℕ) (n : ℕ) {s f b : ℕ} (v : Walking p n n s f b) (e : s ≡ n) (some : 0 < n) (small : n ≤ 1048576) (used : getD p 0 0 ≡ n) (root : getD p 1 0 ≡ 1) (zeros : (j : ℕ) → j < n → Aside p j) where
+module _ (p : List ℕ) (n : ℕ) {s f b : ℕ} (v : Walking p n n s f b) (e : s ≡ n) (some : 0 < n) (small : n ≤ 1048576) (used : getD p 0 0 ≡ n) (root : getD p 1 0 ≡ 1) where
   low : Low p n
   unfolding scalarAt
   low zero l = omega arith
@@ -183,7 +183,6 @@ module _ (p : List ℕ) (n : ℕ) {s f b : ℕ} (v : Walking p n n s f b) (e : s
       rising = rises j l;
       inner = λ a. v .each j a l .inner;
     };
-    aside = zeros;
   }
     where
       one : place (countAt p) 0 ≡ 1

@@ -9,13 +9,13 @@ use trie_pool::FIRST;
 use trie_pool::HALF;
 use trie_pool::NODE;
 ghost use mathlib.Core.Path.{_≡_};
-ghost use Prim.Native.Nat.{_-_, _*_, _≤_, _<_};
+ghost use Prim.Native.Nat.{_+_, _-_, _*_, _≤_, _<_};
 ghost use lib.ListN.{length, getD};
 ghost use Rattle.refusal.specs.Limits.{maxNodes};
 ghost use Rattle.trie_pool.specs.Cells.{nodeCells, scalarAt, used};
 ghost use Rattle.trie_node.specs.inner.Checks.{Decides};
 ghost use Rattle.trie_nodes.specs.inner.Falls.{none, fallTo, orNone, fall, first};
-ghost use Rattle.trie_nodes.specs.inner.Walking.{Aside, Nodes, At, Parents, Leaves};
+ghost use Rattle.trie_nodes.specs.inner.Walking.{Aside, PlainNodes, At, Parents, Leaves};
 
 // Above every scalar.
 const NONE: u32 = 0xFFFFFFFF;
@@ -38,7 +38,7 @@ pub struct Walk {
 }
 
 // A cell as a number.
-fn number(x: u32) -> usize
+pub fn number(x: u32) -> usize
     ensures { λ r. ⌜ r ≡ x ⌝ }
     ensures { λ r. ⌜ r ≤ 0xFFFFFFFF ⌝ }
 {
@@ -66,7 +66,7 @@ fn or_none(x: u32, k: usize) -> u32
 }
 
 // 1 if the first of k children, which start at s, falls, else 0.
-fn start_falls(p: &[u32], s: usize, k: usize) -> usize
+pub fn start_falls(p: &[u32], s: usize, k: usize) -> usize
     requires { ⌜ (0 < s) × (nodeCells * s < length (now p)) ⌝ }
     ensures { λ r. ⌜ (scalarAt (now (p .entry)) (s - 1) < none → r ≡ first (scalarAt (now (p .entry))) s k) ⌝ }
     ensures { λ r. ⌜ r ≤ 1 ⌝ }
@@ -76,8 +76,8 @@ fn start_falls(p: &[u32], s: usize, k: usize) -> usize
 }
 
 // The same of the root's children, of which there may be none.
-fn root_falls(p: &[u32], n: usize, k: usize) -> usize
-    requires { ⌜ (0 < n) × (nodeCells * n ≤ length (now p)) ⌝ }
+pub fn root_falls(p: &[u32], n: usize, k: usize) -> usize
+    requires { ⌜ (0 < n) × (nodeCells * n ≤ length (now p) + 4) ⌝ }
     ensures { λ r. ⌜ (k < n → scalarAt (now (p .entry)) 0 < none → r ≡ first (scalarAt (now (p .entry))) 1 k) ⌝ }
     ensures { λ r. ⌜ r ≤ 1 ⌝ }
 {
@@ -88,7 +88,7 @@ fn root_falls(p: &[u32], n: usize, k: usize) -> usize
 }
 
 // 1 if node i falls, else 0.
-fn fall_at(p: &[u32], i: usize) -> usize
+pub fn fall_at(p: &[u32], i: usize) -> usize
     requires { ⌜ (0 < i) × (nodeCells * i < length (now p)) ⌝ }
     ensures { λ r. ⌜ r ≡ fall (scalarAt (now (p .entry))) (i - 1) ⌝ }
     ensures { λ r. ⌜ r ≤ 1 ⌝ }
@@ -101,7 +101,7 @@ fn fall_at(p: &[u32], i: usize) -> usize
 // n at the end: it stops where a node is wrong.
 fn parents(p: &[u32], n: usize) -> Walk
     requires { ⌜ (0 < n) × (n ≤ maxNodes) × (nodeCells * n ≤ length (now p)) × (Aside (now p) 0) ⌝ }
-    ensures { λ r. ⌜ Parents (now (p .entry)) n r ⌝ }
+    ensures { λ r. ⌜ Parents (now (p .entry)) n (r .s) (At (now (p .entry)) n r) ⌝ }
 {
     let count = number(p[COUNT]);
     let mut i: usize = 1;
@@ -163,7 +163,7 @@ fn parents(p: &[u32], n: usize) -> Walk
 // The rest of the walk, over nodes without children. All is right if i is n at the end.
 fn leaves(p: &[u32], n: usize, from: Walk) -> Walk
     requires { ⌜ (n ≤ maxNodes) × (nodeCells * n ≤ length (now p)) × (At (now p) n from) × (from .s ≡ n) ⌝ }
-    ensures { λ r. ⌜ Leaves (now (p .entry)) n r ⌝ }
+    ensures { λ r. ⌜ Leaves (now (p .entry)) n (r .i) (r .s) (At (now (p .entry)) n r) ⌝ }
 {
     let s = from.s;
     let starts = from.starts;
@@ -252,7 +252,7 @@ fn root_ok(p: &[u32]) -> bool
 // one.
 pub fn nodes_ok(p: &[u32], n: usize) -> bool
     requires { ⌜ (0 < n) × (n ≤ maxNodes) × (nodeCells * n ≤ length (now p)) × (used (now p) ≡ n) ⌝ }
-    ensures { λ r. ⌜ Decides r (Nodes (now (p .entry)) n) ⌝ }
+    ensures { λ r. ⌜ Decides r (PlainNodes (now (p .entry)) n) ⌝ }
 {
     if !root_ok(p) {
         return false;

@@ -14,7 +14,7 @@ use Rattle.trie_pool.specs.inner.Sound.{Shaped, Plain, Sound}
 use Rattle.trie_pool.specs.Levels.{hop, levelEnd}
 use Rattle.trie_pool.proofs.Shape.{within}
 use Rattle.trie_node.specs.inner.Checks.{Decides}
-use Rattle.trie_nodes.specs.inner.Walking.{Nodes}
+use Rattle.trie_nodes.specs.inner.Walking.{Nodes, PlainNodes}
 use Rattle.trie_node.proofs.Decide.{clash}
 
 -- ---- levels
@@ -55,8 +55,8 @@ level-done p n e d v l =
 
 -- ---- the whole
 
-pub nodes-of : (p : List ℕ) (n : ℕ) → Sound p n 0 → Plain p → Nodes p n
-nodes-of p n h f = record {
+pub nodes-of : (p : List ℕ) (n : ℕ) → Sound p n 0 → Nodes p n
+nodes-of p n h = record {
   shaped = h .shaped;
   each = λ i l. record {
     first = refl;
@@ -65,16 +65,18 @@ nodes-of p n h f = record {
     rising = h .rising i l;
     inner = λ q. record { fit = h .fit i q l; leaf = h .leaf i q l (omega arith) };
   };
-  aside = λ i l. record { zeros = f .aside i };
 }
 
-pub sound-of : (p : List ℕ) (n : ℕ) → Nodes p n → 8 * n ≤ length p → n ≤ 1048576 → getD p 0 0 ≡ n
-    → ((k : ℕ) → 8 * n ≤ k → getD p k 0 ≡ 0) → ((i : ℕ) → 0 < i → i ≤ countAt p 0 → isTrimmed (scalarAt p i) ≡ false) → levelEnd p n 255 ≡ n → Sound p n 0
+pub plain-nodes-of : (p : List ℕ) (n : ℕ) → Sound p n 0 → Plain p → PlainNodes p n
+plain-nodes-of p n h f = record { nodes = nodes-of p n h; aside = λ i l. record { zeros = f .aside i } }
+
+pub sound-of : (p : List ℕ) (n : ℕ) → Nodes p n → 8 * n ≤ length p + 4 → n ≤ 1048576 → getD p 0 0 ≡ n
+    → ((i r : ℕ) → n ≤ i → r < 4 → getD p (8 * i + r) 0 ≡ 0) → ((i : ℕ) → 0 < i → i ≤ countAt p 0 → isTrimmed (scalarAt p i) ≡ false) → levelEnd p n 255 ≡ n → Sound p n 0
 sound-of p n h fit small used blank starts deep = record {
   shaped = h .shaped;
-  fits = omega arith;
+  fits = fit;
   small = small;
-  spare = record { used = used; blank = λ i r a b. blank (8 * i + r) (omega arith) };
+  spare = record { used = used; blank = blank };
   fit = λ i a l. h .each i l .inner a .fit;
   start = starts;
   leaf = λ i a l ne. h .each i l .inner a .leaf;
@@ -82,7 +84,7 @@ sound-of p n h fit small used blank starts deep = record {
   shallow = deep;
 }
 
-pub plain-of : (p : List ℕ) (n : ℕ) → Nodes p n → getD p 3 0 ≡ 0 → ((k : ℕ) → 8 * n ≤ k → getD p k 0 ≡ 0) → Plain p
+pub plain-of : (p : List ℕ) (n : ℕ) → PlainNodes p n → getD p 3 0 ≡ 0 → ((k : ℕ) → 8 * n ≤ k → getD p k 0 ≡ 0) → Plain p
 plain-of p n h root blank = record { root = root; aside = λ i r a b. go i r a b (decLt i n) }
   where
     go : (i r : ℕ) → 4 ≤ r → r < 8 → Dec (i < n) → getD p (8 * i + r) 0 ≡ 0

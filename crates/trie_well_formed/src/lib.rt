@@ -23,7 +23,7 @@ ghost use Rattle.trie_pool.specs.Rules.{wellFormed};
 ghost use Rattle.trie_node.specs.inner.Checks.{Decides};
 
 // Whether none of the nodes from 1 to k has a trimmed scalar.
-fn starts_ok(p: &[u32], k: usize) -> bool
+pub fn starts_ok(p: &[u32], k: usize) -> bool
     requires { ⌜ nodeCells * k < length (now p) ⌝ }
     ensures { λ r. ⌜ Decides r ((i : ℕ) → 0 < i → i ≤ k → isTrimmed (scalarAt (now (p .entry)) i) ≡ false) ⌝ }
 {
@@ -38,7 +38,7 @@ fn starts_ok(p: &[u32], k: usize) -> bool
 }
 
 // Whether the nodes stand on at most 255 levels below the root.
-fn shallow(p: &[u32], n: usize) -> bool
+pub fn shallow(p: &[u32], n: usize) -> bool
     requires { ⌜ (Shaped (now p) n) × (nodeCells * n ≤ length (now p) + 4) ⌝ }
     ensures { λ r. ⌜ Decides r (levelEnd (now (p .entry)) n maxWord ≡ n) ⌝ }
 {
@@ -55,7 +55,7 @@ fn shallow(p: &[u32], n: usize) -> bool
 }
 
 // Whether every cell from k on is 0.
-fn blank(p: &[u32], k: usize) -> bool
+pub fn blank(p: &[u32], k: usize) -> bool
     ensures { λ r. ⌜ Decides r ((i : ℕ) → k ≤ i → getD (now (p .entry)) i 0 ≡ 0) ⌝ }
 {
     let mut all: u32 = 0;

@@ -17,7 +17,9 @@ use Rattle.trie_pool.specs.Cells.{used}
 use Rattle.trie_pool.specs.Words.{termAt}
 use Rattle.trie_pool.specs.Rules.{capacity, isDictionary}
 use Rattle.trie_pool.specs.Meaning.{Terms}
-use Rattle.trie_check.proofs.Parts.{is-none, long, inside}
+use Rattle.trie_check.proofs.Parts.{is-none, long, inside, sound-part, plain-part}
+use Rattle.trie_leaf.specs.inner.Planting.{Beside}
+use Rattle.trie_change.proofs.Sides.{plain-kept}
 use Rattle.trie_char_answers.specs.Changes.{Became}
 use Rattle.trie_char_answers.proofs.Changing.{became}
 use Rattle.image_rules.specs.Records.{Term}
@@ -94,6 +96,7 @@ module _ (pool image : List ℕ) (b : Bool) (is : b ≡ isDictionary pool) where
       module _ (h : 1 + nodes ≤ n) where
         pub builds : Builds image (take (8 * n) pool) levels (1 + nodes)
         builds = record {
+          sound = sound-part pool n n-is (sym is ∙ e);
           terms = l .terms;
           reads = l .reads;
           news = l .news;
@@ -109,10 +112,10 @@ module _ (pool image : List ℕ) (b : Bool) (is : b ≡ isDictionary pool) where
             ap Accepted (l .number)
             ∙ sym (by-list ∙ ap (λ (z : Bool). cond z (Refused (TooFewNodes (suc (charge (l .terms)) - capacity pool))) (Accepted (length (l .terms)))) (le-ltb (capacity pool) (suc (charge (l .terms))) room))
 
-        pub done : (new : List ℕ) → length new ≡ length (take (8 * n) pool) → Placed image new
+        pub done : (new : List ℕ) → length new ≡ length (take (8 * n) pool) → Placed image new → Beside (take (8 * n) pool) new
             → (Accepted words ≡ readAnswer image pool) × Became pool (new ++ drop (8 * n) pool) (imageTerms image)
-        done new k p =
+        done new k p q =
             let o = p .is (l .terms) (l .reads) (used new) refl in (
               accepted,
-              became pool n n-is new (imageTerms image) (k ∙ long pool n n-is) (o .sound) (o .plain) (λ v. o .held v ∙ ap (λ (z : Read). termsIn (listIn z) v) (sym (l .reads))),
+              became pool n n-is new (imageTerms image) (k ∙ long pool n n-is) (o .sound) (plain-kept q (plain-part pool n n-is (sym is ∙ e))) (λ v. o .held v ∙ ap (λ (z : Read). termsIn (listIn z) v) (sym (l .reads))),
             )

@@ -23,7 +23,7 @@ use Rattle.image_bytes.specs.inner.Laying.{laidAt}
 use Rattle.word_list_write.specs.Answers.{imageIn, writeAnswer}
 
 -- a part laid on the front
-laid-front : (part row : List ℕ) → laidAt 0 part row ≡ part ++ drop (length part) row
+pub laid-front : (part row : List ℕ) → laidAt 0 part row ≡ part ++ drop (length part) row
 unfolding laidAt
 laid-front part row = let z : 0 + length part ≡ length part = omega arith in ap (λ (k : ℕ). part ++ drop k row) z
 

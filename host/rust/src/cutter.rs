@@ -132,11 +132,19 @@ impl Cutter {
 
     /// Cuts a text by the words of a dictionary. Joined, the tokens are the text. Refused with 2.
     pub fn cut<'t>(&mut self, dictionary: &Dictionary, text: &'t str, mode: Mode) -> Result<Cut<'t>, Error> {
+        self.ended(text, |cells, out, scratch| ffi::cut(mode, cells, dictionary.pool(), out, scratch))
+    }
+
+    /// What a call writes and tells of where a text's tokens end, which is lent its cells, a row of ends and scratch.
+    pub(crate) fn ended<'t>(
+        &mut self,
+        text: &'t str,
+        call: impl FnOnce(&[u32], &mut [u32], &mut [u32]) -> Result<(usize, usize), Error>,
+    ) -> Result<Cut<'t>, Error> {
         let decoded = decode(text.as_bytes())?;
         let cells = decoded.scalars();
         self.ends.resize(self.ends.len().max(cells.len()), 0);
-        let scratch = scratch_for(&mut self.scratch, cells.len());
-        let (count, edges) = ffi::cut(mode, cells, dictionary.pool(), &mut self.ends, scratch)?;
+        let (count, edges) = call(cells, &mut self.ends, scratch_for(&mut self.scratch, cells.len()))?;
         Ok(Cut { tokens: tokens(text, &decoded, plainly(&self.ends[..count])), edges })
     }
 

@@ -10,7 +10,7 @@ pub enum Error {
     TooManyScalars(usize),
     /// 3: a cell isn't a Unicode scalar value. The index of the first. No call on a `str` has it.
     NotAScalar(usize),
-    /// 4: the pool isn't a dictionary.
+    /// 4: the pool isn't a dictionary, or none that two plants share.
     NotADictionary,
     /// 5: scratch has fewer than 9n+128 cells. 9n+128. A `Cutter`'s own scratch always suffices.
     ScratchTooShort(usize),
@@ -18,7 +18,7 @@ pub enum Error {
     OutputTooShort(usize),
     /// 7: the word is over 255 scalars after trimming. Its trimmed length.
     WordTooLong(usize),
-    /// 8: the dictionary would pass 1,048,576 nodes. The nodes missing.
+    /// 8: the dictionary would pass 1,048,576 nodes, or a plant its limit. The nodes missing.
     TooFewNodes(usize),
     /// 9: an image isn't as it must be. The offset of its first record that isn't.
     BadImage(usize),
@@ -26,6 +26,8 @@ pub enum Error {
     WrongPosition(usize),
     /// 11: a map has a bit set above n in its last used cell. The lowest such position. The maps of this crate have none.
     BitAboveEnd(usize),
+    /// 12: the limits of two plants sum to more than the pool's nodes less one.
+    LimitsTooLarge,
     /// 13: a release figure would be too large.
     FiguresFull,
 }
@@ -45,6 +47,7 @@ impl Error {
             Error::BadImage(_) => 9,
             Error::WrongPosition(_) => 10,
             Error::BitAboveEnd(_) => 11,
+            Error::LimitsTooLarge => 12,
             Error::FiguresFull => 13,
         }
     }
@@ -64,6 +67,7 @@ impl fmt::Display for Error {
             Error::BadImage(n) => write!(f, "the image's record at byte {n} isn't as it must be"),
             Error::WrongPosition(n) => write!(f, "the position {n}, or the one with that index, is wrong"),
             Error::BitAboveEnd(n) => write!(f, "the map has a bit above its end, at {n}"),
+            Error::LimitsTooLarge => write!(f, "the limits sum to more than the nodes less one"),
             Error::FiguresFull => write!(f, "a release figure would be too large"),
         }
     }
@@ -121,6 +125,7 @@ pub(crate) fn accepted<T>(number: u32, detail: usize, answer: T) -> Result<T, Er
         9 => Error::BadImage(detail),
         10 => Error::WrongPosition(detail),
         11 => Error::BitAboveEnd(detail),
+        12 => Error::LimitsTooLarge,
         13 => Error::FiguresFull,
         other => unreachable!("the library has no refusal {other}"),
     })

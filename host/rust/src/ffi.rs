@@ -319,6 +319,163 @@ extern "C" {
         at: &mut usize,
         detail: &mut usize,
     ) -> u32;
+    fn fetlockice_plants_start(
+        pool: *mut u32,
+        pool_len: usize,
+        limit_a: usize,
+        limit_b: usize,
+        count: &mut usize,
+        detail: &mut usize,
+    ) -> u32;
+    fn fetlockice_plant_add(
+        pool: *mut u32,
+        pool_len: usize,
+        plant_b: bool,
+        word: *const u32,
+        word_len: usize,
+        word_class: u16,
+        count: &mut usize,
+        detail: &mut usize,
+    ) -> u32;
+    fn fetlockice_plant_remove(
+        pool: *mut u32,
+        pool_len: usize,
+        plant_b: bool,
+        word: *const u32,
+        word_len: usize,
+        count: &mut usize,
+        detail: &mut usize,
+    ) -> u32;
+    fn fetlockice_plant_contains(
+        pool: *const u32,
+        pool_len: usize,
+        plant_b: bool,
+        word: *const u32,
+        word_len: usize,
+        count: &mut usize,
+        word_class: &mut usize,
+        detail: &mut usize,
+    ) -> u32;
+    fn fetlockice_plant_prefix_lengths(
+        pool: *const u32,
+        pool_len: usize,
+        plant_b: bool,
+        text: *const u32,
+        text_len: usize,
+        out: *mut u32,
+        out_len: usize,
+        count: &mut usize,
+        detail: &mut usize,
+    ) -> u32;
+    fn fetlockice_plant_word_count(
+        pool: *const u32,
+        pool_len: usize,
+        plant_b: bool,
+        count: &mut usize,
+        detail: &mut usize,
+    ) -> u32;
+    fn fetlockice_plant_cut_plain(
+        text: *const u32,
+        text_len: usize,
+        pool: *const u32,
+        pool_len: usize,
+        plant_b: bool,
+        out: *mut u32,
+        out_len: usize,
+        scratch: *mut u32,
+        scratch_len: usize,
+        count: &mut usize,
+        edges: &mut usize,
+        detail: &mut usize,
+    ) -> u32;
+    fn fetlockice_plant_cut_safe(
+        text: *const u32,
+        text_len: usize,
+        pool: *const u32,
+        pool_len: usize,
+        plant_b: bool,
+        out: *mut u32,
+        out_len: usize,
+        scratch: *mut u32,
+        scratch_len: usize,
+        count: &mut usize,
+        edges: &mut usize,
+        detail: &mut usize,
+    ) -> u32;
+    fn fetlockice_plant_cut_sheet(
+        text: *const u32,
+        text_len: usize,
+        pool: *const u32,
+        pool_len: usize,
+        plant_b: bool,
+        out: *mut u32,
+        out_len: usize,
+        scratch: *mut u32,
+        scratch_len: usize,
+        count: &mut usize,
+        edges: &mut usize,
+        detail: &mut usize,
+    ) -> u32;
+    fn fetlockice_plant_reasons_plain(
+        text: *const u32,
+        text_len: usize,
+        pool: *const u32,
+        pool_len: usize,
+        plant_b: bool,
+        pairs: *mut u32,
+        pairs_len: usize,
+        scratch: *mut u32,
+        scratch_len: usize,
+        count: &mut usize,
+        edges: &mut usize,
+        detail: &mut usize,
+    ) -> u32;
+    fn fetlockice_plant_reasons_safe(
+        text: *const u32,
+        text_len: usize,
+        pool: *const u32,
+        pool_len: usize,
+        plant_b: bool,
+        pairs: *mut u32,
+        pairs_len: usize,
+        scratch: *mut u32,
+        scratch_len: usize,
+        count: &mut usize,
+        edges: &mut usize,
+        detail: &mut usize,
+    ) -> u32;
+    fn fetlockice_plant_reasons_sheet(
+        text: *const u32,
+        text_len: usize,
+        pool: *const u32,
+        pool_len: usize,
+        plant_b: bool,
+        pairs: *mut u32,
+        pairs_len: usize,
+        scratch: *mut u32,
+        scratch_len: usize,
+        count: &mut usize,
+        edges: &mut usize,
+        detail: &mut usize,
+    ) -> u32;
+    fn fetlockice_plant_read_image(
+        pool: *mut u32,
+        pool_len: usize,
+        plant_b: bool,
+        image: *const u8,
+        image_len: usize,
+        count: &mut usize,
+        detail: &mut usize,
+    ) -> u32;
+    fn fetlockice_plant_write_image(
+        pool: *const u32,
+        pool_len: usize,
+        plant_b: bool,
+        out: *mut u8,
+        out_len: usize,
+        count: &mut usize,
+        detail: &mut usize,
+    ) -> u32;
 }
 
 pub fn decode(bytes: &[u8], out: &mut [u32], positions: &mut [u32]) -> Result<usize, Error> {
@@ -662,4 +819,198 @@ pub fn next_break(n: usize, map: &[u64], position: usize) -> Result<Option<usize
     let number =
         unsafe { fetlockice_next_break(n, map.as_ptr(), map.len(), position, &mut found, &mut at, &mut detail) };
     accepted(number, detail, (found == 1).then_some(at))
+}
+
+pub fn plants_start(pool: &mut [u32], limit_a: usize, limit_b: usize) -> Result<usize, Error> {
+    let (mut count, mut detail) = (0, 0);
+    let number =
+        unsafe { fetlockice_plants_start(pool.as_mut_ptr(), pool.len(), limit_a, limit_b, &mut count, &mut detail) };
+    accepted(number, detail, count)
+}
+
+pub fn plant_add(pool: &mut [u32], plant_b: bool, word: &[u32], class: u16) -> Result<usize, Error> {
+    let (mut count, mut detail) = (0, 0);
+    let number = unsafe {
+        fetlockice_plant_add(
+            pool.as_mut_ptr(),
+            pool.len(),
+            plant_b,
+            word.as_ptr(),
+            word.len(),
+            class,
+            &mut count,
+            &mut detail,
+        )
+    };
+    accepted(number, detail, count)
+}
+
+pub fn plant_remove(pool: &mut [u32], plant_b: bool, word: &[u32]) -> Result<usize, Error> {
+    let (mut count, mut detail) = (0, 0);
+    let number = unsafe {
+        fetlockice_plant_remove(
+            pool.as_mut_ptr(),
+            pool.len(),
+            plant_b,
+            word.as_ptr(),
+            word.len(),
+            &mut count,
+            &mut detail,
+        )
+    };
+    accepted(number, detail, count)
+}
+
+/// 1 if the plant holds the word, else 0, and its class.
+pub fn plant_contains(pool: &[u32], plant_b: bool, word: &[u32]) -> Result<(usize, usize), Error> {
+    let (mut count, mut class, mut detail) = (0, 0, 0);
+    let number = unsafe {
+        fetlockice_plant_contains(
+            pool.as_ptr(),
+            pool.len(),
+            plant_b,
+            word.as_ptr(),
+            word.len(),
+            &mut count,
+            &mut class,
+            &mut detail,
+        )
+    };
+    accepted(number, detail, (count, class))
+}
+
+pub fn plant_prefix_lengths(pool: &[u32], plant_b: bool, text: &[u32], out: &mut [u32]) -> Result<usize, Error> {
+    let (mut count, mut detail) = (0, 0);
+    let number = unsafe {
+        fetlockice_plant_prefix_lengths(
+            pool.as_ptr(),
+            pool.len(),
+            plant_b,
+            text.as_ptr(),
+            text.len(),
+            out.as_mut_ptr(),
+            out.len(),
+            &mut count,
+            &mut detail,
+        )
+    };
+    accepted(number, detail, count)
+}
+
+pub fn plant_word_count(pool: &[u32], plant_b: bool) -> Result<usize, Error> {
+    let (mut count, mut detail) = (0, 0);
+    let number = unsafe { fetlockice_plant_word_count(pool.as_ptr(), pool.len(), plant_b, &mut count, &mut detail) };
+    accepted(number, detail, count)
+}
+
+/// The number of words.
+pub fn plant_read_image(pool: &mut [u32], plant_b: bool, image: &[u8]) -> Result<usize, Error> {
+    let (mut count, mut detail) = (0, 0);
+    let number = unsafe {
+        fetlockice_plant_read_image(
+            pool.as_mut_ptr(),
+            pool.len(),
+            plant_b,
+            image.as_ptr(),
+            image.len(),
+            &mut count,
+            &mut detail,
+        )
+    };
+    accepted(number, detail, count)
+}
+
+/// The number of bytes.
+pub fn plant_write_image(pool: &[u32], plant_b: bool, out: &mut [u8]) -> Result<usize, Error> {
+    let (mut count, mut detail) = (0, 0);
+    let number = unsafe {
+        fetlockice_plant_write_image(
+            pool.as_ptr(),
+            pool.len(),
+            plant_b,
+            out.as_mut_ptr(),
+            out.len(),
+            &mut count,
+            &mut detail,
+        )
+    };
+    accepted(number, detail, count)
+}
+
+/// The number of ends, and of edges.
+pub fn plant_cut(
+    mode: Mode,
+    text: &[u32],
+    pool: &[u32],
+    plant_b: bool,
+    out: &mut [u32],
+    scratch: &mut [u32],
+) -> Result<(usize, usize), Error> {
+    let call = match mode {
+        Mode::Plain => fetlockice_plant_cut_plain,
+        Mode::Safe => fetlockice_plant_cut_safe,
+        Mode::Sheet => fetlockice_plant_cut_sheet,
+    };
+    unsafe { plant_cut_by(call, text, pool, plant_b, out, scratch) }
+}
+
+/// The number of pairs, and of edges.
+pub fn plant_reasons(
+    mode: Mode,
+    text: &[u32],
+    pool: &[u32],
+    plant_b: bool,
+    pairs: &mut [u32],
+    scratch: &mut [u32],
+) -> Result<(usize, usize), Error> {
+    let call = match mode {
+        Mode::Plain => fetlockice_plant_reasons_plain,
+        Mode::Safe => fetlockice_plant_reasons_safe,
+        Mode::Sheet => fetlockice_plant_reasons_sheet,
+    };
+    unsafe { plant_cut_by(call, text, pool, plant_b, pairs, scratch) }
+}
+
+type PlantCutCall = unsafe extern "C" fn(
+    *const u32,
+    usize,
+    *const u32,
+    usize,
+    bool,
+    *mut u32,
+    usize,
+    *mut u32,
+    usize,
+    &mut usize,
+    &mut usize,
+    &mut usize,
+) -> u32;
+
+/// # Safety
+///
+/// The call is one of a plant's cuts of the header.
+unsafe fn plant_cut_by(
+    call: PlantCutCall,
+    text: &[u32],
+    pool: &[u32],
+    plant_b: bool,
+    out: &mut [u32],
+    scratch: &mut [u32],
+) -> Result<(usize, usize), Error> {
+    let (mut count, mut edges, mut detail) = (0, 0, 0);
+    let number = call(
+        text.as_ptr(),
+        text.len(),
+        pool.as_ptr(),
+        pool.len(),
+        plant_b,
+        out.as_mut_ptr(),
+        out.len(),
+        scratch.as_mut_ptr(),
+        scratch.len(),
+        &mut count,
+        &mut edges,
+        &mut detail,
+    );
+    accepted(number, detail, (count, edges))
 }

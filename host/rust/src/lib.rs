@@ -1,7 +1,7 @@
 //! Thai word cutting whose every answer is proved: a safe interface over the library of the repository's crates.
 //!
 //! ```
-//! use fetlockice::{Cutter, Dictionary, Figures, Mode, Reason};
+//! use fetlockice::{Cutter, Dictionary, Figures, Mode, Plant, Plants, Reason};
 //!
 //! let words = Dictionary::from_words(["กข", "กขค", "คง", "ง"])?;
 //! let cut = Cutter::new().cut(&words, "กขคง", Mode::Safe)?;
@@ -35,6 +35,13 @@
 //! }
 //! assert_eq!((figures.texts(), figures.characters(), figures.tokens()), (3, 7, 4));
 //! assert_eq!(figures.tokens_by(Reason::Word), 2);
+//!
+//! // two plants that share a pool: each adds, removes and cuts by its own words, up to its own limit
+//! let mut plants = Plants::start(64, 40, 23)?;
+//! plants.add(Plant::A, "กข")?;
+//! plants.add_class(Plant::B, "กขคง", 7)?;
+//! assert_eq!((plants.len(Plant::A), plants.class_of(Plant::B, "กขคง")?), (1, Some(7)));
+//! assert_eq!(plants.cut(Plant::B, &mut cutter, "กขคง", Mode::Plain)?.tokens.len(), 1);
 //! # Ok::<(), fetlockice::Error>(())
 //! ```
 mod cutter;
@@ -45,6 +52,7 @@ mod ffi;
 mod figures;
 mod image;
 mod map;
+mod plants;
 
 pub use cutter::{Cut, Cutter, Mode, Reason, Token, Verdict};
 pub use decoded::{decode, Decoded};
@@ -52,6 +60,7 @@ pub use dictionary::{Dictionary, MAX_NODES};
 pub use error::{Error, LoadError};
 pub use figures::Figures;
 pub use map::{BreakMap, Breaks};
+pub use plants::{Plant, Plants};
 
 /// The most scalars of a text.
 pub const MAX_SCALARS: usize = 65_535;

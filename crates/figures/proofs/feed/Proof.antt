@@ -1,6 +1,7 @@
 -- Assumes nothing.
 use native.Mathlib.Omega.{arith}
 use mathlib.Core.Path.{_≡_, sym, _∙_}
+use Rattle.trie_pool.specs.Meaning.{meaning}
 use Rattle.newmm_answers.specs.Calls.{call}
 use Rattle.newmm_reasons_answers.specs.Answers.{pairRoom}
 use Rattle.newmm_told.proofs.Told.{Came, came, told-room, told-fits, cleared-told}
@@ -25,7 +26,7 @@ use Rattle.newmm_told.proofs.tell.Reads as tell-reads
 -- what stands in scratch when the text is told
 come : (c : tie.After-ends-told)
     → Came (c .before .before .before .before .before .before .before .before .before .args .mode) (c .before .before .before .before .before .before .before .before .before .args .text .now)
-    (c .before .before .before .before .before .before .before .before .before .args .pool .now) (c .before .before .before .before .before .before .before .before .before .args .scratch .now)
+    (meaning (c .before .before .before .before .before .before .before .before .before .args .pool .now)) (c .before .before .before .before .before .before .before .before .before .args .scratch .now)
     (c .before .before .before .tell .last .1 .1 .0) (pairRoom (c .before .before .before .before .before .before .before .before .before .args .out .now)) (c .ends-told .result)
 come c = came (c .before .before .before .tell .ensures) (c .ends-told .ensures)
 

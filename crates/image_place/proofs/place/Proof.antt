@@ -43,7 +43,7 @@ same-length-4 : tie.Need-same-length-4 Inv-loop μ-loop
 same-length-4 c = c .before .before .before .before .loop .inv .rows .places ∙ sym (c .before .before .before .before .before .before .before .before .before .before .pre .1 .rows .places)
 
 returns : tie.Need-returns Inv-loop μ-loop
-returns c = stop-broken (c .before .before .before .before .loop .inv) (c .before .before .record-at .result) (c .before .before .record-at .ensures) (c .enum-told .given .1)
+returns c = (stop-broken (c .before .before .before .before .loop .inv) (c .before .before .record-at .result) (c .before .before .record-at .ensures) (c .enum-told .given .1), (c .before .before .before .before .loop .inv .beside, c .before .before .before .before .loop .inv .in-use))
 
 enum-told-2 : tie.Need-enum-told-2 Inv-loop μ-loop
 enum-told-2 c = search needs
@@ -61,7 +61,7 @@ same-length-8 : tie.Need-same-length-8 Inv-loop μ-loop
 same-length-8 c = c .before .before .before .before .loop .inv .rows .places ∙ sym (c .before .before .before .before .before .before .before .before .before .before .pre .1 .rows .places)
 
 returns-2 : tie.Need-returns-2 Inv-loop μ-loop
-returns-2 c = stop-last (c .before .before .before .before .loop .inv) (c .before .before .record-at .result) (c .before .before .record-at .ensures) (c .enum-told2 .given .1)
+returns-2 c = (stop-last (c .before .before .before .before .loop .inv) (c .before .before .record-at .result) (c .before .before .record-at .ensures) (c .enum-told2 .given .1), (c .before .before .before .before .loop .inv .beside, c .before .before .before .before .loop .inv .in-use))
 
 enum-known-class : tie.Need-enum-known-class Inv-loop μ-loop
 enum-known-class c = search needs
@@ -97,7 +97,7 @@ same-length-12 : tie.Need-same-length-12 Inv-loop μ-loop
 same-length-12 c = c .before .before .before .before .before .before .before .before .take-word .kept .1 .1 .1 .1 .0 ∙ c .before .before .before .before .before .before .before .before .before .before .before .before .before .before .before .before .before .before .loop .inv .rows .places ∙ sym (c .before .before .before .before .before .before .before .before .before .before .before .before .before .before .before .before .before .before .before .before .before .before .before .before .pre .1 .rows .places)
 
 returns-3 : tie.Need-returns-3 Inv-loop μ-loop
-returns-3 c = stop-word (c .before .before .before .before .before .before .before .before .before .before .before .before .before .before .before .before .before .before .loop .inv) (c .before .before .before .before .before .before .before .before .before .before .before .before .before .before .before .before .record-at .result) (c .before .before .before .before .before .before .before .before .before .before .before .before .before .before .before .before .record-at .ensures) (c .before .before .before .before .before .before .before .before .before .before .before .before .before .before .class .given .1) (c .before .before .before .before .before .before .before .before .take-word .last .1 .1 .0) (c .before .before .before .before .before .before .before .before .take-word .result) (c .before .before .before .before .before .before .before .before .take-word .ensures) (c .enum-told3 .given .1)
+returns-3 c = (stop-word (c .before .before .before .before .before .before .before .before .before .before .before .before .before .before .before .before .before .before .loop .inv) (c .before .before .before .before .before .before .before .before .before .before .before .before .before .before .before .before .record-at .result) (c .before .before .before .before .before .before .before .before .before .before .before .before .before .before .before .before .record-at .ensures) (c .before .before .before .before .before .before .before .before .before .before .before .before .before .before .class .given .1) (c .before .before .before .before .before .before .before .before .take-word .last .1 .1 .0) (c .before .before .before .before .before .before .before .before .take-word .result) (c .before .before .before .before .before .before .before .before .take-word .ensures) (c .enum-told3 .given .1), (c .before .before .before .before .before .before .before .before .before .before .before .before .before .before .before .before .before .before .loop .inv .beside, c .before .before .before .before .before .before .before .before .before .before .before .before .before .before .before .before .before .before .loop .inv .in-use))
 
 slice-reshare-prefix-append : tie.Need-slice-reshare-prefix-append Inv-loop μ-loop
 slice-reshare-prefix-append c = let f = few (c .before .before .before .before .before .before .before .before .before .before .before .before .before .before .before .before .before .before .before .before .before .loop .inv) (c .before .before .before .before .before .before .before .before .before .before .before .before .before .before .before .before .before .before .before .record-at .result) (c .before .before .before .before .before .before .before .before .before .before .before .before .before .before .before .before .before .before .before .record-at .ensures) (c .before .before .before .before .before .before .before .before .before .before .before .before .before .before .before .before .before .class .given .1) (c .before .before .before .before .before .before .before .before .before .before .before .take-word .last .1 .1 .0) (c .before .before .before .before .before .before .before .before .before .before .before .take-word .result) (c .before .before .before .before .before .before .before .before .before .before .before .take-word .ensures) (c .before .before .before .size .given .1) in omega (arith, f, c .before .before .before .before .before .before .before .before .before .before .before .take-word .kept .1 .1 .0, c .before .before .before .before .before .before .before .before .before .before .before .before .before .before .before .before .before .before .before .before .before .loop .inv .long)
@@ -133,7 +133,7 @@ same-length-16 : tie.Need-same-length-16 Inv-loop μ-loop
 same-length-16 c = c .before .loop .inv .rows .places ∙ sym (c .before .before .before .before .before .before .before .pre .1 .rows .places)
 
 returns-4 : tie.Need-returns-4 Inv-loop μ-loop
-returns-4 c = all-placed (c .before .loop .inv) (c .loop-test .left)
+returns-4 c = (all-placed (c .before .loop .inv) (c .loop-test .left), (c .before .loop .inv .beside, c .before .loop .inv .in-use))
 
 pub place-spec : {M : Type 1} → statement M
 place-spec =

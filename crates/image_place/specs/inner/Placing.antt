@@ -4,7 +4,7 @@ use mathlib.Core.Path.{_≡_}
 use mathlib.Core.List.{List, []}
 use lib.ListN.{length, getD}
 use Rattle.trie_pool.specs.Words.{termAt}
-use Rattle.trie_pool.specs.inner.Sound.{Sound, Plain}
+use Rattle.trie_pool.specs.inner.Sound.{Sound}
 use Rattle.image_rules.specs.Records.{Term}
 use Rattle.image_rules.specs.Lists.{charge, termsIn}
 use Rattle.image_rules.specs.Reading.{list, readOf}
@@ -27,10 +27,9 @@ pub record Lent (prev row positions : List ℕ) : Type 0 where
   pub words : length prev ≡ 255
   pub rows : Rows row positions
 
--- a dictionary of these words, and nothing beside it
+-- a dictionary of these words
 pub record Holds (p : List ℕ) (n : ℕ) (terms : List Term) : Type 0 where
   pub sound : Sound p n 0
-  pub plain : Plain p
   pub held : (v : List ℕ) → termAt p v ≡ termsIn terms v
 
 pub record Placed (image p : List ℕ) : Type 0 where

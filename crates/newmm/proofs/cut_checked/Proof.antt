@@ -1,5 +1,5 @@
 -- Assumes nothing.
-use Rattle.newmm.proofs.Calls.{cleared-all, still-passes, now-blank, cleared-cuts}
+use Rattle.newmm.proofs.Calls.{cleared-all, still-sees, now-blank, cleared-cuts}
 use borrow.Author.Needs.{needs}
 use Rattle.newmm.proofs.cut_checked.Statement.{statement}
 use Rattle.newmm.proofs.cut_checked.Tie as tie
@@ -16,7 +16,7 @@ cut-ready-requires c κs =
     let c4 = c .before .before .before .before in
     let c10 = c4 .before .before .before .before .before .before in
     let e = cleared-all (c10 .args .scratch .now) (c4 .clear-first .ensures) in
-    (still-passes (c10 .args .scratch .now) (c10 .pre) e, now-blank (c10 .args .scratch .now) (c10 .pre) e)
+    (still-sees (c10 .args .scratch .now) e (c10 .pre), now-blank (c10 .args .scratch .now) e)
 
 same-length : tie.Need-same-length
 same-length c = search needs
@@ -29,9 +29,8 @@ returns c =
     let c4 = c .before .before .before .before in
     let c9 = c4 .before .before .before .before .before in
     let c15 = c9 .before .before .before .before .before .before in
-    cleared-cuts (c15 .args .scratch .now) (c15 .pre)
-    (cleared-all (c15 .args .scratch .now) (c9 .clear-first .ensures)) (c15 .args .out .now) (c15 .args .mode)
-    (c4 .cut-ready .ensures)
+    cleared-cuts (c15 .args .scratch .now) (cleared-all (c15 .args .scratch .now) (c9 .clear-first .ensures))
+    (c15 .pre) (c15 .args .out .now) (c15 .args .mode) (c4 .cut-ready .ensures)
 
 pub cut-checked-spec : {M : Type 1} → statement M
 cut-checked-spec =

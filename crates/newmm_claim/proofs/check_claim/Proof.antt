@@ -1,5 +1,6 @@
 -- Assumes nothing.
 use lib.ListN.{length}
+use Rattle.trie_pool.specs.Meaning.{meaning}
 use Rattle.newmm_answers.proofs.Checks.{passes}
 use Rattle.newmm_claim.proofs.Answers.{early-claims}
 use borrow.Author.Needs.{needs}
@@ -19,7 +20,7 @@ claim-checked-requires : tie.Need-claim-checked-requires
 claim-checked-requires c κs =
     let c3 = c .before .before .before in
     let c8 = c3 .before .before .before .before .before in
-    passes (c8 .args .text .now) (c8 .args .pool .now) (length (c8 .args .scratch .now)) (c3 .check-cut .ensures)
+    passes (c8 .args .text .now) (meaning (c8 .args .pool .now)) (length (c8 .args .scratch .now)) (c3 .check-cut .ensures)
     (c .before .enum-told .given .1)
 
 returns : tie.Need-returns

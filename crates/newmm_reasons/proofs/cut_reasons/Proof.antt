@@ -1,5 +1,6 @@
 -- Assumes nothing.
 use native.Mathlib.Omega.{arith}
+use Rattle.trie_pool.specs.Meaning.{meaning}
 use Rattle.newmm_reasons_answers.specs.Answers.{pairRoom}
 use Rattle.newmm_told.proofs.Told.{Came, came, told-room, told-fits, cleared-told}
 use Rattle.newmm_reasons.proofs.Pairs.{wrote}
@@ -13,13 +14,11 @@ use Rattle.newmm_many_answers.proofs.ends_told.Reads as ends-told-reads
 use Rattle.newmm_reasons.proofs.put_pairs.Reads as put-pairs-reads
 use Rattle.newmm_told.proofs.tell.Reads as tell-reads
 
--- lemmas of this proof
 -- what stands in scratch when the text is told
 told : (c : tie.After-ends-told)
-    → Came (c .before .before .before .before .before .before .before .before .before .args .mode) (c .before .before .before .before .before .before .before .before .before .args .text .now) (c .before .before .before .before .before .before .before .before .before .args .pool .now) (c .before .before .before .before .before .before .before .before .before .args .scratch .now) (c .before .before .before .tell .last .1 .1 .0) (pairRoom (c .before .before .before .before .before .before .before .before .before .args .out .now)) (c .ends-told .result)
+    → let c9 = c .before .before .before .before .before .before .before .before .before in
+    Came (c9 .args .mode) (c9 .args .text .now) (meaning (c9 .args .pool .now)) (c9 .args .scratch .now) (c .before .before .before .tell .last .1 .1 .0) (pairRoom (c9 .args .out .now)) (c .ends-told .result)
 told c = came (c .before .before .before .tell .ensures) (c .ends-told .ensures)
-
--- needs
 
 tell-requires : tie.Need-tell-requires
 tell-requires c κs = search needs
@@ -40,7 +39,19 @@ same-length-2 : tie.Need-same-length-2
 same-length-2 c = search needs
 
 returns : tie.Need-returns
-returns c = (c .before .before .before .before .before .before .before .before .before .before .before .before .tell .ensures .0, (wrote (c .before .before .before .before .before .before .before .before .before .before .before .before .before .before .before .before .before .before .args .out .now) (told (c .before .before .before .before .before .before .before .before .before)) (c .before .before .before .before .before .before .put-pairs .ensures), cleared-told (told (c .before .before .before .before .before .before .before .before .before)) (c .before .before .before .before .before .before .before .before .before .before .before .before .tell .kept .1 .1 .0) (c .before .before .clear-first .ensures)))
+returns c =
+    let c2 = c .before .before in
+    let c6 = c2 .before .before .before .before in
+    let c9 = c6 .before .before .before in
+    let c12 = c9 .before .before .before in
+    let c18 = c12 .before .before .before .before .before .before in (
+      c12 .tell .ensures .0,
+      (
+        wrote (c18 .args .out .now) (told (c9)) (c6 .put-pairs .ensures),
+        cleared-told (told (c9))
+            (c12 .tell .kept .1 .1 .0) (c2 .clear-first .ensures),
+      ),
+    )
 
 pub cut-reasons-spec : {M : Type 1} → statement M
 cut-reasons-spec =

@@ -2,9 +2,10 @@
 use Prim.Native.Nat.{ℕ, _+_, _*_, _/_, _%_}
 use mathlib.Core.Path.{_≡_}
 use mathlib.Core.List.{List, [], _∷_, map}
+use mathlib.Core.Option.{Option}
 use lib.ListN.{length}
 use Rattle.refusal.specs.Answers.{output}
-use Rattle.trie_pool.specs.Meaning.{Words, meaning}
+use Rattle.trie_pool.specs.Meaning.{Words}
 use Rattle.trie_check.specs.Refusals.{held}
 use Rattle.newmm_rules.specs.Cutting.{Cut}
 use Rattle.newmm_rules.specs.declared.Mode.{Mode}
@@ -44,11 +45,12 @@ cellsBy spaceCut words text =
 abbrev pub textCells : Mode → Words → List ℕ → Cut
 textCells mode words text = record { ends = cellsOf (toldOf mode words text); edges = cutOf mode words text .edges }
 
--- What a call with room for so many records is answered, and what it leaves in scratch: the cells of
--- an accepted call stand at the front, and the rest is as a cut leaves it.
-abbrev pub Tells : (text pool scratch : List ℕ) → ℕ → Mode → CutAnswer → List ℕ → Type 0
-Tells text pool scratch room mode answer after =
-    (answer ≡ cutAnswer mode text (meaning pool) (length scratch) room)
+-- What a call with room for so many records is answered, and what it leaves in scratch, the pool
+-- having this meaning: the cells of an accepted call stand at the front, and the rest is as a cut
+-- leaves it.
+abbrev pub Tells : (text : List ℕ) → Option Words → (scratch : List ℕ) → ℕ → Mode → CutAnswer → List ℕ → Type 0
+Tells text m scratch room mode answer after =
+    (answer ≡ cutAnswer mode text m (length scratch) room)
     × (after ≡
-    output (accepts mode text (meaning pool) (length scratch) room) (cellsOf (toldOf mode (held (meaning pool)) text))
-    (scratchAfter text (meaning pool) scratch))
+    output (accepts mode text m (length scratch) room) (cellsOf (toldOf mode (held m) text))
+    (scratchAfter text m scratch))

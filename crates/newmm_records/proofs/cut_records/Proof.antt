@@ -54,6 +54,7 @@ use Rattle.newmm_many_answers.proofs.ends_told.Symbol as told-def
 use Rattle.newmm_many_answers.proofs.ends_told.Symbol.{name as #told}
 use Rattle.newmm_many_answers.proofs.ends_told.Met as told-thm
 use Rattle.newmm_many_answers.specs.Turns.{endsTold}
+use Rattle.trie_pool.specs.Meaning.{meaning}
 use Rattle.newmm_reasons_answers.specs.inner.Cells.{Tells}
 use Rattle.newmm_records.specs.Calls.{recordsCall, Records}
 use Rattle.newmm_records.specs.declared.Record.{Record}
@@ -203,8 +204,8 @@ module _ {M : Type 1} (𝓤 : URA M) (H : Heap 𝓤) (A : Atoms 𝓤) (W : Given
         use2 W (raw (Tell 𝓤 H A mem run .pre (to-tell ν δ))) (goes-tell ν δ) $
         calls-at ! fm (Tell 𝓤 H A mem run) known-tell (to-tell ν δ) (and-then ! (load ! (from ! (stop !)) (look ! 32 refl)) (and-then ! (load ! (from ! (stop !)) (look ! 30 refl)) (and-then ! (load ! (from ! (stop !)) (look ! 14 refl)) (and-then ! (load ! (from ! (stop !)) (look ! 22 refl)) (and-then ! (load ! (from ! (stop !)) (look ! 24 refl)) (no-more !)))))) (λ w.
         use1 W (later (some (λ (r : CutAnswer). (TellToks ν ⊛ ‵ (Ca.the-row .own r (w ∷ []))) ⊛ raw (ensured 𝓤 H A tell.ended (tell.clauses 𝓤 H A mem run) (κ₀, (κ₁, (ν ∷ [], tt))) (tell-a δ) tt r)))) (id⊢ 𝓤 _) $ await ! tt $ pick ! (λ r. split ! $
-        move ! (1 ∷ []) $ use1 W (some (λ (ws : Unit {0} × (Unit {0} × (List ℕ × (Unit {0} × (Unit {0} × Unit {0}))))). ‵ (lasts tell.ended (κ₀, (κ₁, (ν ∷ [], tt))) (tell-a δ) ws) ⊛ raw (fact 𝓤 (Tells (now text) (now pool) us (length rows) mode r (ws .1 .1 .0))))) (id⊢ 𝓤 _) $ pick ! (λ ws. split ! $
-        move ! (1 ∷ []) $ heard ! (Tells (now text) (now pool) us (length rows) mode r (ws .1 .1 .0)) (λ t. fsplit ! $ move ! (1 ∷ []) $ fsplit ! $ move ! (1 ∷ []) $ fsplit ! $ fsplit ! $ move ! (1 ∷ []) $ feqL ! (λ e.
+        move ! (1 ∷ []) $ use1 W (some (λ (ws : Unit {0} × (Unit {0} × (List ℕ × (Unit {0} × (Unit {0} × Unit {0}))))). ‵ (lasts tell.ended (κ₀, (κ₁, (ν ∷ [], tt))) (tell-a δ) ws) ⊛ raw (fact 𝓤 (Tells (now text) (meaning (now pool)) us (length rows) mode r (ws .1 .1 .0))))) (id⊢ 𝓤 _) $ pick ! (λ ws. split ! $
+        move ! (1 ∷ []) $ heard ! (Tells (now text) (meaning (now pool)) us (length rows) mode r (ws .1 .1 .0)) (λ t. fsplit ! $ move ! (1 ∷ []) $ fsplit ! $ move ! (1 ∷ []) $ fsplit ! $ fsplit ! $ move ! (1 ∷ []) $ feqL ! (λ e.
         move ! (4 ∷ []) $ split ! $ move ! (1 ∷ []) $ peeks ! Ca.the-row (Is Ca.the-row) (shows 𝓤 H A Ca.the-row) r (w ∷ []) (λ is. land ! (from ! (stop !)) (init ! 25 refl (EL.lawful Ca.the-type Ca′.the-laws 𝓤 H A W tt .typed r _ is .0)) $
         -- the lifetime is ended, and scratch comes back with the told cells
         move ! (1 ∷ []) $ split ! $ move ! (1 ∷ []) $ split ! $ move ! (1 ∷ []) $ split ! $ lft-end ! tt $ move ! (0 ∷ 9 ∷ 5 ∷ []) $ use3 W (later (‵ (MutSlice (named 3) κ₃ u32 .own (y γ′ (ws .1 .1 .0)) (s₃ ∷ [])) ⊛ ‵ (flft κ₃ q₃))) (comes-back u32 κ₃ (ν ∷ []) q₃ γ′ b′ o′ 𝓤 H A W (named 3) (named 2) us δ (ws .1 .1 .0) room′ e) $ await ! tt $ split ! $

@@ -7,6 +7,7 @@ use Rattle.refusal.specs.Limits.{maxNodes}
 use Rattle.trie_pool.specs.Cells.{maxClass}
 use Rattle.trie_pool.specs.Words.{Word}
 use Rattle.trie_pool.specs.Meaning.{Terms, withTerm}
+use Rattle.trie_leaf.specs.inner.Planting.{Beside}
 use Rattle.trie_build_rules.specs.inner.Growing.{Built, Above}
 
 -- the row as a function
@@ -18,8 +19,8 @@ pub record Spot (p next : List ℕ) (d : ℕ) : Type 0 where
   pub deep : d < 255
   pub levels : length next ≡ 257
   pub some : 1 ≤ row next d
-  pub parent : 8 * row next d ≤ length p
-  pub leaf : 8 * row next (d + 1) + 8 ≤ length p
+  pub parent : 8 * row next d ≤ length p + 4
+  pub leaf : 8 * row next (d + 1) + 4 ≤ length p
   pub fits : row next (d + 1) < maxNodes
   pub small : row next (d + 2) ≤ maxNodes
   pub few : getD p (8 * (row next d - 1) + 2) 0 ≤ maxNodes
@@ -53,6 +54,7 @@ pub record Put (p next w : List ℕ) (l mark : ℕ) (p′ next′ : List ℕ) : 
   pub built : (s : ℕ → ℕ) (before : List ℕ) (held : Terms)
       → Fits s before held p next w l mark
       → Built p′ s (row next′) w (withTerm w (mark - 1) held)
+  pub beside : Beside p p′
   pub raised : (d : ℕ) → l < d → d ≤ length w → row next′ d ≡ suc (row next d)
   pub kept : (d : ℕ) → (l < d → d ≤ length w → ⊥) → row next′ d ≡ row next d
   pub levels : length next′ ≡ 257

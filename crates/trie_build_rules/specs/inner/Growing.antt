@@ -11,7 +11,7 @@ use Rattle.trie_pool.specs.Cells.{scalarAt, firstAt, countAt, markAt}
 use Rattle.trie_pool.specs.Words.{at, rev}
 use Rattle.trie_pool.specs.Meaning.{Terms}
 use Rattle.trie_pool.specs.inner.Paths.{reach}
-use Rattle.trie_pool.specs.inner.Sound.{Fit, Plain}
+use Rattle.trie_pool.specs.inner.Sound.{Fit}
 use Rattle.trie_build_rules.specs.inner.Laid.{Laid}
 
 -- the word leads to the node
@@ -44,8 +44,7 @@ pub record Grown (p : List ℕ) (s next : ℕ → ℕ) (held : Terms) (cur : ℕ
   pub laid : Laid p s next
   pub top : next 256 ≡ s 256
   pub in-use : scalarAt p 0 ≡ s 256
-  pub plain : Plain p
-  pub fits : 8 * s 256 ≤ length p
+  pub fits : 8 * s 256 ≤ length p + 4
   pub small : s 256 ≤ maxNodes
   pub fit : (d i : ℕ) → 0 < d → d ≤ 256 → s d ≤ i → i < next d → Fit (scalarAt p i) (markAt p i)
   pub alive : (d i : ℕ) → 0 < d → d ≤ 256 → s d ≤ i → i < next d → (i ≡ cur → ⊥) → 1 ≤ countAt p i + markAt p i
@@ -72,12 +71,13 @@ pub record Above (before w : List ℕ) (l : ℕ) : Type 0 where
   pub inside : l < length w
   pub less : l < length before → getD before l 0 < getD w l 0
 
--- the root alone in a pool that is to have n nodes
+-- the root alone in a half of a pool that is to have n nodes
 pub record Bare (p : List ℕ) (n : ℕ) : Type 0 where
   pub first : getD p 1 0 ≡ 1
   pub used : getD p 0 0 ≡ n
-  pub others : (k : ℕ) → (k ≡ 1 → ⊥) → (k ≡ 0 → ⊥) → getD p k 0 ≡ 0
-  pub fits : 8 * n ≤ length p
+  pub count : getD p 2 0 ≡ 0
+  pub blank : (i r : ℕ) → 0 < i → r < 4 → getD p (8 * i + r) 0 ≡ 0
+  pub fits : 8 * n ≤ length p + 4
   pub small : n ≤ maxNodes
 
 -- every level but the root's is empty where it is to start

@@ -23,6 +23,7 @@ pub record Pruned (p p′ : List ℕ) (b : ℕ) : Type 0 where
   pub sound : Sound p′ (used p′) b
   pub keeps : (v : List ℕ) (z : ℕ) → reach p v ≡ at z → z ≤ b → reach p′ v ≡ at z
   pub same : (v : List ℕ) → termAt p′ v ≡ termAt p v
+  pub fewer : used p′ ≤ used p
   pub beside : Beside p p′
 
 -- what `remove_word` asks: a dictionary and one of its nodes, and that the word that goes on with w
@@ -40,4 +41,5 @@ pub record Removed (p p′ u : List ℕ) (b : ℕ) (w : List ℕ) : Type 0 where
   pub keeps : (v : List ℕ) (z : ℕ) → reach p v ≡ at z → z ≤ b → reach p′ v ≡ at z
   pub gone : termAt p′ (rev u w) ≡ option.none
   pub others : (v : List ℕ) → (v ≡ rev u w → ⊥) → termAt p′ v ≡ termAt p v
+  pub fewer : used p′ ≤ used p
   pub beside : Beside p p′

@@ -1,7 +1,8 @@
 -- Assumes nothing.
 use mathlib.Core.Path.{sym}
-use Rattle.trie_check.proofs.Parts.{long, readable}
-use Rattle.trie_char_answers.proofs.Reading.{known, contain-yes, contain-no, contain-refused}
+use Rattle.trie_pool.specs.Meaning.{meaning}
+use Rattle.trie_check.proofs.Parts.{long}
+use Rattle.trie_char_answers.proofs.Reading.{view, contain-yes, contain-no, contain-refused}
 use borrow.Author.Needs.{needs}
 use Rattle.trie_char_read.proofs.contain.Statement.{statement}
 use Rattle.trie_char_read.proofs.contain.Tie as tie
@@ -22,7 +23,8 @@ returns : tie.Need-returns
 returns c =
     let c3 = c .before .before .before in
     let c6 = c3 .before .before .before in
-    contain-refused (c6 .args .pool .now) (c6 .args .word .now) (c3 .check .ensures) (c .before .checked .given .1)
+    contain-refused (meaning (c6 .args .pool .now)) (c6 .args .word .now) (c3 .check .ensures)
+    (c .before .checked .given .1) _
 
 enum-told : tie.Need-enum-told
 enum-told c = search needs
@@ -43,8 +45,8 @@ mark-of-requires c κs =
     let c2 = c .before .before in
     let c4 = c2 .before .before in
     let c7 = c4 .before .before .before in
-    readable (c7 .args .pool .now) _ (c .before .capacity .ensures)
-    (known (c7 .args .pool .now) (c7 .args .word .now) (c4 .check .ensures) (c2 .enum-told .given .1))
+    view (c7 .args .pool .now) (c7 .args .word .now) (c4 .check .ensures) (c2 .enum-told .given .1) _
+    (c .before .capacity .ensures) .readable
 
 wide-requires : tie.Need-wide-requires
 wide-requires c κs = search needs
@@ -56,8 +58,9 @@ returns-2 c =
     let c5 = c4 .before in
     let c7 = c5 .before .before in
     let c10 = c7 .before .before .before in
-    contain-no (c10 .args .pool .now) (c10 .args .word .now) (c7 .check .ensures) (c5 .enum-told .given .1) _
-    (c4 .capacity .ensures) _ _ (c2 .mark-of .ensures) (c .before .wide .ensures) (c .if1 .taken)
+    contain-no (view (c10 .args .pool .now) (c10 .args .word .now) (c7 .check .ensures) (c5 .enum-told .given .1) _
+    (c4 .capacity .ensures)) (c10 .args .word .now) (c7 .check .ensures) (c5 .enum-told .given .1) _ _
+    (c2 .mark-of .ensures) (c .before .wide .ensures) (c .if1 .taken)
 
 sub-t8 : tie.Need-sub-t8
 sub-t8 c = search needs
@@ -69,8 +72,9 @@ returns-3 c =
     let c5 = c4 .before in
     let c7 = c5 .before .before in
     let c10 = c7 .before .before .before in
-    contain-yes (c10 .args .pool .now) (c10 .args .word .now) (c7 .check .ensures) (c5 .enum-told .given .1) _
-    (c4 .capacity .ensures) _ _ (c2 .mark-of .ensures) (c .before .wide .ensures) (c .if1 .left)
+    contain-yes (view (c10 .args .pool .now) (c10 .args .word .now) (c7 .check .ensures) (c5 .enum-told .given .1) _
+    (c4 .capacity .ensures)) (c10 .args .word .now) (c7 .check .ensures) (c5 .enum-told .given .1) _ _
+    (c2 .mark-of .ensures) (c .before .wide .ensures) (c .if1 .left)
 
 pub contain-spec : {M : Type 1} → statement M
 contain-spec =

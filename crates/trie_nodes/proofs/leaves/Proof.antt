@@ -140,7 +140,7 @@ loop-again c =
     )
 
 returns-3 : tie.Need-returns-3 Inv-loop μ-loop
-returns-3 c = leaves-right (c .before .loop .inv) (c .before .before .before .pre .3) (c .loop-test .left)
+returns-3 c = leaves-right (c .before .loop .inv .0) (c .before .loop .inv) (c .before .before .before .pre .3) (c .loop-test .left)
 
 pub leaves-spec : {M : Type 1} → statement M
 leaves-spec =

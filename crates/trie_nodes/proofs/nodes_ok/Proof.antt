@@ -25,7 +25,7 @@ parents-requires c κs =
     (c3 .pre .0, c3 .pre .1, c3 .pre .2, c .before .root-ok .ensures .yes′ (not-false _ (c .if1 .left)) .1)
 
 returns-2 : tie.Need-returns-2
-returns-2 c = denied (c .before .before .parents .ensures .wrong (c .if2 .taken))
+returns-2 c = denied (λ h. c .before .before .parents .ensures .wrong (c .if2 .taken) (h .nodes))
 
 leaves-requires : tie.Need-leaves-requires
 leaves-requires c κs =
@@ -34,7 +34,7 @@ leaves-requires c κs =
     (c6 .pre .1, c6 .pre .2, c2 .parents .ensures .right (c .if2 .left), c .if2 .left)
 
 returns-3 : tie.Need-returns-3
-returns-3 c = denied (c .before .before .leaves .ensures .wrong (c .if3 .taken))
+returns-3 c = denied (λ h. c .before .before .leaves .ensures .wrong (c .if3 .taken) (h .nodes))
 
 none-aside-requires : tie.Need-none-aside-requires
 none-aside-requires c κs = search needs

@@ -202,7 +202,7 @@ loop-again c =
     )
 
 returns-3 : tie.Need-returns-3 Inv-loop μ-loop
-returns-3 c = parents-right (c .before .loop .inv) (c .loop-test .left)
+returns-3 c = parents-right (c .before .loop .inv .0) (c .before .loop .inv) (c .loop-test .left)
 
 pub parents-spec : {M : Type 1} → statement M
 parents-spec =

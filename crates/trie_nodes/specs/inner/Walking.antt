@@ -25,6 +25,10 @@ pub record Aside (p : List ℕ) (i : ℕ) : Type 0 where
 pub record Nodes (p : List ℕ) (n : ℕ) : Type 0 where
   pub shaped : Shaped p n
   pub each : (i : ℕ) → i < n → Each p n i (firstAt p i)
+
+-- the same, and that the second halves are 0
+pub record PlainNodes (p : List ℕ) (n : ℕ) : Type 0 where
+  pub nodes : Nodes p n
   pub aside : (i : ℕ) → i < n → Aside p i
 
 -- no scalar of n nodes is none
@@ -63,13 +67,13 @@ pub record Next (p : List ℕ) (n i s k b : ℕ) : Type 0 where
   pub start : Low p n → b ≡ first (scalarAt p) s k
   pub few : b ≤ 1
 
--- how the walk over nodes with children ends
-pub record Parents (p : List ℕ) (n : ℕ) (w : Walk) : Type 0 where
-  pub right : w .s ≡ n → At p n w
-  pub wrong : (w .s ≡ n → ⊥) → Nodes p n → ⊥
+-- how a walk over nodes with children ends; W says where it stands
+pub record Parents (p : List ℕ) (n s : ℕ) (W : Type 0) : Type 0 where
+  pub right : s ≡ n → W
+  pub wrong : (s ≡ n → ⊥) → Nodes p n → ⊥
 
--- how the walk over the rest ends
-pub record Leaves (p : List ℕ) (n : ℕ) (w : Walk) : Type 0 where
-  pub walk : At p n w
-  pub here : w .s ≡ n
-  pub wrong : (w .i ≡ n → ⊥) → Nodes p n → ⊥
+-- how a walk over the rest ends
+pub record Leaves (p : List ℕ) (n i s : ℕ) (W : Type 0) : Type 0 where
+  pub walk : W
+  pub here : s ≡ n
+  pub wrong : (i ≡ n → ⊥) → Nodes p n → ⊥

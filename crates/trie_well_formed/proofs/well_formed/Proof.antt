@@ -1,9 +1,10 @@
 -- Assumes nothing.
 use mathlib.Core.Path.{sym}
+use Prim.Native.Nat.{_+_, _*_}
 use native.Mathlib.Omega.{arith}
 use borrow.Author.Tests.{not-true, not-false}
 use Rattle.trie_well_formed.proofs.Passing.{refused, accepted}
-use Rattle.trie_well_formed.proofs.Whole.{at-n, of-n, nodes-of, sound-of, plain-of, blank-of, starts-fit, starts-at, starts-from}
+use Rattle.trie_well_formed.proofs.Whole.{at-n, of-n, plain-nodes-of, sound-of, plain-of, blank-of, starts-fit, starts-at, starts-from}
 use borrow.Author.Needs.{needs}
 use Rattle.trie_well_formed.proofs.well_formed.Statement.{statement}
 use Rattle.trie_well_formed.proofs.well_formed.Tie as tie
@@ -60,7 +61,7 @@ returns-7 : tie.Need-returns-7
 returns-7 c =
     let c9 = c .before .before .before .before .before .before .before .before .before in
     refused _ (λ d. c .before .nodes-ok .ensures .no′ (not-true _ (c .if7 .taken))
-    (nodes-of _ _ (at-n _ _ (c9 .wide .ensures) (d .sound)) (d .plain)))
+    (plain-nodes-of _ _ (at-n _ _ (c9 .wide .ensures) (d .sound)) (d .plain)))
 
 shared-slice-read-wide-2 : tie.Need-shared-slice-read-wide-2
 shared-slice-read-wide-2 c = search needs
@@ -74,7 +75,7 @@ starts-ok-requires c κs =
     let c3 = c2 .before in
     let c8 = c3 .before .before .before .before .before in
     let c15 = c8 .before .before .before .before .before .before .before in
-    starts-fit (c15 .args .p .now) _ _ (c3 .nodes-ok .ensures .yes′ (not-false _ (c2 .if7 .left)))
+    starts-fit (c15 .args .p .now) _ _ (c3 .nodes-ok .ensures .yes′ (not-false _ (c2 .if7 .left)) .nodes)
     (omega (arith, c8 .if4 .left)) (c .wide2 .ensures)
 
 returns-8 : tie.Need-returns-8
@@ -89,7 +90,7 @@ shallow-requires c κs =
     let c4 = c .before .before .before .before in
     let c5 = c4 .before in
     let c10 = c5 .before .before .before .before .before in
-    (c5 .nodes-ok .ensures .yes′ (not-false _ (c4 .if7 .left)) .shaped, omega (arith, c10 .if4 .left))
+    (c5 .nodes-ok .ensures .yes′ (not-false _ (c4 .if7 .left)) .nodes .shaped, omega (arith, c10 .if4 .left))
 
 returns-9 : tie.Need-returns-9
 returns-9 c =
@@ -113,9 +114,9 @@ returns-10 c =
     let c19 = c15 .before .before .before .before in
     accepted _ (record {
       sound = of-n _ _ (c15 .wide .ensures)
-          (sound-of _ _ (c7 .nodes-ok .ensures .yes′ (not-false _ (c6 .if7 .left))) (omega (arith, c12 .if4 .left))
+          (sound-of _ _ (c7 .nodes-ok .ensures .yes′ (not-false _ (c6 .if7 .left)) .nodes) (omega (arith, c12 .if4 .left))
           (omega (arith, c13 .if3 .left)) (sym (c15 .wide .ensures))
-          (c9 .blank .ensures .yes′ (not-false _ (c8 .if6 .left)))
+          (λ i r a b. c9 .blank .ensures .yes′ (not-false _ (c8 .if6 .left)) (8 * i + r) (omega arith))
           (starts-at (c19 .args .p .now) _ (c4 .wide2 .ensures)
           (c3 .starts-ok .ensures .yes′ (not-false _ (c2 .if8 .left))))
           (c .before .shallow .ensures .yes′ (not-false _ (c .if9 .left))));

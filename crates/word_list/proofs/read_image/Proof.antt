@@ -150,7 +150,7 @@ returns-4 c =
     done (c29 .args .pool .now) (c29 .args .image .now) _ (c25 .is-dictionary .ensures)
     (not-false _ (c24 .if1 .left)) _ (c12 .capacity .ensures)
     (told-right (c29 .args .image .now) (c19 .survey .last .1 .0) (c19 .survey .result) _ _ (c19 .survey .ensures)
-    (c14 .words .given .1)) (c11 .if2 .left) _ (c5 .build .kept .0) (c5 .build .ensures)
+    (c14 .words .given .1)) (c11 .if2 .left) _ (c5 .build .kept .0) (c5 .build .ensures .0) (c5 .build .ensures .1 .0)
 
 pub read-image-spec : {M : Type 1} → statement M
 read-image-spec =

@@ -1,0 +1,2 @@
+-- Words of inner contracts. No public contract needs them.
+pub mod Walked

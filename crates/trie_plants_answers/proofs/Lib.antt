@@ -1,0 +1,4 @@
+pub mod Became
+pub mod Changing
+pub mod Starting
+pub mod One
