@@ -23,6 +23,10 @@ use test_rows::scratch_cells;
 use test_rows::smear;
 ghost use Prim.Native.Nat.{_≤_};
 
+const OUT: usize = 4096;
+
+const SCRATCH: usize = 16384;
+
 // The k-th part of a text between marks.
 fn part(text: &[u8], k: usize) -> &[u8] {
     let mut at = 0;
@@ -35,16 +39,14 @@ fn part(text: &[u8], k: usize) -> &[u8] {
 }
 
 // scalars => ends of the plain cut
-pub fn plain_ends(
-    whose: Whose,
-    scalars: &[u8],
-    pool: &[u32],
-    cells: &mut [u32],
-    out: &mut [u32],
-    scratch: &mut [u32],
-) {
+pub fn plain_ends(whose: Whose, scalars: &[u8], pool: &[u32], cells: &mut [u32]) {
+    let mut out = [0u32; OUT];
+    let mut scratch = [0u32; SCRATCH];
     let n = read_cells(scalars, cells);
-    let text = first(cells, n);
+    tell_ends(whose, first(cells, n), pool, &mut out, &mut scratch);
+}
+
+fn tell_ends(whose: Whose, text: &[u32], pool: &[u32], out: &mut [u32], scratch: &mut [u32]) {
     smear(out);
     smear(scratch);
     let answer = ends(whose, text, pool, out, scratch, Mode::Plain);
@@ -70,15 +72,9 @@ fn pair_cells(records: usize, most: usize) -> usize
 
 // mode/scalars/scratch cells/output cells => ends/edges
 // mode/scalars/scratch cells/records => ends and reasons/edges
-pub fn cut_step(
-    why: bool,
-    whose: Whose,
-    given: &[u8],
-    pool: &[u32],
-    cells: &mut [u32],
-    out: &mut [u32],
-    scratch: &mut [u32],
-) {
+pub fn cut_step(why: bool, whose: Whose, given: &[u8], pool: &[u32], cells: &mut [u32]) {
+    let mut out = [0u32; OUT];
+    let mut scratch = [0u32; SCRATCH];
     let n = read_cells(part(given, 1), cells);
     let room = scratch_cells(part(given, 2), n, scratch.len());
     let named = mode_of(part(given, 0));

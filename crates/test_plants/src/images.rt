@@ -11,15 +11,23 @@ use test_lines::read_bytes;
 // A byte that an earlier call may have left.
 const LEFT: u8 = 165;
 
+const IMAGE: usize = 8192;
+
 // image bytes => words
-pub fn read_step(whose: Whose, bytes: &[u8], pool: &mut [u32], image: &mut [u8]) {
-    let n = read_bytes(bytes, image);
+pub fn read_step(whose: Whose, bytes: &[u8], pool: &mut [u32]) {
+    let mut image = [0u8; IMAGE];
+    let n = read_bytes(bytes, &mut image);
     let answer = read(whose, pool, &image[..n]);
     tell(answer);
 }
 
 // The image.
-pub fn write_step(whose: Whose, pool: &[u32], image: &mut [u8]) {
+pub fn write_step(whose: Whose, pool: &[u32]) {
+    let mut image = [0u8; IMAGE];
+    tell_image(whose, pool, &mut image);
+}
+
+fn tell_image(whose: Whose, pool: &[u32], image: &mut [u8]) {
     smear_bytes(image);
     let answer = write(whose, pool, image);
     match answer {

@@ -36,60 +36,30 @@ const POOL: usize = 24576;
 // More than the longest text that is accepted.
 const CELLS: usize = 70000;
 
-const OUT: usize = 4096;
-
-const SCRATCH: usize = 16384;
-
-const IMAGE: usize = 8192;
-
 fn main() {
     let mut input = [0u8; INPUT];
     let mut pool = [0u32; POOL];
     let mut cells = [0u32; CELLS];
-    let mut out = [0u32; OUT];
-    let mut scratch = [0u32; SCRATCH];
-    let mut image = [0u8; IMAGE];
     let n = read_input(&mut input);
-    replay(
-        &input[..n],
-        &mut pool,
-        &mut cells,
-        &mut out,
-        &mut scratch,
-        &mut image,
-    );
+    replay(&input[..n], &mut pool, &mut cells);
 }
 
-fn replay(
-    input: &[u8],
-    pool: &mut [u32],
-    cells: &mut [u32],
-    out: &mut [u32],
-    scratch: &mut [u32],
-    image: &mut [u8],
-) {
+fn replay(input: &[u8], pool: &mut [u32], cells: &mut [u32]) {
     let mut at = 0;
     while at < input.len() {
-        answer(part_at(input, at, b'\n'), pool, cells, out, scratch, image);
+        answer(part_at(input, at, b'\n'), pool, cells);
         print(b"\n");
         at = behind(input, at, b'\n');
     }
 }
 
-fn answer(
-    line: &[u8],
-    pool: &mut [u32],
-    cells: &mut [u32],
-    out: &mut [u32],
-    scratch: &mut [u32],
-    image: &mut [u8],
-) {
+fn answer(line: &[u8], pool: &mut [u32], cells: &mut [u32]) {
     let op = field(line, 0);
     if is(op, b"plants") {
         let n = lent(field(line, 1), pool.len());
         smear(pool);
         print(b"ok ");
-        script(field(line, 2), n, pool, cells, out, scratch, image);
+        script(field(line, 2), n, pool, cells);
         return;
     }
     if is(op, b"halves") {
@@ -110,15 +80,7 @@ fn smear(pool: &mut [u32]) {
 }
 
 // plants pool cells, script => ok answers
-fn script(
-    steps: &[u8],
-    lent: usize,
-    pool: &mut [u32],
-    cells: &mut [u32],
-    out: &mut [u32],
-    scratch: &mut [u32],
-    image: &mut [u8],
-)
+fn script(steps: &[u8], lent: usize, pool: &mut [u32], cells: &mut [u32])
     requires { ⌜ lent ≤ length (now pool) ⌝ }
 {
     let mut n = lent;
@@ -127,29 +89,13 @@ fn script(
         if 0 < at {
             print(b";");
         }
-        n = turn(
-            part_at(steps, at, b';'),
-            n,
-            pool,
-            cells,
-            out,
-            scratch,
-            image,
-        );
+        n = turn(part_at(steps, at, b';'), n, pool, cells);
         at = behind(steps, at, b';');
     }
 }
 
 // Makes a step with the first n cells of the pool lent, and answers how many are lent from then on.
-fn turn(
-    text: &[u8],
-    n: usize,
-    pool: &mut [u32],
-    cells: &mut [u32],
-    out: &mut [u32],
-    scratch: &mut [u32],
-    image: &mut [u8],
-) -> usize
+fn turn(text: &[u8], n: usize, pool: &mut [u32], cells: &mut [u32]) -> usize
     requires { ⌜ n ≤ length (now pool) ⌝ }
     ensures { λ r. ⌜ r ≤ length (now (pool .exit)) ⌝ }
 {
@@ -159,7 +105,7 @@ fn turn(
         print_number(most);
         return most;
     }
-    step(text, &mut pool[0..n], cells, out, scratch, image);
+    step(text, &mut pool[0..n], cells);
     n
 }
 

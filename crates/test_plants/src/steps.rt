@@ -24,26 +24,22 @@ use test_words::read_class;
 use test_words::read_word;
 use trie_plants::Plant;
 
-pub fn step(
-    text: &[u8],
-    pool: &mut [u32],
-    cells: &mut [u32],
-    out: &mut [u32],
-    scratch: &mut [u32],
-    image: &mut [u8],
-) {
+// The lengths of the longest words, and room for one more.
+const LENGTHS: usize = 256;
+
+pub fn step(text: &[u8], pool: &mut [u32], cells: &mut [u32]) {
     let op = head(text);
     let given = tail(text);
     if op == b'A' {
-        words_step(Whose::Of(Plant::A), given, pool, cells, out, scratch, image);
+        words_step(Whose::Of(Plant::A), given, pool, cells);
         return;
     }
     if op == b'B' {
-        words_step(Whose::Of(Plant::B), given, pool, cells, out, scratch, image);
+        words_step(Whose::Of(Plant::B), given, pool, cells);
         return;
     }
     if op == b'P' {
-        words_step(Whose::Plain, given, pool, cells, out, scratch, image);
+        words_step(Whose::Plain, given, pool, cells);
         return;
     }
     if op == b'f' {
@@ -66,35 +62,27 @@ pub fn step(
 }
 
 // A call on the words of a plant, or of a plain pool.
-fn words_step(
-    whose: Whose,
-    text: &[u8],
-    pool: &mut [u32],
-    cells: &mut [u32],
-    out: &mut [u32],
-    scratch: &mut [u32],
-    image: &mut [u8],
-) {
+fn words_step(whose: Whose, text: &[u8], pool: &mut [u32], cells: &mut [u32]) {
     let op = head(text);
     let given = tail(text);
     if op == b'i' {
-        write_step(whose, pool, image);
+        write_step(whose, pool);
         return;
     }
     if op == b'r' {
-        read_step(whose, given, pool, image);
+        read_step(whose, given, pool);
         return;
     }
     if op == b'=' {
-        plain_ends(whose, given, pool, cells, out, scratch);
+        plain_ends(whose, given, pool, cells);
         return;
     }
     if op == b'x' {
-        cut_step(false, whose, given, pool, cells, out, scratch);
+        cut_step(false, whose, given, pool, cells);
         return;
     }
     if op == b'y' {
-        cut_step(true, whose, given, pool, cells, out, scratch);
+        cut_step(true, whose, given, pool, cells);
         return;
     }
     if op == b'#' {
@@ -103,10 +91,10 @@ fn words_step(
         return;
     }
     let n = read_word(given, cells);
-    word_step(op, whose, pool, first(cells, n), read_class(given), out);
+    word_step(op, whose, pool, first(cells, n), read_class(given));
 }
 
-fn word_step(op: u8, whose: Whose, pool: &mut [u32], word: &[u32], class: u16, out: &mut [u32]) {
+fn word_step(op: u8, whose: Whose, pool: &mut [u32], word: &[u32], class: u16) {
     if op == b'+' {
         let answer = add(whose, pool, word, class);
         tell(answer);
@@ -123,8 +111,9 @@ fn word_step(op: u8, whose: Whose, pool: &mut [u32], word: &[u32], class: u16, o
         return;
     }
     if op == b'p' {
-        let answer = lengths(whose, pool, word, out);
-        tell_lengths(answer, out);
+        let mut out = [0u32; LENGTHS];
+        let answer = lengths(whose, pool, word, &mut out);
+        tell_lengths(answer, &out);
         return;
     }
     print(b"?");
