@@ -1,5 +1,5 @@
-// Two plants in one pool: `plant_b` says whose words a call reads and changes, false those of plant A,
-// true those of plant B.
+// Two plants in one pool: `plant_b` says whose words a call reads and changes, false those of plant
+// A, true those of plant B.
 ghost use Rattle.newmm_rules.specs.declared.Mode.the-variants.{Plain, Safe, Sheet};
 ghost use Rattle.newmm_answers.specs.Calls.{call};
 ghost use Rattle.host_telling.specs.Told.{told, toldCut};
@@ -57,8 +57,8 @@ pub extern "C" fn fetlockice_plant_remove(
     host_plants::remove(pool, plant_b, word, count, detail)
 }
 
-// Accepted with 1 if the plant holds the word as it is, else 0; and the word's class: 0 with a no and
-// with a refusal. Refusals 2, 3, 4.
+// Accepted with 1 if the plant holds the word as it is, else 0; and the word's class: 0 with a no
+// and with a refusal. Refusals 2, 3, 4.
 #[no_mangle]
 pub extern "C" fn fetlockice_plant_contains(
     pool: &[u32],
@@ -105,8 +105,8 @@ pub extern "C" fn fetlockice_plant_word_count(
     host_plants::word_count(pool, plant_b, count, detail)
 }
 
-// Cuts a text plainly by the words of a plant: the ends of its tokens, in characters, at the front of
-// out; accepted with their number and that of the edges. Refusals 2 to 6.
+// Cuts a text plainly by the words of a plant: the ends of its tokens, in characters, at the front
+// of out; accepted with their number and that of the edges. Refusals 2 to 6.
 #[no_mangle]
 pub extern "C" fn fetlockice_plant_cut_plain(
     text: &[u32],
@@ -167,8 +167,8 @@ pub extern "C" fn fetlockice_plant_cut_sheet(
 }
 
 // Cuts a text plainly by the words of a plant, with reasons: for each token a pair of cells at the
-// front of pairs, its end in characters and its reason; accepted with the number of pairs and that of
-// the edges. Refusals 2 to 6; 6 counts pairs.
+// front of pairs, its end in characters and its reason; accepted with the number of pairs and that
+// of the edges. Refusals 2 to 6; 6 counts pairs.
 #[no_mangle]
 pub extern "C" fn fetlockice_plant_reasons_plain(
     text: &[u32],

@@ -1,5 +1,5 @@
--- Telling on an answer that a library gave with a changed plants' pool, or of a plant's words. Assumes
--- nothing.
+-- Telling on an answer that a library gave with a changed plants' pool, or of a plant's words.
+-- Assumes nothing.
 use Prim.Native.Nat.{ℕ}
 use mathlib.Core.Path.{_≡_, subst}
 use mathlib.Core.List.{List}

@@ -9,8 +9,8 @@ ghost use Rattle.host_telling.specs.Told.{toldCut};
 ghost use Rattle.host_plants.specs.Calls.{plantOf};
 ghost use Rattle.host_plants_cuts.specs.Calls.{PlantCutTold};
 
-// Cuts a text plainly by the words of a plant: the ends of its tokens, in characters, at the front of
-// out; accepted with their number and that of the edges. Refusals 2 to 6.
+// Cuts a text plainly by the words of a plant: the ends of its tokens, in characters, at the front
+// of out; accepted with their number and that of the edges. Refusals 2 to 6.
 pub fn cut_plain(
     text: &[u32],
     pool: &[u32],

@@ -1,5 +1,5 @@
-// Cutting by the words of a plant, as hosts are told it: a function for each mode, and for each with
-// reasons.
+// Cutting by the words of a plant, as hosts are told it: a function for each mode, and for each
+// with reasons.
 mod cuts;
 mod reasons;
 

@@ -10,8 +10,8 @@ ghost use Rattle.host_plants.specs.Calls.{plantOf};
 ghost use Rattle.host_plants_cuts.specs.Calls.{PlantReasonsTold};
 
 // Cuts a text plainly by the words of a plant, with reasons: for each token a pair of cells at the
-// front of pairs, its end in characters and its reason; accepted with the number of pairs and that of
-// the edges. Refusals 2 to 6; 6 counts pairs.
+// front of pairs, its end in characters and its reason; accepted with the number of pairs and that
+// of the edges. Refusals 2 to 6; 6 counts pairs.
 pub fn reasons_plain(
     text: &[u32],
     pool: &[u32],

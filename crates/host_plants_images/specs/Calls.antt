@@ -1,5 +1,5 @@
--- What a host is told of a word list image of a plant, and what becomes of the rows that it lends: the
--- answer and the row of the library function, as its contract gives them.
+-- What a host is told of a word list image of a plant, and what becomes of the rows that it lends:
+-- the answer and the row of the library function, as its contract gives them.
 use Prim.Native.Nat.{ℕ}
 use mathlib.Core.Path.{_≡_}
 use mathlib.Core.List.{List}

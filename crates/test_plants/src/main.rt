@@ -1,8 +1,8 @@
 // Replays the test vectors of two plants in one pool: a line with the answer for each line of
 // standard input.
 //
-// Outputs and scratch are lent full of leftovers. Where a call leaves a cell otherwise than documents
-// 01 and 02 say, a `?` is written.
+// Outputs and scratch are lent full of leftovers. Where a call leaves a cell otherwise than
+// documents 01 and 02 say, a `?` is written.
 mod calls;
 mod cuts;
 mod images;
