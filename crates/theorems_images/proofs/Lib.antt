@@ -4,3 +4,4 @@ pub mod Reading
 pub mod Back
 pub mod Images
 pub mod Charge
+pub mod Orders
