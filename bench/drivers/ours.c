@@ -396,6 +396,7 @@ static void prepare_image(void) {
  * else plant A has them, and plant B none. */
 static void prepare_plants(void) {
     size_t count, detail, nodes = pool_len / FETLOCKICE_NODE_CELLS, limit = pool[0] - 1;
+    if (nodes > FETLOCKICE_MAX_NODES) nodes = FETLOCKICE_MAX_NODES;
     plant_b = 2 * limit < nodes;
     shared = room(4 * pool_len);
     accepted(fetlockice_plants_start(shared, pool_len, plant_b ? (nodes - 1) / 2 : limit, plant_b ? nodes - 1 - (nodes - 1) / 2 : 0,
