@@ -10,7 +10,7 @@ use newmm_edges::Progress;
 use newmm_edges::record_words;
 use newmm_rules::MAX_GRAPH_SIZE;
 use newmm_skip::token_end;
-use tcc::tcc_flags;
+use tcc::mark_ends;
 ghost use mathlib.Core.Path.{_≡_};
 ghost use Prim.Native.Nat.{_<_};
 ghost use lib.ListN.{set};
@@ -65,7 +65,7 @@ pub fn cut_marked(text: &[u32], pool: &[u32], row: &mut [u32]) -> Ends
     let m = n + 1;
     let flags = CLUSTER_ENDS * m;
     let flags_end = EDGE_ENDS * m;
-    tcc_flags(text, &mut row[flags..flags_end]);
+    mark_ends(text, &mut row[flags..flags_end]);
     row[CANDIDATES * m] = 1;
     let mut b = 0;
     let mut committed = 0;

@@ -5,7 +5,7 @@ use mathlib.Core.Path.{refl, sym, _∙_}
 use Rattle.newmm_rules.proofs.Spans.{token-spans}
 use Rattle.newmm_word_step.specs.inner.Walks.{givenBy}
 use Rattle.newmm_one_cut.proofs.Rounds.{Round, b-inside, ends-few, committed-low, here, token-asks, token-round, start-one, round-one, round-more, still-sized}
-use Rattle.newmm_one_cut.proofs.Bounds.{marked, first-round, size₁, part-long}
+use Rattle.newmm_one_cut.proofs.Bounds.{marked, first-round, size₁, part-long, part-blank}
 use Rattle.newmm_one_cut.proofs.cut_marked.Statement.{statement}
 use Rattle.newmm_one_cut.proofs.cut_marked.Tie as tie
 
@@ -24,20 +24,20 @@ mul-flags c = omega (arith, c .before .before .before .pre .short)
 mul-flags-end : tie.Need-mul-flags-end Inv-loop μ-loop
 mul-flags-end c = omega (arith, c .before .before .before .pre .short)
 
-mul-tcc-flags : tie.Need-mul-tcc-flags Inv-loop μ-loop
-mul-tcc-flags c = omega (arith, c .before .before .before .pre .short)
+mul-mark-ends : tie.Need-mul-mark-ends Inv-loop μ-loop
+mul-mark-ends c = omega (arith, c .before .before .before .pre .short)
 
-sub-tcc-flags : tie.Need-sub-tcc-flags Inv-loop μ-loop
-sub-tcc-flags c = omega arith
+sub-mark-ends : tie.Need-sub-mark-ends Inv-loop μ-loop
+sub-mark-ends c = omega arith
 
-part-tcc-flags-start : tie.Need-part-tcc-flags-start Inv-loop μ-loop
-part-tcc-flags-start c = omega (arith, c .before .before .before .pre .size)
+part-mark-ends-start : tie.Need-part-mark-ends-start Inv-loop μ-loop
+part-mark-ends-start c = omega (arith, c .before .before .before .pre .size)
 
-part-tcc-flags-end : tie.Need-part-tcc-flags-end Inv-loop μ-loop
-part-tcc-flags-end c = omega (arith, c .before .before .before .pre .size)
+part-mark-ends-end : tie.Need-part-mark-ends-end Inv-loop μ-loop
+part-mark-ends-end c = omega (arith, c .before .before .before .pre .size)
 
-tcc-flags-requires : tie.Need-tcc-flags-requires Inv-loop μ-loop
-tcc-flags-requires c κs = part-long (c .before .before .before .before .pre) refl
+mark-ends-requires : tie.Need-mark-ends-requires Inv-loop μ-loop
+mark-ends-requires c κs = let f = c .before .before .before .before .pre in (part-long f refl, part-blank f refl)
 
 mul-row : tie.Need-mul-row Inv-loop μ-loop
 mul-row c = omega (arith, c .before .before .before .before .before .before .before .pre .short)
@@ -49,13 +49,13 @@ slice-write-row : tie.Need-slice-write-row Inv-loop μ-loop
 slice-write-row c =
     let c2 = c .before .before in
     let c7 = c2 .before .before .before .before .before in
-    omega (arith, size₁ _ _ (c7 .args .row .now) _ (c7 .pre) refl _ (c2 .tcc-flags .ensures), c7 .pre .size)
+    omega (arith, size₁ _ _ (c7 .args .row .now) _ (c7 .pre) refl _ (c2 .mark-ends .ensures), c7 .pre .size)
 
 loop-holds : tie.Need-loop-holds Inv-loop μ-loop
 loop-holds c =
     let c2 = c .before .before in
     let c7 = c2 .before .before .before .before .before in
-    first-round _ _ _ _ (c7 .pre) refl _ (c2 .tcc-flags .ensures)
+    first-round _ _ _ _ (c7 .pre) refl _ (c2 .mark-ends .ensures)
 
 record-words-requires : tie.Need-record-words-requires Inv-loop μ-loop
 record-words-requires c κs = here (c .before .before .loop .inv) (c .before .loop-test .taken)
@@ -175,11 +175,11 @@ cut-marked-spec =
     add-m
     mul-flags
     mul-flags-end
-    mul-tcc-flags
-    sub-tcc-flags
-    part-tcc-flags-start
-    part-tcc-flags-end
-    tcc-flags-requires
+    mul-mark-ends
+    sub-mark-ends
+    part-mark-ends-start
+    part-mark-ends-end
+    mark-ends-requires
     mul-row
     mul-row-2
     slice-write-row
