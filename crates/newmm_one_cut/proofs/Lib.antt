@@ -1,4 +1,5 @@
 pub mod Small
+pub mod OneEdge
 pub mod Rounds
 pub mod Bounds
 pub mod Whole

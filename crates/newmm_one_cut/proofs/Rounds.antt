@@ -17,6 +17,7 @@ use Rattle.newmm_rules.specs.Search.{pathTo}
 use Rattle.newmm_rules.specs.Cutting.{State, begin, graphOf, commit, settled, takenOut, step1, turn, turns}
 use Rattle.newmm_rules.proofs.Positions.{at-least, member-in, in-member, not-in}
 use Rattle.newmm_rules.proofs.Spans.{word-spans, token-spans}
+use Rattle.newmm_rules.proofs.Search.{Reach}
 use Rattle.newmm_rules.proofs.Edges.{graph-in, few-stand}
 use Rattle.newmm_rules.proofs.Tokens.{few-tokens}
 use Rattle.newmm_rules.proofs.Recording.{Placing}
@@ -30,7 +31,8 @@ use Rattle.trie_pool.specs.inner.Sound.{Readable}
 use Rattle.newmm_word_step.specs.inner.Walks.{givenBy}
 use Rattle.newmm_edges.specs.declared.Progress.{Progress}
 use Rattle.newmm_edges.specs.inner.Recording.{StandFor, Counts, Here, Alone, After, RecordsAll}
-use Rattle.newmm_one_cut.specs.inner.Strips.{NextIs, TokenAt}
+use Rattle.newmm_one_cut.specs.inner.Strips.{NextIs, TokenAt, FirstEdge, OneLeft}
+use Rattle.newmm_one_cut.proofs.OneEdge.{cell-in, first-edge, next-one}
 
 -- the strips stand for the state s of the definition, whose least candidate is b
 pub record Round (text pool row : List ℕ) (m b committed ends : ℕ) (p : Progress) : Type 0 where
@@ -75,11 +77,6 @@ member-again x y l i = go (eqb x y) refl
     go : (t : Bool) → eqb x y ≡ t → member x (y ∷ l) ≡ member x l
     go true e = simp e (sym (ap (λ (z : ℕ). member z l) (eqb-true x y e) ∙ in-member y l i))
     go false e = simp e
-
-cell-in : (l : List ℕ) (j : ℕ) → j < length l → In (getD l j 0) l
-cell-in [] j h = absurd (omega arith)
-cell-in (x ∷ l) zero h = List·Memᴰ·head refl
-cell-in (x ∷ l) (suc j) h = List·Memᴰ·tail (cell-in l j (omega arith))
 
 module _ {text pool row : List ℕ} {m b committed ends : ℕ} {p : Progress} (r : Round text pool row m b committed ends p) where
   abbrev g : Given
@@ -296,7 +293,7 @@ module _ {text pool row : List ℕ} {m b committed ends : ℕ} {p : Progress} (r
       abbrev placing₁ : Placing g b s₁
       placing₁ = at-b .placed-at .placing
 
-      module _ {c : ℕ} (nx : NextIs row′ m b c) {c₁ : ℕ} {cs₁ : List ℕ} (are : s₁ .candidates ≡ c₁ ∷ cs₁) where
+      module _ {c₁ : ℕ} {cs₁ : List ℕ} (are : s₁ .candidates ≡ c₁ ∷ cs₁) where
         first-in : In c₁ (s₁ .candidates)
         first-in = subst (λ (l : List ℕ). In c₁ l) (sym are) (List·Memᴰ·head refl)
 
@@ -314,16 +311,28 @@ module _ {text pool row : List ℕ} {m b committed ends : ℕ} {p : Progress} (r
             let e : not (eqb (getD row′ (5 * m + x) 0) 0) ≡ false = ap not (eq-eqb (getD row′ (5 * m + x) 0) 0 z) in
             not-in x (s₁ .known) (after .stand .marks x h ∙ e) i
 
-        no-later : c ≤ c₁
-        no-later =
-            elim (decLt c₁ c) [ yes l ↦ absurd (known-marked c₁ first-inside (after .stand .shown c₁ first-in) (nx .none c₁ first-above l)) | no n ↦ omega arith ]
+        first-least : (x : ℕ) → b < x → In x (s₁ .known) → c₁ ≤ x
+        first-least x l i = at-least (rises-first (subst (λ (l : List ℕ). Rises (suc b) l) are (placing₁ .handled .rises))) (subst (λ (l : List ℕ). In x l) are (placing₁ .handled .left x i l))
 
-        least-is : c ≡ c₁
-        least-is =
-            let n = no-later in let f = first-inside in
-            let i : In c (s₁ .candidates) = placing₁ .handled .left c (marked-known c (omega arith) (nx .found (omega arith))) (nx .above) in
-            let o = at-least (rises-first (subst (λ (l : List ℕ). Rises (suc b) l) are (placing₁ .handled .rises))) (subst (λ (l : List ℕ). In c l) are i) in
-            omega arith
+        next-is : NextIs row′ m b c₁
+        next-is =
+            let fi = first-inside in
+            record {
+              above = first-above;
+              upto = omega arith;
+              none = λ x l h. unmarked-at x l h (eqb (getD row′ (5 * m + x) 0) 0) refl;
+              found = λ h. known-marked c₁ fi (after .stand .shown c₁ first-in);
+            }
+          where
+            unmarked-at : (x : ℕ) → b < x → x < c₁ → (t : Bool) → eqb (getD row′ (5 * m + x) 0) 0 ≡ t → getD row′ (5 * m + x) 0 ≡ 0
+            unmarked-at x l h true e = eqb-true (getD row′ (5 * m + x) 0) 0 e
+            unmarked-at x l h false e =
+                let fi = first-inside in
+                let f = first-least x l (marked-known x (omega arith) (eqb-false (getD row′ (5 * m + x) 0) 0 e)) in
+                absurd (omega arith)
+
+        least-is : {c : ℕ} → NextIs row′ m b c → c ≡ c₁
+        least-is nx = next-one nx next-is first-inside
 
         -- the edges of the places up to c
         no-edges-past : (v : ℕ) → b < v → graphOf (s₁ .edges) v ≡ []
@@ -464,6 +473,29 @@ module _ {text pool row : List ℕ} {m b committed ends : ℕ} {p : Progress} (r
                 way = leads;
               }
 
+          -- where no place but b has edges, its first one leads to the candidate
+          edge-at : b ≡ committed → FirstEdge row′ m committed c₁
+          edge-at e =
+              let fi = first-inside in let fa = first-above in
+              let same : s₁ .committed ≡ b = same-committed ∙ sym (r .committed-is) ∙ sym e in
+              let lo : s₁ .committed ≤ b = omega arith in
+              subst (λ (v : ℕ). FirstEdge row′ m v c₁) e
+              (first-edge (s₁ .edges) b c₁
+              (λ x y i. let st = placing₁ .handled .edges x y i in omega (arith, st .after, st .before))
+              (λ y i.
+              let sp = spans-edge b y i in
+              let st = placing₁ .handled .edges b y (graph-in b y (s₁ .edges) i) in
+              let f = first-least y (sp .1) (st .known) in
+              omega (arith, sp .2))
+              (subst (λ (a : ℕ). Reach (graphOf (s₁ .edges)) a c₁) same (placing₁ .handled .reach c₁ first-in))
+              first-above
+              row′ m (graph-all b lo (omega arith))
+              (omega (arith, fits-all b lo (omega arith), after .counts .edges))
+              (omega (arith, edges-few, after .counts .edges, r .exact)))
+
+          left-at : OneLeft row′ m committed b ends
+          left-at = record { goal = c₁; next = next-is; start = start-at; edge = edge-at; few = ends-few }
+
           abbrev s₂ : State
           s₂ = commit path₂ c₁ s₁
 
@@ -511,32 +543,33 @@ module _ {text pool row : List ℕ} {m b committed ends : ℕ} {p : Progress} (r
 
       -- ---- by the number of candidates left
 
-      module _ {c : ℕ} (nx : NextIs row′ m b c) where
-        one-by : (l : List ℕ) → s₁ .candidates ≡ l → length l ≡ 1 → (c₁ : ℕ) × (c ≡ c₁) × (s₁ .candidates ≡ c₁ ∷ [])
-        one-by [] e n = absurd (omega arith)
-        one-by (c₁ ∷ []) e n = (c₁, least-is nx e, e)
-        one-by (c₁ ∷ d ∷ ds) e n = absurd (omega arith)
+      one-by : (l : List ℕ) → s₁ .candidates ≡ l → length l ≡ 1 → (c₁ : ℕ) × (s₁ .candidates ≡ c₁ ∷ [])
+      one-by [] e n = absurd (omega arith)
+      one-by (c₁ ∷ []) e n = (c₁, e)
+      one-by (c₁ ∷ d ∷ ds) e n = absurd (omega arith)
 
-        module _ (one-left : q .left ≡ 1) where
-          sole : (c₁ : ℕ) × (c ≡ c₁) × (s₁ .candidates ≡ c₁ ∷ [])
-          sole = one-by (s₁ .candidates) refl (sym (after .counts .left) ∙ one-left)
+      module _ (one-left : q .left ≡ 1) where
+        sole : (c₁ : ℕ) × (s₁ .candidates ≡ c₁ ∷ [])
+        sole = one-by (s₁ .candidates) refl (sym (after .counts .left) ∙ one-left)
 
-          pub start-one : Start row′ m committed c
-          start-one = subst (λ (x : ℕ). Start row′ m committed x) (sym (sole .1)) (start-at nx (sole .2) refl)
+        pub path-asks : OneLeft row′ m committed b ends
+        path-asks = left-at (sole .1) refl
 
-          pub round-one : (row″ : List ℕ) (e : ℕ) → length row″ ≡ length row′ → Path row′ row″ m committed c ends e → Round text pool row″ m c c e (record { edges = 0; left = 0; total = q .total })
-          round-one row″ e sz pa =
-              subst (λ (x : ℕ). Round text pool row″ m x x e (record { edges = 0; left = 0; total = q .total })) (sym (sole .1))
-              (path-round nx (sole .2) refl row″ e sz (subst (λ (x : ℕ). Path row′ row″ m committed x ends e) (sole .1) pa))
+        pub round-one : {c : ℕ} → NextIs row′ m b c → (row″ : List ℕ) (e : ℕ) → length row″ ≡ length row′ → Path row′ row″ m committed c ends e
+            → Round text pool row″ m c c e (record { edges = 0; left = 0; total = q .total })
+        round-one nx row″ e sz pa =
+            let i = least-is (sole .1) nx in
+            subst (λ (x : ℕ). Round text pool row″ m x x e (record { edges = 0; left = 0; total = q .total })) (sym i)
+            (path-round (sole .1) refl row″ e sz (subst (λ (x : ℕ). Path row′ row″ m committed x ends e) i pa))
 
-        pub round-more : (q .left ≡ 0 → ⊥) → (q .left ≡ 1 → ⊥) → Round text pool row′ m c committed ends (record { edges = q .edges; left = q .left - 1; total = q .total })
-        round-more n o = go (s₁ .candidates) refl
-          where
-            go : (l : List ℕ) → s₁ .candidates ≡ l → Round text pool row′ m c committed ends (record { edges = q .edges; left = q .left - 1; total = q .total })
-            go [] e = absurd (n (after .counts .left ∙ ap length e))
-            go (c₁ ∷ []) e = absurd (o (after .counts .left ∙ ap length e))
-            go (c₁ ∷ d ∷ ds) e =
-                subst (λ (x : ℕ). Round text pool row′ m x committed ends (record { edges = q .edges; left = q .left - 1; total = q .total })) (sym (least-is nx e)) (go-round nx e refl)
+      pub round-more : {c : ℕ} → NextIs row′ m b c → (q .left ≡ 0 → ⊥) → (q .left ≡ 1 → ⊥) → Round text pool row′ m c committed ends (record { edges = q .edges; left = q .left - 1; total = q .total })
+      round-more {c} nx n o = go (s₁ .candidates) refl
+        where
+          go : (l : List ℕ) → s₁ .candidates ≡ l → Round text pool row′ m c committed ends (record { edges = q .edges; left = q .left - 1; total = q .total })
+          go [] e = absurd (n (after .counts .left ∙ ap length e))
+          go (c₁ ∷ []) e = absurd (o (after .counts .left ∙ ap length e))
+          go (c₁ ∷ d ∷ ds) e =
+              subst (λ (x : ℕ). Round text pool row′ m x committed ends (record { edges = q .edges; left = q .left - 1; total = q .total })) (sym (least-is e nx)) (go-round e refl)
 
       pub still-sized : Sized row′ m
       still-sized = sized′

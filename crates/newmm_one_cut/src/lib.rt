@@ -1,6 +1,7 @@
 // Plain cutting, after newmm.rs: the loop over candidates.
 use cells::clear_from;
 use cells::narrow;
+use cells::wide;
 use newmm_bfs::CANDIDATES;
 use newmm_bfs::CLUSTER_ENDS;
 use newmm_bfs::EDGE_ENDS;
@@ -15,14 +16,20 @@ ghost use mathlib.Core.Path.{_≡_};
 ghost use Prim.Native.Nat.{_<_};
 ghost use lib.ListN.{set};
 ghost use Rattle.newmm_rules.specs.NonDictionary.{tokenEnd};
-ghost use Rattle.newmm_bfs.specs.inner.Strips.{Sized, candidateCell};
+ghost use Rattle.newmm_bfs.specs.inner.Strips.{Sized, Path, candidateCell};
 ghost use Rattle.newmm_word_step.specs.inner.Walks.{givenBy};
-ghost use Rattle.newmm_one_cut.specs.inner.Strips.{NextIs, TokenAt, Fresh, Lent, Marked, Done};
+ghost use Rattle.newmm_one_cut.specs.inner.Strips.{NextIs, TokenAt, OneLeft, Fresh, Lent, Marked, Done};
 
 // The number of ends, and the number of edges recorded in the whole call.
 pub struct Ends {
     pub ends: usize,
     pub edges: usize,
+}
+
+// Where a path leads, and the number of ends then.
+struct Reached {
+    goal: usize,
+    ends: usize,
 }
 
 // The first candidate above b, or m where there is none.
@@ -53,6 +60,26 @@ fn put_token(text: &[u32], pool: &[u32], row: &mut [u32], m: usize, b: usize, en
     row[CANDIDATES * m + e] = 1;
     row[ends] = narrow(e);
     e
+}
+
+// The ends of the path from the committed end to the one candidate left, behind the first ends.
+// Where no word but those at the committed end was recorded, the path is the first edge that stands.
+fn put_path(row: &mut [u32], m: usize, committed: usize, b: usize, ends: usize) -> Reached
+    requires { ⌜ OneLeft (now row) m committed b ends ⌝ }
+    ensures { λ r. ⌜ NextIs (now (row .entry)) m b (r .goal) ⌝ }
+    ensures { λ r. ⌜ Path (now (row .entry)) (now (row .exit)) m committed (r .goal) ends (r .ends) ⌝ }
+{
+    if b == committed {
+        let e = row[EDGE_ENDS * m];
+        row[ends] = e;
+        return Reached {
+            goal: wide(e),
+            ends: ends + 1,
+        };
+    }
+    let goal = next_candidate(row, m, b);
+    let k = bfs_paths_graph(row, m, committed, goal, ends);
+    Reached { goal, ends: k }
 }
 
 // The cut, in a row of just the cells that it takes: its ends stand at the front then, and the flags
@@ -91,10 +118,11 @@ pub fn cut_marked(text: &[u32], pool: &[u32], row: &mut [u32]) -> Ends
             };
             continue;
         }
-        b = next_candidate(row, m, b);
         if left == 1 {
-            ends = bfs_paths_graph(row, m, committed, b, ends);
+            let r = put_path(row, m, committed, b, ends);
+            b = r.goal;
             committed = b;
+            ends = r.ends;
             p = Progress {
                 edges: 0,
                 left: 0,
@@ -102,6 +130,7 @@ pub fn cut_marked(text: &[u32], pool: &[u32], row: &mut [u32]) -> Ends
             };
             continue;
         }
+        b = next_candidate(row, m, b);
         p = Progress {
             edges,
             left: left - 1,

@@ -4,7 +4,7 @@ use native.Mathlib.Omega.{arith}
 use mathlib.Core.Path.{refl, sym, _∙_}
 use Rattle.newmm_rules.proofs.Spans.{token-spans}
 use Rattle.newmm_word_step.specs.inner.Walks.{givenBy}
-use Rattle.newmm_one_cut.proofs.Rounds.{Round, b-inside, ends-few, committed-low, here, token-asks, token-round, start-one, round-one, round-more, still-sized}
+use Rattle.newmm_one_cut.proofs.Rounds.{Round, b-inside, ends-few, committed-low, here, token-asks, token-round, path-asks, round-one, round-more, still-sized}
 use Rattle.newmm_one_cut.proofs.Bounds.{marked, first-round, size₁, part-long, part-blank}
 use Rattle.newmm_one_cut.proofs.cut_marked.Statement.{statement}
 use Rattle.newmm_one_cut.proofs.cut_marked.Tie as tie
@@ -37,7 +37,9 @@ part-mark-ends-end : tie.Need-part-mark-ends-end Inv-loop μ-loop
 part-mark-ends-end c = omega (arith, c .before .before .before .pre .size)
 
 mark-ends-requires : tie.Need-mark-ends-requires Inv-loop μ-loop
-mark-ends-requires c κs = let f = c .before .before .before .before .pre in (part-long f refl, part-blank f refl)
+mark-ends-requires c κs =
+    let c4 = c .before .before .before .before in
+    (part-long (c4 .pre) refl, part-blank (c4 .pre) refl)
 
 mul-row : tie.Need-mul-row Inv-loop μ-loop
 mul-row c = omega (arith, c .before .before .before .before .before .before .before .pre .short)
@@ -96,72 +98,62 @@ loop-again c =
     token-round (c10 .loop .inv) (c9 .loop-test .taken) (c7 .record-words .ensures .0) (c7 .record-words .ensures .1)
     (c7 .record-words .kept .1 .1 .0) (c4 .if1 .taken) _ _ (c2 .put-token .ensures .0) (c2 .put-token .ensures .1)
 
-next-candidate-requires : tie.Need-next-candidate-requires Inv-loop μ-loop
-next-candidate-requires c κs =
-    let c4 = c .before .before .before .before in
-    let c6 = c4 .before .before in
-    let c7 = c6 .before in (
-      still-sized (c7 .loop .inv) (c6 .loop-test .taken) (c4 .record-words .ensures .0) (c4 .record-words .ensures .1)
-          (c4 .record-words .kept .1 .1 .0),
-      (let l = c6 .loop-test .taken in omega (arith, c7 .loop .inv .size-is)),
-    )
-
-bfs-paths-graph-requires : tie.Need-bfs-paths-graph-requires Inv-loop μ-loop
-bfs-paths-graph-requires c κs =
-    let c2 = c .before .before in
-    let c7 = c2 .before .before .before .before .before in
-    let c9 = c7 .before .before in
-    let c10 = c9 .before in (
-      start-one (c10 .loop .inv) (c9 .loop-test .taken) (c7 .record-words .ensures .0) (c7 .record-words .ensures .1)
-          (c7 .record-words .kept .1 .1 .0) (c2 .next-candidate .ensures) (c .before .if2 .taken),
-      ends-few
-          (c10 .loop .inv),
-    )
+put-path-requires : tie.Need-put-path-requires Inv-loop μ-loop
+put-path-requires c κs =
+    let c5 = c .before .before .before .before .before in
+    let c7 = c5 .before .before in
+    let c8 = c7 .before in
+    path-asks (c8 .loop .inv) (c7 .loop-test .taken) (c5 .record-words .ensures .0) (c5 .record-words .ensures .1)
+    (c5 .record-words .kept .1 .1 .0) (c .before .if2 .taken)
 
 loop-less-2 : tie.Need-loop-less-2 Inv-loop μ-loop
 loop-less-2 c =
-    let c5 = c .before .before .before .before .before in
-    let c12 = c5 .before .before .before .before .before .before .before in
-    let l = c12 .loop-test .taken in
-    let n = c5 .next-candidate .ensures .above in
+    let l = c .before .before .before .before .before .before .before .before .before .before .loop-test .taken in
+    let n = c .before .before .put-path .ensures .0 .above in
     omega arith
 
 loop-again-2 : tie.Need-loop-again-2 Inv-loop μ-loop
 loop-again-2 c =
     let c2 = c .before .before in
     let c4 = c2 .before .before in
-    let c5 = c4 .before in
-    let c10 = c5 .before .before .before .before .before in
-    let c12 = c10 .before .before in
-    let c13 = c12 .before in
-    round-one (c13 .loop .inv) (c12 .loop-test .taken) (c10 .record-words .ensures .0) (c10 .record-words .ensures .1)
-    (c10 .record-words .kept .1 .1 .0) (c5 .next-candidate .ensures) (c4 .if2 .taken) _ _
-    (c2 .bfs-paths-graph .kept .0) (c2 .bfs-paths-graph .ensures)
+    let c8 = c4 .before .before .before .before in
+    let c10 = c8 .before .before in
+    let c11 = c10 .before in
+    round-one (c11 .loop .inv) (c10 .loop-test .taken) (c8 .record-words .ensures .0) (c8 .record-words .ensures .1)
+    (c8 .record-words .kept .1 .1 .0) (c4 .if2 .taken) (c2 .put-path .ensures .0) _ _ (c2 .put-path .kept .0)
+    (c2 .put-path .ensures .1)
 
-sub-t32 : tie.Need-sub-t32 Inv-loop μ-loop
-sub-t32 c = let n = c .before .before .before .if1 .left in omega arith
+next-candidate-requires : tie.Need-next-candidate-requires Inv-loop μ-loop
+next-candidate-requires c κs =
+    let c5 = c .before .before .before .before .before in
+    let c7 = c5 .before .before in
+    let c8 = c7 .before in (
+      still-sized (c8 .loop .inv) (c7 .loop-test .taken) (c5 .record-words .ensures .0) (c5 .record-words .ensures .1)
+          (c5 .record-words .kept .1 .1 .0),
+      (let l = c7 .loop-test .taken in omega (arith, c8 .loop .inv .size-is)),
+    )
+
+sub-t33 : tie.Need-sub-t33 Inv-loop μ-loop
+sub-t33 c = let n = c .before .before .before .if1 .left in omega arith
 
 loop-less-3 : tie.Need-loop-less-3 Inv-loop μ-loop
 loop-less-3 c =
-    let c8 = c .before .before .before .before .before .before .before .before in
-    let l = c8 .loop-test .taken in
-    let n = c .before .next-candidate .ensures .above in
+    let l = c .before .before .before .before .before .before .before .before .loop-test .taken in
+    let n = c .next-candidate .ensures .above in
     omega arith
 
 loop-again-3 : tie.Need-loop-again-3 Inv-loop μ-loop
 loop-again-3 c =
-    let c3 = c .before .before .before in
+    let c2 = c .before .before in
+    let c3 = c2 .before in
     let c6 = c3 .before .before .before in
     let c8 = c6 .before .before in
     let c9 = c8 .before in
     round-more (c9 .loop .inv) (c8 .loop-test .taken) (c6 .record-words .ensures .0) (c6 .record-words .ensures .1)
-    (c6 .record-words .kept .1 .1 .0) (c .before .next-candidate .ensures) (c3 .if1 .left) (c .if2 .left)
+    (c6 .record-words .kept .1 .1 .0) (c .next-candidate .ensures) (c3 .if1 .left) (c2 .if2 .left)
 
 same-length : tie.Need-same-length Inv-loop μ-loop
-same-length c =
-    let c1 = c .before in
-    let c9 = c1 .before .before .before .before .before .before .before .before in
-    c1 .loop .inv .exact ∙ sym (c9 .pre .size)
+same-length c = c .before .loop .inv .exact ∙ sym (c .before .before .before .before .before .before .before .before .before .pre .size)
 
 returns : tie.Need-returns Inv-loop μ-loop
 returns c = marked (c .before .loop .inv) (c .loop-test .left)
@@ -189,11 +181,11 @@ cut-marked-spec =
     add-ends
     loop-less
     loop-again
-    next-candidate-requires
-    bfs-paths-graph-requires
+    put-path-requires
     loop-less-2
     loop-again-2
-    sub-t32
+    next-candidate-requires
+    sub-t33
     loop-less-3
     loop-again-3
     same-length
