@@ -13,7 +13,6 @@ use Rattle.newmm_rules.specs.Positions.{any, member}
 use Rattle.newmm_rules.specs.Words.{Given, size}
 use Rattle.newmm_rules.specs.Cutting.{State, begin, turns, cut}
 use Rattle.newmm_rules.proofs.Turns.{Between, at-first, turn-off}
-use Rattle.newmm_bfs.specs.inner.Strips.{before}
 use Rattle.tcc.specs.Flags.{endFlags}
 use Rattle.tcc.proofs.Marks.{ends-long}
 use Rattle.newmm_word_step.specs.inner.Walks.{givenBy}

@@ -10,7 +10,7 @@ use lib.Seq.{getD-set-other, drop-set-lt, take-suc-set}
 use borrow.Author.Tests.{eq-eqb}
 use Rattle.newmm_rules.specs.Positions.{In}
 use Rattle.newmm_rules.specs.Cutting.{Edge, graphOf}
-use Rattle.newmm_rules.specs.Search.{Graph, Way, Queue, passed, after, searched, pathTo}
+use Rattle.newmm_rules.specs.Search.{Graph, Queue, passed, after, searched, pathTo}
 use Rattle.newmm_rules.proofs.Search.{Reach, here, edge}
 use Rattle.newmm_rules.proofs.Edges.{edgeOf, graph-in}
 use Rattle.newmm_bfs.specs.inner.Strips.{graphIn, Start, Path}

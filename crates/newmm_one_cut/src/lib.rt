@@ -62,8 +62,8 @@ fn put_token(text: &[u32], pool: &[u32], row: &mut [u32], m: usize, b: usize, en
     e
 }
 
-// The ends of the path from the committed end to the one candidate left, behind the first ends.
-// Where no word but those at the committed end was recorded, the path is the first edge that stands.
+// Writes the ends of the path from the committed end to the one candidate left behind the first
+// ends. Where b is the committed end, the path is the first edge that stands.
 fn put_path(row: &mut [u32], m: usize, committed: usize, b: usize, ends: usize) -> Reached
     requires { ⌜ OneLeft (now row) m committed b ends ⌝ }
     ensures { λ r. ⌜ NextIs (now (row .entry)) m b (r .goal) ⌝ }
@@ -82,8 +82,8 @@ fn put_path(row: &mut [u32], m: usize, committed: usize, b: usize, ends: usize) 
     Reached { goal, ends: k }
 }
 
-// The cut, in a row of just the cells that it takes: its ends stand at the front then, and the flags
-// of the cluster ends in their strip. The other cells may hold anything.
+// The cut, in a row of just the cells that it takes: its ends stand at the front then, and the
+// flags of the cluster ends in their strip. The other cells may hold anything.
 pub fn cut_marked(text: &[u32], pool: &[u32], row: &mut [u32]) -> Ends
     requires { ⌜ Fresh (now text) (now pool) (now row) ⌝ }
     ensures { λ r. ⌜ Marked (givenBy (now (text .entry)) (now (pool .entry))) (now (text .entry)) (now (row .exit)) r ⌝ }

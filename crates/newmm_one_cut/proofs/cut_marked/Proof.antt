@@ -4,7 +4,9 @@ use native.Mathlib.Omega.{arith}
 use mathlib.Core.Path.{refl, sym, _∙_}
 use Rattle.newmm_rules.proofs.Spans.{token-spans}
 use Rattle.newmm_word_step.specs.inner.Walks.{givenBy}
-use Rattle.newmm_one_cut.proofs.Rounds.{Round, b-inside, ends-few, committed-low, here, token-asks, token-round, path-asks, round-one, round-more, still-sized}
+use Rattle.newmm_one_cut.proofs.Rounds.{Round, b-inside, ends-few, committed-low, here, recorded}
+use Rattle.newmm_one_cut.proofs.Tokens.{token-asks, token-round}
+use Rattle.newmm_one_cut.proofs.Candidates.{path-asks, round-one, round-more}
 use Rattle.newmm_one_cut.proofs.Bounds.{marked, first-round, size₁, part-long, part-blank}
 use Rattle.newmm_one_cut.proofs.cut_marked.Statement.{statement}
 use Rattle.newmm_one_cut.proofs.cut_marked.Tie as tie
@@ -67,8 +69,8 @@ put-token-requires c κs =
     let c4 = c .before .before .before .before in
     let c6 = c4 .before .before in
     let c7 = c6 .before in
-    token-asks (c7 .loop .inv) (c6 .loop-test .taken) (c4 .record-words .ensures .0) (c4 .record-words .ensures .1)
-    (c4 .record-words .kept .1 .1 .0) (c .before .if1 .taken)
+    token-asks (recorded (c7 .loop .inv) (c6 .loop-test .taken) (c4 .record-words .ensures .0) (c4 .record-words .ensures .1)
+    (c4 .record-words .kept .1 .1 .0)) (c .before .if1 .taken)
 
 add-ends : tie.Need-add-ends Inv-loop μ-loop
 add-ends c =
@@ -95,16 +97,16 @@ loop-again c =
     let c7 = c4 .before .before .before in
     let c9 = c7 .before .before in
     let c10 = c9 .before in
-    token-round (c10 .loop .inv) (c9 .loop-test .taken) (c7 .record-words .ensures .0) (c7 .record-words .ensures .1)
-    (c7 .record-words .kept .1 .1 .0) (c4 .if1 .taken) _ _ (c2 .put-token .ensures .0) (c2 .put-token .ensures .1)
+    token-round (recorded (c10 .loop .inv) (c9 .loop-test .taken) (c7 .record-words .ensures .0) (c7 .record-words .ensures .1)
+    (c7 .record-words .kept .1 .1 .0)) (c4 .if1 .taken) _ _ (c2 .put-token .ensures .0) (c2 .put-token .ensures .1)
 
 put-path-requires : tie.Need-put-path-requires Inv-loop μ-loop
 put-path-requires c κs =
     let c5 = c .before .before .before .before .before in
     let c7 = c5 .before .before in
     let c8 = c7 .before in
-    path-asks (c8 .loop .inv) (c7 .loop-test .taken) (c5 .record-words .ensures .0) (c5 .record-words .ensures .1)
-    (c5 .record-words .kept .1 .1 .0) (c .before .if2 .taken)
+    path-asks (recorded (c8 .loop .inv) (c7 .loop-test .taken) (c5 .record-words .ensures .0) (c5 .record-words .ensures .1)
+    (c5 .record-words .kept .1 .1 .0)) (c .before .if2 .taken)
 
 loop-less-2 : tie.Need-loop-less-2 Inv-loop μ-loop
 loop-less-2 c =
@@ -119,8 +121,8 @@ loop-again-2 c =
     let c8 = c4 .before .before .before .before in
     let c10 = c8 .before .before in
     let c11 = c10 .before in
-    round-one (c11 .loop .inv) (c10 .loop-test .taken) (c8 .record-words .ensures .0) (c8 .record-words .ensures .1)
-    (c8 .record-words .kept .1 .1 .0) (c4 .if2 .taken) (c2 .put-path .ensures .0) _ _ (c2 .put-path .kept .0)
+    round-one (recorded (c11 .loop .inv) (c10 .loop-test .taken) (c8 .record-words .ensures .0) (c8 .record-words .ensures .1)
+    (c8 .record-words .kept .1 .1 .0)) (c4 .if2 .taken) (c2 .put-path .ensures .0) _ _ (c2 .put-path .kept .0)
     (c2 .put-path .ensures .1)
 
 next-candidate-requires : tie.Need-next-candidate-requires Inv-loop μ-loop
@@ -128,8 +130,8 @@ next-candidate-requires c κs =
     let c5 = c .before .before .before .before .before in
     let c7 = c5 .before .before in
     let c8 = c7 .before in (
-      still-sized (c8 .loop .inv) (c7 .loop-test .taken) (c5 .record-words .ensures .0) (c5 .record-words .ensures .1)
-          (c5 .record-words .kept .1 .1 .0),
+      recorded (c8 .loop .inv) (c7 .loop-test .taken) (c5 .record-words .ensures .0) (c5 .record-words .ensures .1)
+          (c5 .record-words .kept .1 .1 .0) .sized,
       (let l = c7 .loop-test .taken in omega (arith, c8 .loop .inv .size-is)),
     )
 
@@ -149,8 +151,8 @@ loop-again-3 c =
     let c6 = c3 .before .before .before in
     let c8 = c6 .before .before in
     let c9 = c8 .before in
-    round-more (c9 .loop .inv) (c8 .loop-test .taken) (c6 .record-words .ensures .0) (c6 .record-words .ensures .1)
-    (c6 .record-words .kept .1 .1 .0) (c .next-candidate .ensures) (c3 .if1 .left) (c2 .if2 .left)
+    round-more (recorded (c9 .loop .inv) (c8 .loop-test .taken) (c6 .record-words .ensures .0) (c6 .record-words .ensures .1)
+    (c6 .record-words .kept .1 .1 .0)) (c .next-candidate .ensures) (c3 .if1 .left) (c2 .if2 .left)
 
 same-length : tie.Need-same-length Inv-loop μ-loop
 same-length c = c .before .loop .inv .exact ∙ sym (c .before .before .before .before .before .before .before .before .before .pre .size)
