@@ -1,10 +1,11 @@
 -- The strips before the first round and behind the last. Assumes nothing.
 use Prim.Native.Nat.{ℕ, zero, suc, _+_, _*_, _-_, _≤_, _<_}
 use native.Mathlib.Omega.{arith}
+use native.Mathlib.Decide.{decLt}
 use mathlib.Core.Path.{_≡_, refl, sym, _∙_, ap}
 use mathlib.Core.Bool.{Bool, true, false, not}
 use mathlib.Core.List.{List, [], _∷_, _++_, append-nil, head-eq-of-cons-eq, tail-eq-of-cons-eq}
-use lib.ListN.{length, getD, set, take, drop, length-set, length-append, length-drop, replicate, drop-of-length-le, List·getD-append}
+use lib.ListN.{length, getD, set, take, drop, length-set, length-append, length-drop, replicate, drop-of-length-le, List·getD-append, List·getD-eq-default}
 use lib.Seq.{getD-set-same, getD-set-other, drop-set-lt, getD-take, getD-drop, length-take-le, take-at, drop-at}
 use lib.Dec.{eqb}
 use borrow.Author.Tests.{eq-eqb, ne-eqb, eqb-true, eqb-false}
@@ -12,7 +13,6 @@ use Rattle.newmm_rules.specs.Positions.{any, member}
 use Rattle.newmm_rules.specs.Words.{Given, size}
 use Rattle.newmm_rules.specs.Cutting.{State, begin, turns, cut}
 use Rattle.newmm_rules.proofs.Turns.{Between, at-first, turn-off}
-use Rattle.newmm_bfs.specs.inner.Strips.{before}
 use Rattle.tcc.specs.Flags.{endFlags}
 use Rattle.tcc.proofs.Marks.{ends-long}
 use Rattle.newmm_word_step.specs.inner.Walks.{givenBy}
@@ -150,6 +150,25 @@ module _ (text pool row : List ℕ) (m : ℕ) (f : Fresh text pool row) (size-is
       marks-first : (x : ℕ) → x < m → member x (0 ∷ []) ≡ not (eqb (getD row₂ (5 * m + x) 0) 0)
       marks-first x h = first-marks row₂ m x (getD-set-same row₁ (5 * m) 1 0 (omega (arith, size₁, f .size))) (λ n. low₂ (5 * m + x) (omega arith) (λ e. n (omega arith)))
 
-pub part-long : {text pool row : List ℕ} {m : ℕ} → Fresh text pool row → m ≡ length text + 1 → length text < length (take (7 * m - 6 * m) (drop (6 * m) row))
-part-long {text} {pool} {row} {m} f e =
-    omega (arith, length-take-le (7 * m - 6 * m) (drop (6 * m) row) (omega (arith, length-drop (6 * m) row, f .size)))
+-- the strip of the cluster ends, before they are marked
+module _ {text pool row : List ℕ} {m : ℕ} (f : Fresh text pool row) (e : m ≡ length text + 1) where
+  abbrev strip : List ℕ
+  strip = take (7 * m - 6 * m) (drop (6 * m) row)
+
+  strip-size : length strip ≡ length text + 1
+  strip-size = length-take-le (7 * m - 6 * m) (drop (6 * m) row) (omega (arith, length-drop (6 * m) row, f .size)) ∙ omega arith
+
+  pub part-long : length text < length strip
+  part-long = omega (arith, strip-size)
+
+  strip-cell : (k : ℕ) → getD strip k 0 ≡ 0
+  strip-cell k =
+      elim (decLt k (7 * m - 6 * m)) [
+        | yes h ↦ getD-take (7 * m - 6 * m) (drop (6 * m) row) k 0 h ∙ getD-drop (6 * m) row k 0 ∙ f .blank (6 * m + k)
+        | no n ↦ List·getD-eq-default strip 0 {n = k} (omega (arith, strip-size))
+      ]
+
+  pub part-blank : strip ≡ replicate {A = ℕ} (length text + 1) 0 ++ drop (length text + 1) strip
+  part-blank =
+      zeros-are strip strip-cell ∙ ap (λ (k : ℕ). replicate {A = ℕ} k 0) strip-size ∙ sym (append-nil (replicate {A = ℕ} (length text + 1) 0))
+      ∙ ap (λ (l : List ℕ). replicate {A = ℕ} (length text + 1) 0 ++ l) (sym (drop-of-length-le strip {i = length text + 1} (omega (arith, strip-size))))

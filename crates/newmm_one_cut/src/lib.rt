@@ -1,6 +1,7 @@
 // Plain cutting, after newmm.rs: the loop over candidates.
 use cells::clear_from;
 use cells::narrow;
+use cells::wide;
 use newmm_bfs::CANDIDATES;
 use newmm_bfs::CLUSTER_ENDS;
 use newmm_bfs::EDGE_ENDS;
@@ -10,19 +11,25 @@ use newmm_edges::Progress;
 use newmm_edges::record_words;
 use newmm_rules::MAX_GRAPH_SIZE;
 use newmm_skip::token_end;
-use tcc::tcc_flags;
+use tcc::mark_ends;
 ghost use mathlib.Core.Path.{_≡_};
 ghost use Prim.Native.Nat.{_<_};
 ghost use lib.ListN.{set};
 ghost use Rattle.newmm_rules.specs.NonDictionary.{tokenEnd};
-ghost use Rattle.newmm_bfs.specs.inner.Strips.{Sized, candidateCell};
+ghost use Rattle.newmm_bfs.specs.inner.Strips.{Sized, Path, candidateCell};
 ghost use Rattle.newmm_word_step.specs.inner.Walks.{givenBy};
-ghost use Rattle.newmm_one_cut.specs.inner.Strips.{NextIs, TokenAt, Fresh, Lent, Marked, Done};
+ghost use Rattle.newmm_one_cut.specs.inner.Strips.{NextIs, TokenAt, OneLeft, Fresh, Lent, Marked, Done};
 
 // The number of ends, and the number of edges recorded in the whole call.
 pub struct Ends {
     pub ends: usize,
     pub edges: usize,
+}
+
+// Where a path leads, and the number of ends then.
+struct Reached {
+    goal: usize,
+    ends: usize,
 }
 
 // The first candidate above b, or m where there is none.
@@ -55,8 +62,28 @@ fn put_token(text: &[u32], pool: &[u32], row: &mut [u32], m: usize, b: usize, en
     e
 }
 
-// The cut, in a row of just the cells that it takes: its ends stand at the front then, and the flags
-// of the cluster ends in their strip. The other cells may hold anything.
+// Writes the ends of the path from the committed end to the one candidate left behind the first
+// ends. Where b is the committed end, the path is the first edge that stands.
+fn put_path(row: &mut [u32], m: usize, committed: usize, b: usize, ends: usize) -> Reached
+    requires { ⌜ OneLeft (now row) m committed b ends ⌝ }
+    ensures { λ r. ⌜ NextIs (now (row .entry)) m b (r .goal) ⌝ }
+    ensures { λ r. ⌜ Path (now (row .entry)) (now (row .exit)) m committed (r .goal) ends (r .ends) ⌝ }
+{
+    if b == committed {
+        let e = row[EDGE_ENDS * m];
+        row[ends] = e;
+        return Reached {
+            goal: wide(e),
+            ends: ends + 1,
+        };
+    }
+    let goal = next_candidate(row, m, b);
+    let k = bfs_paths_graph(row, m, committed, goal, ends);
+    Reached { goal, ends: k }
+}
+
+// The cut, in a row of just the cells that it takes: its ends stand at the front then, and the
+// flags of the cluster ends in their strip. The other cells may hold anything.
 pub fn cut_marked(text: &[u32], pool: &[u32], row: &mut [u32]) -> Ends
     requires { ⌜ Fresh (now text) (now pool) (now row) ⌝ }
     ensures { λ r. ⌜ Marked (givenBy (now (text .entry)) (now (pool .entry))) (now (text .entry)) (now (row .exit)) r ⌝ }
@@ -65,7 +92,7 @@ pub fn cut_marked(text: &[u32], pool: &[u32], row: &mut [u32]) -> Ends
     let m = n + 1;
     let flags = CLUSTER_ENDS * m;
     let flags_end = EDGE_ENDS * m;
-    tcc_flags(text, &mut row[flags..flags_end]);
+    mark_ends(text, &mut row[flags..flags_end]);
     row[CANDIDATES * m] = 1;
     let mut b = 0;
     let mut committed = 0;
@@ -91,10 +118,11 @@ pub fn cut_marked(text: &[u32], pool: &[u32], row: &mut [u32]) -> Ends
             };
             continue;
         }
-        b = next_candidate(row, m, b);
         if left == 1 {
-            ends = bfs_paths_graph(row, m, committed, b, ends);
+            let r = put_path(row, m, committed, b, ends);
+            b = r.goal;
             committed = b;
+            ends = r.ends;
             p = Progress {
                 edges: 0,
                 left: 0,
@@ -102,6 +130,7 @@ pub fn cut_marked(text: &[u32], pool: &[u32], row: &mut [u32]) -> Ends
             };
             continue;
         }
+        b = next_candidate(row, m, b);
         p = Progress {
             edges,
             left: left - 1,

@@ -64,7 +64,7 @@ pub fn tcc_pos(text: &[u32], out: &mut [u32]) -> Answer
 
 // Marks each cluster end with 1. The row's first cells, one for each position of the text, are 0
 // before.
-fn mark_ends(text: &[u32], row: &mut [u32])
+pub fn mark_ends(text: &[u32], row: &mut [u32])
     requires { ⌜ (length (now text) < length (now row)) ×
         (now row ≡ replicate (length (now text) + 1) 0 ++ drop (length (now text) + 1) (now row)) ⌝ }
     ensures { λ _. ⌜ now (row .exit) ≡

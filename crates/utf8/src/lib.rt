@@ -9,6 +9,7 @@ use utf8_sequences::next_size;
 use utf8_sequences::piece_at;
 use utf8_sequences::piece_of_e0;
 use utf8_sequences::thai_at;
+use utf8_sequences::thai_of_four;
 ghost use mathlib.Core.Path.{_≡_};
 ghost use mathlib.Core.Bool.{true};
 ghost use Prim.Native.Nat.{_<_, _≤_};
@@ -33,25 +34,49 @@ pub struct Reached {
     pub scalars: usize,
 }
 
-// On over the Thai characters that follow.
+// On over one Thai character, if one follows.
+fn over_one_thai(s: &[u8], from: usize, before: usize) -> Reached
+    requires { ⌜ Read (now s) from before ⌝ }
+    ensures { λ r. ⌜ Read (now (s .entry)) (r .at) (r .scalars) × (from ≤ r .at) ⌝ }
+{
+    if s.len() - from < 3 {
+        return Reached {
+            at: from,
+            scalars: before,
+        };
+    }
+    if !thai_at(s, from) {
+        return Reached {
+            at: from,
+            scalars: before,
+        };
+    }
+    Reached {
+        at: from + 3,
+        scalars: before + 1,
+    }
+}
+
+// On over the Thai characters that follow. The last of the text has no byte behind it, and is asked
+// for by itself.
 fn over_thai(s: &[u8], from: usize, before: usize) -> Reached
     requires { ⌜ Read (now s) from before ⌝ }
     ensures { λ r. ⌜ Read (now (s .entry)) (r .at) (r .scalars) × (from ≤ r .at) ⌝ }
 {
     let mut at = from;
     let mut n = before;
-    if s.len() < 3 {
-        return Reached { at, scalars: n };
+    if s.len() < 4 {
+        return over_one_thai(s, from, before);
     }
-    let end = s.len() - 2;
+    let end = s.len() - 3;
     while at < end {
-        if !thai_at(s, at) {
+        if !thai_of_four(s, at) {
             return Reached { at, scalars: n };
         }
         at += 3;
         n += 1;
     }
-    Reached { at, scalars: n }
+    over_one_thai(s, at, n)
 }
 
 // The first pass, with the table.

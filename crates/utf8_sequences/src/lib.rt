@@ -9,7 +9,7 @@ ghost use Prim.Native.Nat.{_+_, _<_};
 ghost use lib.ListN.{length, getD, drop};
 ghost use Rattle.lists.specs.Scans.{within};
 ghost use Rattle.utf8_sequences.specs.Sequences.{Leads, sizeOf};
-ghost use Rattle.utf8_sequences.specs.inner.Pieces.{pieceOf};
+ghost use Rattle.utf8_sequences.specs.inner.Pieces.{pieceOf, FourBytes};
 
 // The scalar at a place, and the number of bytes of its sequence.
 pub struct Piece {
@@ -80,6 +80,36 @@ pub fn thai_at(s: &[u8], at: usize) -> bool
         return false;
     }
     is_trail(s[at + 2])
+}
+
+fn byte(b: u8) -> u32
+    ensures { λ r. ⌜ (r ≡ b) × (r < 256) ⌝ }
+{
+    b as u32
+}
+
+// Four bytes as one number, the first of them lowest. The compiler makes it one read.
+fn four(s: &[u8], at: usize) -> u32
+    requires { ⌜ at + 3 < length (now s) ⌝ }
+    ensures { λ r. ⌜ FourBytes (now (s .entry)) at r ⌝ }
+{
+    let low = byte(s[at]) + byte(s[at + 1]) * 0x100;
+    low + byte(s[at + 2]) * 0x10000 + byte(s[at + 3]) * 0x1000000
+}
+
+// The bits that tell a character of the Thai block, in four bytes of which it is the first three,
+// and what they are there: E0, B8 or B9, and a byte from 80 to BF.
+const THAI_BITS: u32 = 0x00C0FEFF;
+
+const THAI: u32 = 0x0080B8E0;
+
+// The same as `thai_at`, where three bytes follow.
+pub fn thai_of_four(s: &[u8], at: usize) -> bool
+    requires { ⌜ at + 3 < length (now s) ⌝ }
+    ensures { λ r. ⌜ (r ≡ true → 3 ≡ sizeOf (drop at (now (s .entry)))) ⌝ }
+{
+    let bits = four(s, at) & THAI_BITS;
+    bits == THAI
 }
 
 // The length of the sequence at a place where ASCII or a character of the Thai block stands. 0 says

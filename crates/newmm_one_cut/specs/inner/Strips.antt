@@ -5,7 +5,7 @@ use mathlib.Core.List.{List, _++_}
 use lib.ListN.{length, getD, take, drop, replicate}
 use Rattle.newmm_rules.specs.Words.{Given}
 use Rattle.newmm_rules.specs.Cutting.{Cut, cut}
-use Rattle.newmm_bfs.specs.inner.Strips.{Sized, cellsFor, candidateOf, flagsIn}
+use Rattle.newmm_bfs.specs.inner.Strips.{Sized, Start, cellsFor, edgeCell, firstOf, countOf, candidateOf, flagsIn}
 use Rattle.tcc.specs.Flags.{endFlags}
 use Rattle.trie_pool.specs.inner.Sound.{Readable}
 use Rattle.newmm_one_cut.specs.declared.Ends.{Ends}
@@ -25,6 +25,20 @@ pub record TokenAt (text pool row : List ℕ) (m b ends : ℕ) : Type 0 where
   pub root-is : Readable pool 0
   pub flags-are : flagsIn row m ≡ endFlags text
   pub room : ends < m
+
+-- the edges of v are the first that stand, and the first of them leads to the goal
+pub record FirstEdge (row : List ℕ) (m v goal : ℕ) : Type 0 where
+  pub first : firstOf row m v ≡ 0
+  pub some : 0 < countOf row m v
+  pub to : getD row (edgeCell m 0) 0 ≡ goal
+
+-- what the path to the one candidate left asks: words from the committed end up to b are recorded
+pub record OneLeft (row : List ℕ) (m committed b ends : ℕ) : Type 0 where
+  pub goal : ℕ
+  pub next : NextIs row m b goal
+  pub start : Start row m committed goal
+  pub edge : b ≡ committed → FirstEdge row m committed goal
+  pub few : ends ≤ committed
 
 -- a text, the cells of a dictionary, and as many cells as a text of that length takes, all 0
 pub record Fresh (text pool row : List ℕ) : Type 0 where
