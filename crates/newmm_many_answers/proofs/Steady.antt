@@ -10,6 +10,7 @@ use lib.Seq.{length-take-le}
 use Rattle.trie_pool.specs.Meaning.{Words}
 use Rattle.trie_check.specs.Refusals.{held}
 use Rattle.newmm_rules.specs.declared.Mode.{Mode}
+use Rattle.newmm_answers.specs.declared.CutAnswer.{CutAnswer}
 use Rattle.newmm_reasons_answers.specs.Told.{toldOf}
 use Rattle.newmm_reasons_answers.specs.Answers.{pairs, pairRoom}
 use Rattle.newmm_reasons_answers.proofs.Told.{as-many}
@@ -66,6 +67,9 @@ module _ (mode : Mode) (m : Option Words) where
   unfolding steady cut-steady reasons-steady
   steady-width Ends = refl
   steady-width Pairs = refl
+
+  pub by-width : (wanted : Wanted) (told : CutAnswer) {n : ℕ} → n ≡ widthOf wanted * endsTold told → n ≡ steady wanted .width * endsTold told
+  by-width wanted told e = e ∙ ap (λ (w : ℕ). w * endsTold told) (sym (steady-width wanted))
 
 -- ---- what was written, and the rest
 
