@@ -1,10 +1,10 @@
 -- Assumes nothing.
 use Rattle.host_telling.proofs.Answers.{telling}
 use borrow.Author.Needs.{needs}
-use Rattle.host_many.proofs.cut_many_safe.Statement.{statement}
-use Rattle.host_many.proofs.cut_many_safe.Tie as tie
-use Rattle.host_many.proofs.cut_many_safe.Reads as reads
-use Rattle.host_many.proofs.cut_many_safe.Lts as lts
+use Rattle.host_many.proofs.cuts.cut_many_sheet.Statement.{statement}
+use Rattle.host_many.proofs.cuts.cut_many_sheet.Tie as tie
+use Rattle.host_many.proofs.cuts.cut_many_sheet.Reads as reads
+use Rattle.host_many.proofs.cuts.cut_many_sheet.Lts as lts
 use Rattle.host_telling.proofs.tell.Reads as tell-reads
 use Rattle.newmm_many.proofs.cut_many.Reads as cut-many-reads
 
@@ -28,7 +28,7 @@ returns c =
     let c9 = c .before .before .before .before .before .before .before .before .before in
     (telling (c9 .cut-many .ensures .0) (c .tell .ensures), c9 .cut-many .ensures .1)
 
-pub cut-many-safe-spec : {M : Type 1} → statement M
-cut-many-safe-spec =
+pub cut-many-sheet-spec : {M : Type 1} → statement M
+cut-many-sheet-spec =
     tie.close
     (tie.spec cut-many-requires tell-requires same-length same-length-2 same-length-3 returns)
