@@ -175,7 +175,17 @@ fn lend(
 ) {
     let named = mode_of(field(line, 1));
     match named {
-        Named::In(mode) => ask(line, pool, texts, text_ends, answers, out, scratch, mode, form),
+        Named::In(mode) => ask(
+            line,
+            pool,
+            texts,
+            text_ends,
+            answers,
+            out,
+            scratch,
+            mode,
+            form,
+        ),
         Named::Nothing => print(b"?"),
     }
 }
@@ -245,9 +255,7 @@ fn call(
     smear(answers);
     smear(out);
     smear(scratch);
-    let answer = answer_to(
-        texts, text_ends, pool, answers, out, scratch, mode, form,
-    );
+    let answer = answer_to(texts, text_ends, pool, answers, out, scratch, mode, form);
     show(answer, answers, out, scratch, has_pairs(form));
 }
 
