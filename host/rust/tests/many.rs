@@ -96,7 +96,7 @@ fn as_by_themselves() {
     let texts: Vec<&str> =
         groups.iter().flat_map(|group| group.lines().take(2)).filter(|text| text.len() < 2000).collect();
     let (mut one, mut many) = (Cutter::new(), Cutter::new());
-    for group in groups.iter().step_by(7) {
+    for group in groups.iter().step_by(40) {
         let plants = group.planted();
         for mode in [Mode::Plain, Mode::Safe, Mode::Sheet] {
             let lines = || texts.iter().copied();
