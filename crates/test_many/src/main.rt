@@ -88,13 +88,16 @@ enum Form {
     PairsOf(Plant),
 }
 
-// What a line calls its form, where its pool is given in cells.
+// What a line calls its form.
 enum Asked {
     By(Form),
     Nothing,
 }
 
 fn form_of(op: &[u8]) -> Asked {
+    if is(op, b"many") {
+        return Asked::By(Form::Ends);
+    }
     if is(op, b"many_pool") {
         return Asked::By(Form::Ends);
     }
@@ -116,6 +119,14 @@ fn form_of(op: &[u8]) -> Asked {
     Asked::Nothing
 }
 
+// Puts a line's words into the pool, or its cells; how many cells the pool has.
+fn read_pool(line: &[u8], texts: &mut [u32], pool: &mut [u32]) -> usize {
+    if is(field(line, 0), b"many") {
+        return hold(field(line, 2), texts, pool);
+    }
+    read_cells(field(line, 2), pool)
+}
+
 fn answer(
     line: &[u8],
     pool: &mut [u32],
@@ -125,25 +136,10 @@ fn answer(
     out: &mut [u32],
     scratch: &mut [u32],
 ) {
-    let op = field(line, 0);
-    if is(op, b"many") {
-        let cells = hold(field(line, 2), texts, pool);
-        lend(
-            line,
-            first(pool, cells),
-            texts,
-            text_ends,
-            answers,
-            out,
-            scratch,
-            Form::Ends,
-        );
-        return;
-    }
-    let asked = form_of(op);
+    let asked = form_of(field(line, 0));
     match asked {
         Asked::By(form) => {
-            let cells = read_cells(field(line, 2), pool);
+            let cells = read_pool(line, texts, pool);
             lend(
                 line,
                 first(pool, cells),
