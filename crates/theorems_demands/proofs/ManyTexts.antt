@@ -109,7 +109,8 @@ many-scratch-reasons = scratch-left pairs-shape meaning
 
 -- ---- demand 3 for each text
 
-some-number : (r : Refusal) → numberOf r ≡ 0 → ⊥
+-- no refusal has number 0
+pub some-number : (r : Refusal) → numberOf r ≡ 0 → ⊥
 some-number (IllFormed d) e = omega arith
 some-number (TooManyScalars d) e = omega arith
 some-number (NotAScalar d) e = omega arith
