@@ -1,8 +1,7 @@
--- Many texts in one call of a plant: many is single, and demand 3 for each text, speak of the proved
--- contracts. Assumes nothing.
-use Prim.Native.Nat.{ℕ, _*_}
-use mathlib.Core.Path.{_≡_, refl, subst}
-use mathlib.Core.List.{List}
+-- Many texts in one call of a plant: many is single, and demand 3 for each text, over runs. Assumes
+-- nothing.
+use Prim.Native.Nat.{_*_}
+use mathlib.Core.Path.{refl, subst}
 use Rattle.trie_plants.specs.declared.Plant.{Plant}
 use Rattle.trie_plants.specs.Meaning.{plantMeaning}
 use Rattle.theorems_demands.proofs.ManyShapes.{ends-shape, pairs-shape}

@@ -1,5 +1,4 @@
 -- Many texts in one call of a plant, by the proofs for any such call. Assumes nothing.
-use mathlib.Core.Path.{_≡_}
 use Rattle.trie_pool.specs.Meaning.{wordsIn, noTerm}
 use Rattle.trie_plants.specs.declared.Plant.{Plant}
 use Rattle.trie_plants.specs.Meaning.{plantMeaning}
