@@ -1,12 +1,12 @@
 -- The turns of the loop over the texts. Assumes nothing.
-use Prim.Native.Nat.{ℕ, suc, _+_, _*_, _-_, _≤_, _<_}
+use Prim.Native.Nat.{ℕ, _+_, _*_, _-_, _≤_, _<_}
 use native.Mathlib.Omega.{arith}
 use mathlib.Core.Path.{_≡_, refl, sym, _∙_, ap, subst}
 use mathlib.Core.Bool.{Bool, true, false}
 use mathlib.Core.List.{List, [], _∷_, _++_, append-assoc, append-nil}
 use mathlib.Core.Option.{Option}
 use lib.ListN.{length, getD, take, drop, length-append, length-drop, length-take, drop-of-length-le, take-append-drop}
-use lib.Seq.{take-at, drop-at, length-take-le}
+use lib.Seq.{take-at, drop-at}
 use Rattle.lists.proofs.Parts.{tail-drop}
 use Rattle.refusal.specs.declared.Answer.{Answer}
 use Rattle.refusal.specs.declared.Answer.the-variants.{Accepted, Refused}
@@ -17,7 +17,7 @@ use Rattle.newmm_rules.specs.declared.Mode.{Mode}
 use Rattle.newmm_answers.specs.declared.CutAnswer.{CutAnswer}
 use Rattle.newmm_segment.proofs.Behind.{behind}
 use Rattle.newmm_answers.specs.inner.Passing.{Blank}
-use Rattle.newmm_many_answers.specs.Texts.{textsFrom, textsOf}
+use Rattle.newmm_many_answers.specs.Texts.{textsFrom}
 use Rattle.newmm_many_answers.specs.Turns.{Single, Singly, Turns, cellsOf, allCells, endsTold, wroteOf, restOf, inTurn}
 use Rattle.newmm_many_answers.specs.declared.Wanted.{Wanted}
 use Rattle.newmm_many_answers.specs.Singles.{singly}
@@ -27,7 +27,7 @@ use Rattle.newmm_many_answers.specs.inner.Small.{Small}
 use Rattle.newmm_many_answers.specs.inner.Singles.{SingleIs}
 use Rattle.newmm_many_answers.proofs.TextEnds.{Right, right-none, right-more, right-here, next-text, no-text}
 use Rattle.newmm_many_answers.proofs.Steady.{Steady, wrote-long, rest-long}
-use Rattle.newmm_many_answers.proofs.Turns.{onward, onward-more, turn-first, turn-none, cells-long, all-cells-long, cells-more}
+use Rattle.newmm_many_answers.proofs.Turns.{onward, onward-more, turn-first, turn-none, all-cells-long, cells-more}
 use Rattle.newmm_many.specs.inner.Rows.{Left}
 
 -- the first i texts are answered: what was told of them and what was written for them stand at the

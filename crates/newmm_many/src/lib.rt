@@ -1,5 +1,5 @@
-// Cutting many texts in one call, with one check of the pool: for each text what a single call would
-// answer and leave.
+// Cutting many texts in one call, with one check of the pool: for each text what a single call
+// would answer and leave.
 use newmm_many_answers::ANSWER;
 use newmm_many_answers::Wanted;
 use newmm_many_answers::cells_told;
@@ -141,8 +141,8 @@ pub fn cut_many(
     )
 }
 
-// The same with reasons: for each token of a text two cells of `pairs`, its end and its reason. 6 of
-// a text counts pairs.
+// The same with reasons: for each token of a text two cells of `pairs`, its end and its reason. 6
+// of a text counts pairs.
 pub fn cut_reasons_many(
     texts: &[u32],
     text_ends: &[u32],

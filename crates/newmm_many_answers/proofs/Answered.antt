@@ -4,7 +4,7 @@ use native.Mathlib.Omega.{arith}
 use mathlib.Core.Path.{_≡_, refl, sym}
 use mathlib.Core.List.{List}
 use mathlib.Core.Option.{Option}
-use lib.ListN.{length, drop, replicate, length-append, length-drop, length-replicate}
+use lib.ListN.{length, drop, length-append, length-drop, length-replicate}
 use borrow.Author.Tests.{ltb-false}
 use Rattle.refusal.specs.declared.Answer.{Answer}
 use Rattle.refusal.specs.declared.Answer.the-variants.{Accepted, Refused}
@@ -17,7 +17,8 @@ use Rattle.newmm_answers.specs.Answers.{cutOf, firstCauses, cutCauses, accepts,
 use Rattle.newmm_answers.proofs.Told.{accepted-is}
 use Rattle.newmm_many_answers.specs.Turns.{endsTold}
 
--- a text in a mode, the pool having this meaning, by so many scratch cells and room for so many ends
+-- a text in a mode, the pool having this meaning, by so many scratch cells and room for so many
+-- ends
 module _ (mode : Mode) (text : List ℕ) (m : Option Words) (cells room : ℕ) where
   abbrev pub ends : List ℕ
   ends = cutOf mode (held m) text .ends

@@ -8,8 +8,7 @@ use mathlib.Core.Option.{Option}
 use lib.ListN.{length}
 use borrow.Author.Tests.{ltb-true, ltb-false}
 use Rattle.refusal.specs.declared.Refusal.{Refusal}
-use Rattle.refusal.specs.declared.Answer.{Answer}
-use Rattle.refusal.specs.declared.Answer.the-variants.{Accepted, Refused}
+use Rattle.refusal.specs.declared.Answer.the-variants.{Refused}
 use Rattle.refusal.specs.Numbers.{detailOf}
 use Rattle.refusal.specs.Answers.{Cause, answer}
 use Rattle.refusal.proofs.Order.{not-both}

@@ -62,8 +62,8 @@ outBy one c = unless (manyAnswer c) (turnsBy one c .out) (c .out)
 abbrev pub scratchBy : Singly → ManyCall → List ℕ
 scratchBy one c = unless (manyAnswer c) (turnsBy one c .scratch) (c .scratch)
 
--- MANY TEXTS IN ONE CALL: what it answers, and what it leaves in the three rows, by the single calls
--- that it stands for.
+-- MANY TEXTS IN ONE CALL: what it answers, and what it leaves in the three rows, by the single
+-- calls that it stands for.
 abbrev pub ManyBy : Singly → ManyCall → Answer → (answers out scratch : List ℕ) → Type 0
 ManyBy one c answer answers out scratch =
     (answer ≡ manyAnswer c) × ((answers ≡ answersBy one c) × ((out ≡ outBy one c) × (scratch ≡ scratchBy one c)))

@@ -1,5 +1,5 @@
--- The single calls that a call with many texts stands for, the pool having a meaning: which words it
--- holds, or nothing where it is refused.
+-- The single calls that a call with many texts stands for, the pool having a meaning: which words
+-- it holds, or nothing where it is refused.
 use Prim.Native.Nat.{ℕ, _*_}
 use mathlib.Core.List.{List}
 use mathlib.Core.Option.{Option}

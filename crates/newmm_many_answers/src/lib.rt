@@ -1,5 +1,5 @@
-// What a call with many texts answers: the definitions that the contracts and the theorems cite stand
-// in specs/. The test of the whole call, and the four cells of an answer.
+// What a call with many texts answers: the definitions that the contracts and the theorems cite
+// stand in specs/. The test of the whole call, and the four cells of an answer.
 use cells::wide;
 use newmm_answers::CutAnswer;
 use refusal::Answer;

@@ -29,8 +29,8 @@ pub struct Turn {
     pub blank: bool,
 }
 
-// Refusals 2, 3, 4 and 5 of a text, by whether the pool is a dictionary and by the number of scratch
-// cells; accepted with the text's length.
+// Refusals 2, 3, 4 and 5 of a text, by whether the pool is a dictionary and by the number of
+// scratch cells; accepted with the text's length.
 fn check_known(text: &[u32], known: bool, cells: usize) -> Answer
     ensures { λ r. ⌜ r ≡ answer (firstCauses (now (text .entry)) (knownAs known) cells) (length (now (text .entry))) ⌝ }
 {
@@ -60,7 +60,8 @@ fn blank_all(row: &mut [u32], blank: bool)
     clear_first(row, all);
 }
 
-// The pairs of a text that none of the refusals 2 to 5 is due to. Scratch is all 0, and comes back so.
+// The pairs of a text that none of the refusals 2 to 5 is due to. Scratch is all 0, and comes back
+// so.
 fn pairs_ready(
     text: &[u32],
     view: &[u32],

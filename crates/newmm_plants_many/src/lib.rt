@@ -1,5 +1,5 @@
-// Cutting many texts in one call by the words of one plant, with one check of the pool: for each text
-// what a single call would answer and leave.
+// Cutting many texts in one call by the words of one plant, with one check of the pool: for each
+// text what a single call would answer and leave.
 use newmm_many::answer_texts;
 use newmm_many_answers::Wanted;
 use newmm_many_answers::check_many;
@@ -67,11 +67,11 @@ fn answer_many_in(
     Answer::Accepted(n)
 }
 
-// Cuts many texts by a plant's words. They stand joined in `texts`, and end there at `text_ends`. For
-// each text four cells of `answers`: number, count, edges, detail, as the single call tells them; the
-// ends of all texts one behind the other in `out`, each in its own text's characters. A text that is
-// refused with 2 to 6 stops no other. Answers the number of texts. Refusals of the whole call: 10,
-// then 6.
+// Cuts many texts by a plant's words. They stand joined in `texts`, and end there at `text_ends`.
+// For each text four cells of `answers`: number, count, edges, detail, as the single call tells
+// them; the ends of all texts one behind the other in `out`, each in its own text's characters. A
+// text that is refused with 2 to 6 stops no other. Answers the number of texts. Refusals of the
+// whole call: 10, then 6.
 pub fn cut_many_in(
     texts: &[u32],
     text_ends: &[u32],
@@ -100,8 +100,8 @@ pub fn cut_many_in(
     )
 }
 
-// The same with reasons: for each token of a text two cells of `pairs`, its end and its reason. 6 of
-// a text counts pairs.
+// The same with reasons: for each token of a text two cells of `pairs`, its end and its reason. 6
+// of a text counts pairs.
 pub fn cut_reasons_many_in(
     texts: &[u32],
     text_ends: &[u32],
