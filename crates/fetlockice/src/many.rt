@@ -69,9 +69,9 @@ pub extern "C" fn fetlockice_cut_many_sheet(
 
 // Cuts many texts plainly, with reasons and one check of the pool. They stand joined in texts, and
 // end there at text_ends. Four cells of answers for each text: number, count, edges, detail. The
-// count is that of the text's tokens; for each of them two cells of pairs, its end in its own text's
-// characters and its reason, those of all texts one behind the other. Accepted with the number of
-// texts. Refusals of the whole call: 10, then 6. 6 of a text counts pairs.
+// count is that of the text's tokens; for each of them two cells of pairs, its end in its own
+// text's characters and its reason, those of all texts one behind the other. Accepted with the
+// number of texts. Refusals of the whole call: 10, then 6. 6 of a text counts pairs.
 #[no_mangle]
 pub extern "C" fn fetlockice_reasons_many_plain(
     texts: &[u32],

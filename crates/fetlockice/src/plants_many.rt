@@ -105,10 +105,10 @@ pub extern "C" fn fetlockice_plant_cut_many_sheet(
     )
 }
 
-// Cuts many texts plainly by the words of a plant, with reasons and one check of the pool: as the cut
-// of many texts, but a text's count is that of its tokens, and for each of them two cells of pairs
-// are written, its end and its reason. Refusals of the whole call: 10, then 6. 6 of a text counts
-// pairs.
+// Cuts many texts plainly by the words of a plant, with reasons and one check of the pool: as the
+// cut of many texts, but a text's count is that of its tokens, and for each of them two cells of
+// pairs are written, its end and its reason. Refusals of the whole call: 10, then 6. 6 of a text
+// counts pairs.
 #[no_mangle]
 pub extern "C" fn fetlockice_plant_reasons_many_plain(
     texts: &[u32],

@@ -1,5 +1,5 @@
--- What a host is told of a call with many texts by the words of a plant, and what becomes of the rows
--- that it lends: the answer and the rows of the library function, as its contract gives them.
+-- What a host is told of a call with many texts by the words of a plant, and what becomes of the
+-- rows that it lends: the answer and the rows of the library function, as its contract gives them.
 use Prim.Native.Nat.{ℕ}
 use mathlib.Core.List.{List}
 use Rattle.trie_plants.specs.declared.Plant.{Plant}

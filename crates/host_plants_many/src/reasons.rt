@@ -9,10 +9,10 @@ ghost use Rattle.host_telling.specs.Told.{told};
 ghost use Rattle.host_plants.specs.Calls.{plantOf};
 ghost use Rattle.host_plants_many.specs.Calls.{PlantManyReasonsTold};
 
-// Cuts many texts plainly by the words of a plant, with reasons and one check of the pool: as the cut
-// of many texts, but a text's count is that of its tokens, and for each of them two cells of pairs
-// are written, its end and its reason. Refusals of the whole call: 10, then 6. 6 of a text counts
-// pairs.
+// Cuts many texts plainly by the words of a plant, with reasons and one check of the pool: as the
+// cut of many texts, but a text's count is that of its tokens, and for each of them two cells of
+// pairs are written, its end and its reason. Refusals of the whole call: 10, then 6. 6 of a text
+// counts pairs.
 pub fn reasons_many_plain(
     texts: &[u32],
     text_ends: &[u32],

@@ -1,8 +1,8 @@
-// Replays the test vectors of the calls with many texts, those with reasons and those of a plant too:
-// a line with the answer for each line of standard input.
+// Replays the test vectors of the calls with many texts, those with reasons and those of a plant
+// too: a line with the answer for each line of standard input.
 //
-// The rows are lent full of leftovers. Where a call leaves a cell otherwise than it should, a `?` is
-// written.
+// The rows are lent full of leftovers. Where a call leaves a cell otherwise than it should, a `?`
+// is written.
 use newmm_many::cut_many;
 use newmm_many::cut_reasons_many;
 use newmm_plants_many::cut_many_in;

@@ -1,5 +1,5 @@
--- The plant calls for hosts: what is told, and the rows. Each place of `s` is named by the parameter
--- that stands there. Assumes nothing.
+-- The plant calls for hosts: what is told, and the rows. Each place of `s` is named by the
+-- parameter that stands there. Assumes nothing.
 use Prim.Native.Nat.{ℕ}
 use mathlib.Core.List.{List}
 use Rattle.fetlockice.proofs.fetlockice_plants_start.Kinds as start-kinds
