@@ -192,11 +192,13 @@ def measure_rows():
     wanted += [("ours", ("winners", texts, "small")) for texts in (LINES, LONG)]
     wanted += [("ours", ("sheet", texts, words)) for words in ("small", "all") for texts in (LINES, LONG)]
     wanted += [("ours", (op, LONG, words)) for words in ("small", "all") for op in ("cut", "reasons", "feed", "claim", "map", "next", "next-bare")]
+    wanted += [("ours", (op, ALL, words)) for words in ("small", "all") for op in ("many", "reasons-many")]
     wanted += [("ours", (op, LONG, words)) for words in IMAGES for op in ("read-image", "write-image")]
     wanted += [("ours", ("plant-check", LONG, words)) for words in lent]
     for words in ("small", "all"):
         double, some = words + "-double", edits(words)
         wanted += [("ours", (op, LONG, double)) for op in ("check", "cut", "plant-check", "plant-cut")]
+        wanted += [("ours", (op, ALL, double)) for op in ("many", "reasons-many", "plant-many", "plant-reasons-many")]
         wanted += [("ours", (op, some, double)) for op in ("check", "edit", "plant-check", "plant-edit")]
     if os.path.exists(DRIVERS["before"]):
         wanted += [("before", (op, LONG, "all")) for op in ("places", "check")]

@@ -378,6 +378,31 @@ def plant_cuts(r, words):
             for of in (r.time, r.count)]
 
 
+def many_texts(r, op, base, words, check="check"):
+    """A call with all lines over another, both on scalars and each without its one check of the pool."""
+    return [(of("ours", op, ALL, words) - of("ours", check, LONG, words)) / (of("ours", base, ALL, words) - of("ours", "check", LONG, words))
+            for of in (r.time, r.count)]
+
+
+# A plant's call with all lines, the plain one that it is held against, and what is said of it.
+PLANT_MANY = (
+    ("plant-many", "many", "all lines in one call"),
+    ("plant-reasons-many", "reasons-many", "all lines in one call, with reasons"),
+)
+
+
+def many(r):
+    """All lines in one call with reasons over those without, and of a plant over the plain ones."""
+    rows = []
+    for words in ("small", "all"):
+        double = words + "-double"
+        rows.append(["with reasons, over the cut; %s words" % r.words(words)] + ["%.2f" % x for x in many_texts(r, "reasons-many", "many", words)])
+        for op, base, said in PLANT_MANY:
+            ratios = many_texts(r, op, base, double, "plant-check")
+            rows.append(["%s, of a plant, over the plain call; %s words" % (said, r.words(words))] + ["%.2f" % x for x in ratios])
+    return table(["on scalars, without the checks", "by time", "by instr."], rows)
+
+
 def plant_checks(r, words):
     """The check of a pool of two plants over that of a plain one with as many cells."""
     return [of("ours", "plant-check", LONG, words) / of("ours", "check", LONG, words) for of in (r.time, r.count)]
@@ -434,6 +459,12 @@ def limits(r):
         ratios = [of("ours", "batch", LINES, words) / of("ours", "plain", JOINED, words) for of in (r.time, r.count)]
         yield row("lines in one call against one text of the same characters, by instructions, %s words" % r.words(words), 1.3, ratios, COUNTED)
     for words in ("all", "small"):
+        name = "all lines in one call with reasons against the cut of them, the check left out, by instructions, %s words"
+        yield row(name % r.words(words), 1.5, many_texts(r, "reasons-many", "many", words), COUNTED)
+        for op, base, said in PLANT_MANY:
+            name = "a plant's lines against the plain call, %s, the checks left out, by instructions, %s words" % (said, r.words(words))
+            yield row(name, 1.05, many_texts(r, op, base, words + "-double", "plant-check"), COUNTED)
+    for words in ("all", "small"):
         for kind, said in PLANTS.items():
             name = "the check of a plants' pool against that of a plain one with as many cells, %s words, %s" % (r.words(words), said)
             yield row(name, 2.2, plant_checks(r, words + kind))
@@ -474,6 +505,7 @@ def sections(r):
     yield "## libthai and ICU", others(r)
     yield "## The check of the pool", ["Refusal 4 costs one check in every call that is lent a pool.", "", *pools(r)]
     yield "## The cut with reasons", against(r, "reasons")
+    yield "## Many texts with reasons, and of a plant", many(r)
     yield "## Release figures", against(r, "feed", "reasons")
     yield "## Checking a claim", [*against(r, "claim"), "", "Instructions a character, the check of the pool included:", "", *claims_grown(r)]
     yield "## Maps of breaks", ["Of the long text. A next break is a call from each break to the one behind it.", "", *maps(r)]

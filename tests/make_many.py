@@ -4,11 +4,12 @@
 
 Batches of texts whose single answers are known: the lines for cut of the independent model and of the Rust, and those in the
 profile "sheet", joined by mode and words. What a batch is told is a fold of the single answers, each text by document 01's conditions in their order, with
-the output that the texts before it left over.
+the output that the texts before it left over. Behind them stand batches with reasons and of a plant (many_forms.py).
 """
 import random
 from collections import defaultdict
 
+import many_forms
 import vectors
 from make_cut import LONGEST, refusal
 from trie_model import cells_of
@@ -31,21 +32,27 @@ def known():
     return {key: sorted(texts.items()) for key, texts in sorted(groups.items())}
 
 
-def folded(batch, passes, scratch, room):
-    """The cells of the answers, the ends, and what is left of scratch."""
+def cells_of_tokens(tokens):
+    """Ends as they are, and of pairs both."""
+    return [cell for token in tokens for cell in (token if isinstance(token, tuple) else [token])]
+
+
+def folded(batch, passes, scratch, room, width):
+    """The cells of the answers, those that are written, so many for a token, and what is left of scratch."""
     cells, written, left = [], [], "kept"
-    for text, (ends, edges) in batch:
-        told = refusal(text, passes, scratch, room - len(written), ends)
+    for text, (tokens, edges) in batch:
+        told = refusal(text, passes, scratch, (room - len(written)) // width, tokens)
         number, detail = (0, 0) if told == "ok" else (int(field) for field in told.split()[1:])
         if number in (0, 6) and scratch:
             left = "zero"
-        cells += [number, 0, 0, detail] if number else [0, len(ends), edges, 0]
-        written += [] if number else ends
+        cells += [number, 0, 0, detail] if number else [0, len(tokens), edges, 0]
+        written += [] if number else cells_of_tokens(tokens)
     return cells, written, left
 
 
-def line(mode, words, batch, scratch, room, answers, behind=(), ends=None, passes=True):
+def line(mode, words, batch, scratch, room, answers, behind=(), ends=None, passes=True, op=None):
     """A line for a batch, with the answer of the whole call."""
+    op = op or ("many" if isinstance(words, str) else "many_pool")
     row, right = [], []
     for text, _ in batch:
         row += text
@@ -58,9 +65,8 @@ def line(mode, words, batch, scratch, room, answers, behind=(), ends=None, passe
     elif answers < 4 * len(ends):
         expected = "! 6 %d" % (4 * len(ends))
     else:
-        cells, written, left = folded(batch, passes, scratch, room)
+        cells, written, left = folded(batch, passes, scratch, room, 2 if op.startswith("pairs") else 1)
         expected = "ok %d %s %s %s" % (len(batch), listed(cells), listed(written), left)
-    op = "many" if isinstance(words, str) else "many_pool"
     pool = words if isinstance(words, str) else vectors.cells(words)
     fields = [op, mode, pool, vectors.cells(row), vectors.cells(ends), str(answers), str(room), str(scratch)]
     return fields, expected
@@ -71,9 +77,9 @@ def listed(numbers):
 
 
 def needs(batch):
-    """The scratch of the longest text that is cut, and the ends of all texts."""
+    """The scratch of the longest text that is cut, and the cells of all texts."""
     longest = max([len(text) for text, _ in batch if len(text) <= LONGEST] or [0])
-    return 9 * longest + 128, sum(len(ends) for _, (ends, _) in batch)
+    return 9 * longest + 128, sum(len(cells_of_tokens(tokens)) for _, (tokens, _) in batch)
 
 
 def batches(rng, texts):
@@ -139,7 +145,8 @@ def bad_pools():
 
 def main():
     rng = random.Random(19)
-    vectors.write("test_many", list(random_lines(rng)) + list(rows(rng)) + list(wrong_ends(rng)) + list(bad_pools()))
+    lines = list(random_lines(rng)) + list(rows(rng)) + list(wrong_ends(rng)) + list(bad_pools())
+    vectors.write("test_many", lines + many_forms.lines(line, batches, needs, BEHIND))
 
 
 main()

@@ -21,6 +21,7 @@ size_t search_places(const uint32_t *pool, size_t pool_len, const uint32_t *text
 #pragma weak fetlockice_check_claim
 #pragma weak fetlockice_cut_many_plain
 #pragma weak fetlockice_reasons_plain
+#pragma weak fetlockice_reasons_many_plain
 #pragma weak fetlockice_feed_plain
 #pragma weak fetlockice_break_map
 #pragma weak fetlockice_next_break
@@ -31,6 +32,8 @@ size_t search_places(const uint32_t *pool, size_t pool_len, const uint32_t *text
 #pragma weak fetlockice_plant_remove
 #pragma weak fetlockice_plant_contains
 #pragma weak fetlockice_plant_cut_plain
+#pragma weak fetlockice_plant_cut_many_plain
+#pragma weak fetlockice_plant_reasons_many_plain
 #pragma weak fetlockice_plant_read_image
 
 enum op {
@@ -43,6 +46,8 @@ enum op {
     SAFE,
     SHEET,
     BATCH,
+    MANY,
+    REASONS_MANY,
     CUT,
     REASONS,
     FEED,
@@ -55,19 +60,23 @@ enum op {
     READ_IMAGE,
     WRITE_IMAGE,
     PLANT_CUT,
+    PLANT_MANY,
+    PLANT_REASONS_MANY,
     PLANT_CHECK,
     PLANT_EDIT,
     READ,
     READ_WIDE
 };
-static const char *const names[] = {"decode",     "clusters",    "winners", "prefix",    "places",  "plain",
-                                    "safe",       "sheet",       "batch",   "cut",       "reasons", "feed",
-                                    "claim",      "map",         "next",    "next-bare", "check",   "edit",
-                                    "read-image", "write-image", "plant-cut", "plant-check", "plant-edit", "read",
+static const char *const names[] = {"decode",     "clusters",           "winners",     "prefix",     "places",       "plain",
+                                    "safe",       "sheet",              "batch",       "many",       "reasons-many", "cut",
+                                    "reasons",    "feed",               "claim",       "map",        "next",         "next-bare",
+                                    "check",      "edit",               "read-image",  "write-image", "plant-cut",
+                                    "plant-many", "plant-reasons-many", "plant-check", "plant-edit", "read",
                                     "read-wide"};
 
 static enum op op;
 static uint32_t *pool, *out, *won, *scratch, *cells, *positions, *text_ends, *told, **scalars, **ends;
+static uint32_t *joined; /* the scalars of all texts, which end there at text_ends */
 static uint64_t **maps;
 static uint8_t *image;
 static size_t pool_len, image_len, scratch_len, *lengths, *end_counts;
@@ -111,6 +120,24 @@ static size_t batch(void) {
     for (size_t i = 0; i < text_count; i++) text_ends[i] = (uint32_t)(n += decode(i, cells + n, positions + n + i));
     accepted(fetlockice_cut_many_plain(cells, n, text_ends, text_count, pool, pool_len, told,
                                        FETLOCKICE_ANSWER_CELLS * text_count, out, n, scratch, scratch_len, &count, &detail));
+    return count;
+}
+
+/* All texts' scalars in one call, to ends or to pairs, by the pool or by a plant; gives the number of texts. */
+static size_t many(void) {
+    size_t n = text_count > 0 ? text_ends[text_count - 1] : 0, told_len = FETLOCKICE_ANSWER_CELLS * text_count, count, detail;
+    uint32_t answer =
+        op == MANY ? fetlockice_cut_many_plain(joined, n, text_ends, text_count, pool, pool_len, told, told_len, out, n, scratch,
+                                               scratch_len, &count, &detail)
+        : op == REASONS_MANY
+            ? fetlockice_reasons_many_plain(joined, n, text_ends, text_count, pool, pool_len, told, told_len, out, 2 * n, scratch,
+                                            scratch_len, &count, &detail)
+        : op == PLANT_MANY
+            ? fetlockice_plant_cut_many_plain(joined, n, text_ends, text_count, shared, pool_len, plant_b, told, told_len, out, n,
+                                              scratch, scratch_len, &count, &detail)
+            : fetlockice_plant_reasons_many_plain(joined, n, text_ends, text_count, shared, pool_len, plant_b, told, told_len, out,
+                                                  2 * n, scratch, scratch_len, &count, &detail);
+    accepted(answer);
     return count;
 }
 
@@ -260,6 +287,10 @@ static size_t answer(size_t i) {
     case SAFE:
     case SHEET: return cut(i);
     case BATCH: return batch();
+    case MANY:
+    case REASONS_MANY:
+    case PLANT_MANY:
+    case PLANT_REASONS_MANY: return many();
     case CUT: return cut_scalars(i, out);
     case REASONS: return reasons(i);
     case FEED: return feed(i);
@@ -280,27 +311,33 @@ static size_t answer(size_t i) {
     return 0;
 }
 
+/* Whether a call has all texts. */
+static bool has_all(void) {
+    return op == BATCH || op == MANY || op == REASONS_MANY || op == PLANT_MANY || op == PLANT_REASONS_MANY;
+}
+
 __attribute__((noinline)) void bench_pass(void) {
-    for (size_t i = 0; i < (op == BATCH ? 1 : text_count); i++) kept += (uint32_t)answer(i);
+    for (size_t i = 0; i < (has_all() ? 1 : text_count); i++) kept += (uint32_t)answer(i);
 }
 
 static void show(size_t count) {
     for (size_t k = 0; k < count; k++) printf("%u ", out[k]);
 }
 
-static void batch_answers(void) {
-    batch();
+static void all_answers(void) {
+    size_t width = op == REASONS_MANY || op == PLANT_REASONS_MANY ? 2 : 1;
+    answer(0);
     for (size_t i = 0; i < text_count; i++) {
         accepted(told[FETLOCKICE_ANSWER_CELLS * i]);
-        show(told[FETLOCKICE_ANSWER_CELLS * i + 1]), putchar('\n');
-        out += told[FETLOCKICE_ANSWER_CELLS * i + 1];
+        show(width * told[FETLOCKICE_ANSWER_CELLS * i + 1]), putchar('\n');
+        out += width * told[FETLOCKICE_ANSWER_CELLS * i + 1];
     }
 }
 
 static void answers(void) {
     size_t words = 0;
-    if (op == BATCH) {
-        batch_answers();
+    if (has_all()) {
+        all_answers();
         return;
     }
     for (size_t i = 0; i < text_count; i++) {
@@ -362,6 +399,11 @@ static void prepare(const char *path) {
     scratch = room(4 * scratch_len);
     text_ends = room(4 * text_count);
     told = room(4 * FETLOCKICE_ANSWER_CELLS * text_count);
+    joined = room(4 * all);
+    for (size_t i = 0, n = 0; i < text_count; i++) {
+        memcpy(joined + n, scalars[i], 4 * lengths[i]);
+        text_ends[i] = (uint32_t)(n += lengths[i]);
+    }
 }
 
 /* The ends that are claimed, and their maps. */

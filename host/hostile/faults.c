@@ -1,4 +1,5 @@
-/* Wrong libraries: each FAULT changes one function a little, from outside. The run must find every one. */
+/* Wrong libraries: each FAULT changes one function a little, from outside. The run must find every one. Those of the
+ * calls with many texts are in faults_many.c. */
 #include "../include/fetlockice.h"
 
 #define CUT                                                                                                            \
@@ -11,12 +12,6 @@
     const uint32_t *text, size_t n, const uint32_t *pool, size_t cells, const uint32_t *claim, size_t ends,            \
         uint32_t *scratch, size_t len, size_t *right, size_t *token, size_t *detail
 #define CLAIM_WITH text, n, pool, cells, claim, ends, scratch, len, right, token, detail
-#define MANY                                                                                                           \
-    const uint32_t *texts, size_t n, const uint32_t *text_ends, size_t text_count, const uint32_t *pool, size_t cells, \
-        uint32_t *answers, size_t told, uint32_t *out, size_t room, uint32_t *scratch, size_t len, size_t *count,      \
-        size_t *detail
-#define MANY_WITH texts, n, text_ends, text_count, pool, cells, answers, told, out, room, scratch, len, count, detail
-
 #define PLANT_CUT                                                                                                      \
     const uint32_t *text, size_t n, const uint32_t *pool, size_t cells, bool plant_b, uint32_t *out, size_t room,      \
         uint32_t *scratch, size_t len, size_t *count, size_t *edges, size_t *detail
@@ -51,9 +46,6 @@ uint32_t __real_fetlockice_feed_sheet(FEED);
 uint32_t __real_fetlockice_feed_refused(uint64_t *, uint32_t, size_t *);
 uint32_t __real_fetlockice_join_figures(uint64_t *, const uint64_t *, size_t *);
 uint32_t __real_fetlockice_check_claim(CLAIM);
-uint32_t __real_fetlockice_cut_many_plain(MANY);
-uint32_t __real_fetlockice_cut_many_safe(MANY);
-uint32_t __real_fetlockice_cut_many_sheet(MANY);
 uint32_t __real_fetlockice_break_map(size_t, const uint32_t *, size_t, uint64_t *, size_t, size_t *, size_t *);
 uint32_t __real_fetlockice_breaks_up_to(size_t, const uint64_t *, size_t, size_t, size_t *, size_t *);
 uint32_t __real_fetlockice_next_break(size_t, const uint64_t *, size_t, size_t, size_t *, size_t *, size_t *);
@@ -227,28 +219,6 @@ uint32_t __wrap_fetlockice_check_claim(CLAIM) {
     if (FAULT == 14 && number == 0 && *right == 0 && *token == ends) *right = 1, *token = 0;
     if (FAULT == 16 && number == 0 && *right == 0) *token += 1;
     return number;
-}
-
-/* 17: a call that is refused as a whole writes an answer; 18: the detail of a refused text is one too high */
-uint32_t __wrap_fetlockice_cut_many_plain(MANY) {
-    uint32_t number = __real_fetlockice_cut_many_plain(MANY_WITH);
-    if (FAULT == 17 && number == FETLOCKICE_WRONG_POSITION && told > 0) answers[0] ^= 1;
-    if (FAULT == 18 && number == 0 && text_count > 0 && answers[0] != 0) answers[3] += 1;
-    return number;
-}
-
-/* 19: a cell of scratch is left as it was; 20: an end of the second text is counted from the row's start */
-uint32_t __wrap_fetlockice_cut_many_safe(MANY) {
-    uint32_t old = len > 0 ? scratch[len - 1] : 0, number = __real_fetlockice_cut_many_safe(MANY_WITH);
-    if (FAULT == 19 && number == 0 && text_count > 0 && answers[0] == 0) scratch[len - 1] = old;
-    if (FAULT == 20 && number == 0 && text_count > 1 && answers[5] > 0) out[answers[1]] += text_ends[0];
-    return number;
-}
-
-/* 21: the profile "sheet" is safe mode */
-uint32_t __wrap_fetlockice_cut_many_sheet(MANY) {
-    if (FAULT == 21) return __real_fetlockice_cut_many_safe(MANY_WITH);
-    return __real_fetlockice_cut_many_sheet(MANY_WITH);
 }
 
 /* 31: the cell behind the map is cleared; 32: an end that equals the one before it is taken for it */

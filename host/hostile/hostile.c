@@ -307,22 +307,22 @@ int main(int argc, char **argv) {
     while (calls < most) {
         alarm(300);
         for (size_t k = 0; k < 100 && calls < most; k++) {
-            size_t which = below(OPS + 13);
+            size_t which = below(OPS + 15);
             if (which < OPS)
                 step();
-            else if (which == OPS)
+            else if (which < OPS + 3)
                 many_step();
             else
-                which < OPS + 3   ? map_step()
-                : which < OPS + 5 ? figure_step()
-                : which < OPS + 7 ? image_step()
+                which < OPS + 5   ? map_step()
+                : which < OPS + 7 ? figure_step()
+                : which < OPS + 9 ? image_step()
                                   : plant_step();
         }
     }
     printf("hostile: calls of each function:");
     for (size_t i = 0; i < OPS; i++) printf(" %lu", calls_of[i]);
     printf(", of many texts:");
-    for (size_t i = 0; i < MODES; i++) printf(" %lu", many_calls[i]);
+    for (size_t i = 0; i < MANY_OPS * MODES; i++) printf(" %lu", many_calls[i / MODES][i % MODES]);
     printf(", %lu of them refused, of maps:", many_refused);
     for (size_t i = 0; i < MAP_OPS; i++) printf(" %lu", map_calls[i]);
     printf(", %lu of them refused, of figures:", map_refused);

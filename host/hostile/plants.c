@@ -69,8 +69,13 @@ static void put_half(uint32_t *pool, const uint32_t *plain, bool plant_b, size_t
     pool[at(plant_b) + 3] = room;
 }
 
-/* Each half is a dictionary within its limit, and the limits fit. */
-static int is_plants(const uint32_t *pool, size_t cells) {
+size_t plant_alone(uint32_t *plain, const uint32_t *pool, bool plant_b) {
+    size_t nodes = room_of(pool, plant_b);
+    take_half(plain, pool, plant_b, nodes);
+    return 8 * nodes;
+}
+
+int is_plants(const uint32_t *pool, size_t cells) {
     static uint32_t plain[POOL_ROOM];
     size_t nodes = nodes_of(cells);
     if (nodes == 0 || room_of(pool, false) + room_of(pool, true) > nodes + 1) return 0;
@@ -136,6 +141,12 @@ static void make_plants(void) {
         damage_cells();
     }
     taken = NULL;
+}
+
+size_t make_shared(uint32_t *pool) {
+    make_plants();
+    memcpy(pool, g.pool, 4 * g.cells);
+    return g.cells;
 }
 
 /* A limit about the one given, 0, or near the largest number. */
@@ -361,8 +372,7 @@ void plant_step(void) {
     while (g.op == PLANTS_START && below(4) != 0);
     if (g.op == PLANTS_START && below(6) == 0) g.cells = below(12), passes = 0, taken = NULL;
     g.plant_b = below(2) == 0;
-    size_t cells = passes ? 8 * room_of(g.pool, g.plant_b) : 0;
-    if (passes) take_half(plain, g.pool, g.plant_b, cells / 8);
+    size_t cells = passes ? plant_alone(plain, g.pool, g.plant_b) : 0;
     memcpy(due.pool, g.pool, 4 * g.cells);
     make_rows(plain, passes);
     if (g.op == PLANT_READ_IMAGE) make_image();

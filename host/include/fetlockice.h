@@ -61,14 +61,14 @@ extern "C" {
 /* The bytes of stack that a call takes at most. Measured over hostile and deepest inputs: on aarch64
  * fetlockice_write_image 46,176; on x86-64 fetlockice_write_image 38,064 and fetlockice_remove 32,920, as they go down a
  * word of 255 scalars by recursion, fetlockice_read_image 6,984, which has a few rows of a word's length there, and these
- * three of a plant the same; fetlockice_winners 3,648, fetlockice_decode 1,576, those that feed release figures 1,368, the
- * others under 1,200. */
+ * three of a plant the same; fetlockice_winners 3,648, fetlockice_decode 1,576, those that feed release figures 1,416, those
+ * of many texts with reasons 1,280, the others under 1,200. */
 #define FETLOCKICE_MAX_STACK 98304
 
 /* The scratch cells that a call on a text of n scalars asks for. */
 #define FETLOCKICE_SCRATCH_CELLS(n) (9 * (size_t)(n) + 128)
 
-/* The cells of a text's answer in a cut of many texts. */
+/* The cells of a text's answer in a call with many texts. */
 #define FETLOCKICE_ANSWER_CELLS 4
 
 /* The cells of a map of breaks over the positions 0 to n, 64 to a cell. */
@@ -77,7 +77,7 @@ extern "C" {
 /* The cells of release figures. */
 #define FETLOCKICE_FIGURES 16
 
-/* What a call answers. The lowest number that applies to the call is given; a cut of many texts gives 10 before 6, the
+/* What a call answers. The lowest number that applies to the call is given; a call with many texts gives 10 before 6, the
  * reading of an image 9 before 8, and calls with release figures 13 before all others. Calls of a plant tell 4 of a pool
  * that two plants don't share, and 8 by the plant's limit. */
 enum fetlockice_answer {
@@ -355,6 +355,28 @@ uint32_t fetlockice_cut_many_sheet(const uint32_t *texts, size_t texts_len, cons
                                    size_t answers_len, uint32_t *out, size_t out_len, uint32_t *scratch,
                                    size_t scratch_len, size_t *count, size_t *detail);
 
+/* Cuts many texts plainly, as fetlockice_cut_many_plain does, and tells the reason of each token: what it says of texts,
+ * answers, scratch and refusals holds here, with fetlockice_reasons_plain in the place of fetlockice_cut_plain. The count
+ * of a text, answers[4 * i + 1], is the number of its tokens, and each token takes two cells of pairs, its end and its
+ * reason. So the pairs of text i start behind twice the sum of the counts before it. Refusal 6 of a text counts tokens.
+ * A row of pairs of twice the texts' length is always enough. */
+uint32_t fetlockice_reasons_many_plain(const uint32_t *texts, size_t texts_len, const uint32_t *text_ends,
+                                       size_t text_count, const uint32_t *pool, size_t pool_len, uint32_t *answers,
+                                       size_t answers_len, uint32_t *pairs, size_t pairs_len, uint32_t *scratch,
+                                       size_t scratch_len, size_t *count, size_t *detail);
+
+/* The same in safe mode. A reason is about the part. */
+uint32_t fetlockice_reasons_many_safe(const uint32_t *texts, size_t texts_len, const uint32_t *text_ends,
+                                      size_t text_count, const uint32_t *pool, size_t pool_len, uint32_t *answers,
+                                      size_t answers_len, uint32_t *pairs, size_t pairs_len, uint32_t *scratch,
+                                      size_t scratch_len, size_t *count, size_t *detail);
+
+/* The same by the profile "sheet". */
+uint32_t fetlockice_reasons_many_sheet(const uint32_t *texts, size_t texts_len, const uint32_t *text_ends,
+                                       size_t text_count, const uint32_t *pool, size_t pool_len, uint32_t *answers,
+                                       size_t answers_len, uint32_t *pairs, size_t pairs_len, uint32_t *scratch,
+                                       size_t scratch_len, size_t *count, size_t *detail);
+
 /* Writes a map of breaks: a bit for each position 0 to n, set exactly at the ends. Bit p is bit p % 64, lowest first, of
  * map[p / 64]; bits above n are zero. *count: FETLOCKICE_MAP_CELLS(n), the cells that are written; the rest is kept. The
  * ends of any cut of a text of n characters are right; ends need not reach n. Refusals: 2 if n is over 65,535; 6 if map
@@ -383,7 +405,7 @@ uint32_t fetlockice_next_break(size_t n, const uint64_t *map, size_t map_len, si
  * memory are as in the call of the same name without plants, with two differences. Refusal 4: two plants don't share the
  * pool. A call without plants refuses a pool of two plants with 4, too, but for fetlockice_fresh, which ends both. Refusal
  * 8: the plant's charge would pass its limit; by how many. The pool's other nodes don't matter, nor does the other plant.
- * Claims, many texts and figures are for pools without plants: an image carries a plant's words to one.
+ * Claims and figures are for pools without plants: an image carries a plant's words to one.
  *
  * A pool of two plants has plant A's words in the first halves of its nodes and plant B's in the second. Lent with fewer
  * nodes than its limits and one, it is refused with 4; with more nodes, of zeros, it answers as before. */
@@ -444,6 +466,44 @@ uint32_t fetlockice_plant_reasons_safe(const uint32_t *text, size_t text_len, co
 uint32_t fetlockice_plant_reasons_sheet(const uint32_t *text, size_t text_len, const uint32_t *pool, size_t pool_len,
                                         bool plant_b, uint32_t *pairs, size_t pairs_len, uint32_t *scratch,
                                         size_t scratch_len, size_t *count, size_t *edges, size_t *detail);
+
+/* fetlockice_cut_many_plain by the words of a plant; the pool is checked once for all texts. Refusals of the whole call
+ * 10, 6; of a text 2, 3, 4, 5, 6. */
+uint32_t fetlockice_plant_cut_many_plain(const uint32_t *texts, size_t texts_len, const uint32_t *text_ends,
+                                         size_t text_count, const uint32_t *pool, size_t pool_len, bool plant_b,
+                                         uint32_t *answers, size_t answers_len, uint32_t *out, size_t out_len,
+                                         uint32_t *scratch, size_t scratch_len, size_t *count, size_t *detail);
+
+/* The same in safe mode. */
+uint32_t fetlockice_plant_cut_many_safe(const uint32_t *texts, size_t texts_len, const uint32_t *text_ends,
+                                        size_t text_count, const uint32_t *pool, size_t pool_len, bool plant_b,
+                                        uint32_t *answers, size_t answers_len, uint32_t *out, size_t out_len,
+                                        uint32_t *scratch, size_t scratch_len, size_t *count, size_t *detail);
+
+/* The same by the profile "sheet". */
+uint32_t fetlockice_plant_cut_many_sheet(const uint32_t *texts, size_t texts_len, const uint32_t *text_ends,
+                                         size_t text_count, const uint32_t *pool, size_t pool_len, bool plant_b,
+                                         uint32_t *answers, size_t answers_len, uint32_t *out, size_t out_len,
+                                         uint32_t *scratch, size_t scratch_len, size_t *count, size_t *detail);
+
+/* fetlockice_reasons_many_plain by the words of a plant: the count of a text is the number of its tokens, and its pairs
+ * take two cells each. Refusals of the whole call 10, 6; of a text 2, 3, 4, 5, 6; 6 counts tokens. */
+uint32_t fetlockice_plant_reasons_many_plain(const uint32_t *texts, size_t texts_len, const uint32_t *text_ends,
+                                             size_t text_count, const uint32_t *pool, size_t pool_len, bool plant_b,
+                                             uint32_t *answers, size_t answers_len, uint32_t *pairs, size_t pairs_len,
+                                             uint32_t *scratch, size_t scratch_len, size_t *count, size_t *detail);
+
+/* The same in safe mode. */
+uint32_t fetlockice_plant_reasons_many_safe(const uint32_t *texts, size_t texts_len, const uint32_t *text_ends,
+                                            size_t text_count, const uint32_t *pool, size_t pool_len, bool plant_b,
+                                            uint32_t *answers, size_t answers_len, uint32_t *pairs, size_t pairs_len,
+                                            uint32_t *scratch, size_t scratch_len, size_t *count, size_t *detail);
+
+/* The same by the profile "sheet". */
+uint32_t fetlockice_plant_reasons_many_sheet(const uint32_t *texts, size_t texts_len, const uint32_t *text_ends,
+                                             size_t text_count, const uint32_t *pool, size_t pool_len, bool plant_b,
+                                             uint32_t *answers, size_t answers_len, uint32_t *pairs, size_t pairs_len,
+                                             uint32_t *scratch, size_t scratch_len, size_t *count, size_t *detail);
 
 /* fetlockice_read_image for a plant. Refusals, in this order: 4, 9, 8. */
 uint32_t fetlockice_plant_read_image(uint32_t *pool, size_t pool_len, bool plant_b, const uint8_t *image,

@@ -96,6 +96,19 @@ static void many_sheet(void) {
                               scratch, scratch_len, &count, &detail);
 }
 
+static void reasons_many_plain(void) {
+    fetlockice_reasons_many_plain(text, text_len, text_ends, TEXTS, pool, pool_len, answers, answers_len, out,
+                                  2 * out_len, scratch, scratch_len, &count, &detail);
+}
+static void reasons_many_safe(void) {
+    fetlockice_reasons_many_safe(text, text_len, text_ends, TEXTS, pool, pool_len, answers, answers_len, out,
+                                 2 * out_len, scratch, scratch_len, &count, &detail);
+}
+static void reasons_many_sheet(void) {
+    fetlockice_reasons_many_sheet(text, text_len, text_ends, TEXTS, pool, pool_len, answers, answers_len, out,
+                                  2 * out_len, scratch, scratch_len, &count, &detail);
+}
+
 static void breaks(void) { fetlockice_break_map(text_len, claim, claim_len, map, map_len, &count, &detail); }
 static void up_to(void) { fetlockice_breaks_up_to(text_len, map, map_len, position, &count, &detail); }
 static void next(void) { fetlockice_next_break(text_len, map, map_len, position, &count, &edges, &detail); }
@@ -137,6 +150,30 @@ static void plant_reasons_sheet(void) {
     fetlockice_plant_reasons_sheet(text, text_len, shared, CELLS, plant_b, out, 2 * out_len, scratch, scratch_len,
                                    &count, &edges, &detail);
 }
+static void plant_cut_many_plain(void) {
+    fetlockice_plant_cut_many_plain(text, text_len, text_ends, TEXTS, shared, CELLS, plant_b, answers, answers_len, out,
+                                    out_len, scratch, scratch_len, &count, &detail);
+}
+static void plant_cut_many_safe(void) {
+    fetlockice_plant_cut_many_safe(text, text_len, text_ends, TEXTS, shared, CELLS, plant_b, answers, answers_len, out,
+                                   out_len, scratch, scratch_len, &count, &detail);
+}
+static void plant_cut_many_sheet(void) {
+    fetlockice_plant_cut_many_sheet(text, text_len, text_ends, TEXTS, shared, CELLS, plant_b, answers, answers_len, out,
+                                    out_len, scratch, scratch_len, &count, &detail);
+}
+static void plant_reasons_many_plain(void) {
+    fetlockice_plant_reasons_many_plain(text, text_len, text_ends, TEXTS, shared, CELLS, plant_b, answers, answers_len,
+                                        out, 2 * out_len, scratch, scratch_len, &count, &detail);
+}
+static void plant_reasons_many_safe(void) {
+    fetlockice_plant_reasons_many_safe(text, text_len, text_ends, TEXTS, shared, CELLS, plant_b, answers, answers_len,
+                                       out, 2 * out_len, scratch, scratch_len, &count, &detail);
+}
+static void plant_reasons_many_sheet(void) {
+    fetlockice_plant_reasons_many_sheet(text, text_len, text_ends, TEXTS, shared, CELLS, plant_b, answers, answers_len,
+                                        out, 2 * out_len, scratch, scratch_len, &count, &detail);
+}
 static void plant_read_image(void) {
     fetlockice_plant_read_image(shared, CELLS, plant_b, image, image_len, &count, &detail);
 }
@@ -171,6 +208,9 @@ static void (*const calls[])(void) = {decode,
                                       many_plain,
                                       many_safe,
                                       many_sheet,
+                                      reasons_many_plain,
+                                      reasons_many_safe,
+                                      reasons_many_sheet,
                                       breaks,
                                       up_to,
                                       next,
@@ -188,6 +228,12 @@ static void (*const calls[])(void) = {decode,
                                       plant_reasons_plain,
                                       plant_reasons_safe,
                                       plant_reasons_sheet,
+                                      plant_cut_many_plain,
+                                      plant_cut_many_safe,
+                                      plant_cut_many_sheet,
+                                      plant_reasons_many_plain,
+                                      plant_reasons_many_safe,
+                                      plant_reasons_many_sheet,
                                       plant_read_image,
                                       plant_write_image};
 static const char *const names[] = {"decode",
@@ -217,6 +263,9 @@ static const char *const names[] = {"decode",
                                     "cut_many_plain",
                                     "cut_many_safe",
                                     "cut_many_sheet",
+                                    "reasons_many_plain",
+                                    "reasons_many_safe",
+                                    "reasons_many_sheet",
                                     "break_map",
                                     "breaks_up_to",
                                     "next_break",
@@ -234,6 +283,12 @@ static const char *const names[] = {"decode",
                                     "plant_reasons_plain",
                                     "plant_reasons_safe",
                                     "plant_reasons_sheet",
+                                    "plant_cut_many_plain",
+                                    "plant_cut_many_safe",
+                                    "plant_cut_many_sheet",
+                                    "plant_reasons_many_plain",
+                                    "plant_reasons_many_safe",
+                                    "plant_reasons_many_sheet",
                                     "plant_read_image",
                                     "plant_write_image"};
 enum {
@@ -264,6 +319,9 @@ enum {
     CUT_MANY_PLAIN,
     CUT_MANY_SAFE,
     CUT_MANY_SHEET,
+    REASONS_MANY_PLAIN,
+    REASONS_MANY_SAFE,
+    REASONS_MANY_SHEET,
     BREAK_MAP,
     BREAKS_UP_TO,
     NEXT_BREAK,
@@ -281,6 +339,12 @@ enum {
     PLANT_REASONS_PLAIN,
     PLANT_REASONS_SAFE,
     PLANT_REASONS_SHEET,
+    PLANT_CUT_MANY_PLAIN,
+    PLANT_CUT_MANY_SAFE,
+    PLANT_CUT_MANY_SHEET,
+    PLANT_REASONS_MANY_PLAIN,
+    PLANT_REASONS_MANY_SAFE,
+    PLANT_REASONS_MANY_SHEET,
     PLANT_READ_IMAGE,
     PLANT_WRITE_IMAGE,
     ALL
@@ -395,7 +459,7 @@ static void on_texts(size_t len) {
         make(CUT_SAFE), make(CUT_SHEET), make(CUT_PLAIN);
         claims();
         part(len);
-        make(CUT_MANY_PLAIN), make(CUT_MANY_SAFE), make(CUT_MANY_SHEET);
+        for (int which = CUT_MANY_PLAIN; which <= REASONS_MANY_SHEET; which++) make(which);
     }
 }
 
@@ -462,7 +526,8 @@ static void plants(void) {
         make(PLANT_WRITE_IMAGE);
         image_len = count;
         make(PLANT_READ_IMAGE);
-        for (int which = PLANT_PREFIX_LENGTHS; which <= PLANT_REASONS_SHEET; which++) make(which);
+        part(text_len);
+        for (int which = PLANT_PREFIX_LENGTHS; which <= PLANT_REASONS_MANY_SHEET; which++) make(which);
     }
     make(PLANT_REMOVE);
 }

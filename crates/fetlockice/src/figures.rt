@@ -1,13 +1,13 @@
-// Release figures: a call for each mode, one for a text that was refused before it could be fed, and one
-// that joins two batches.
+// Release figures: a call for each mode, one for a text that was refused before it could be fed,
+// and one that joins two batches.
 use figures_cells::Figures;
 ghost use Rattle.newmm_rules.specs.declared.Mode.the-variants.{Plain, Safe, Sheet};
 ghost use Rattle.newmm_answers.specs.Calls.{call};
 ghost use Rattle.host_telling.specs.Told.{told, toldCut};
 ghost use Rattle.host_figures.specs.Calls.{FeedTold, RefusedTold, JoinTold};
 
-// Cuts a text plainly, with reasons, and adds what became of it to the figures: as the cut with reasons,
-// and refusal 13 before all others.
+// Cuts a text plainly, with reasons, and adds what became of it to the figures: as the cut with
+// reasons, and refusal 13 before all others.
 #[no_mangle]
 pub extern "C" fn fetlockice_feed_plain(
     figures: &mut Figures,

@@ -4,9 +4,9 @@ ghost use Rattle.newmm_answers.specs.Calls.{call};
 ghost use Rattle.host_telling.specs.Told.{toldCut};
 ghost use Rattle.host_reasons.specs.Calls.{ReasonsTold};
 
-// Cuts a text plainly, with reasons: for each token a pair of cells at the front of pairs, its end in
-// characters and its reason; accepted with the number of pairs and that of the edges. Refusals 2 to
-// 6; 6 counts pairs.
+// Cuts a text plainly, with reasons: for each token a pair of cells at the front of pairs, its end
+// in characters and its reason; accepted with the number of pairs and that of the edges. Refusals 2
+// to 6; 6 counts pairs.
 #[no_mangle]
 pub extern "C" fn fetlockice_reasons_plain(
     text: &[u32],

@@ -1,4 +1,5 @@
--- RELEASE FIGURES (02, ticket 14): what the calls that feed and join them answer, and what they leave.
+-- RELEASE FIGURES (02, ticket 14): what the calls that feed and join them answer, and what they
+-- leave.
 use Prim.Native.Nat.{ℕ}
 use mathlib.Core.Path.{_≡_}
 use mathlib.Core.Bool.{cond}
@@ -41,9 +42,9 @@ outcomeOf c =
 abbrev pub textFigures : Call → List ℕ
 textFigures c = ofOutcome (outcomeOf c)
 
--- FEEDING A TEXT is the cut with reasons, with the figures beside it. 13 is given before all others, if
--- the figures would be full; then figures and output are as they were. Scratch is in every case as the
--- cut leaves it.
+-- FEEDING A TEXT is the cut with reasons, with the figures beside it. 13 is given before all
+-- others, if the figures would be full; then figures and output are as they were. Scratch is in
+-- every case as the cut leaves it.
 abbrev pub feedAnswer : List ℕ → Call → CutAnswer
 feedAnswer figures c = cond (full figures (textFigures c)) (variants.Refused FiguresFull) (reasonsAnswerOf c)
 

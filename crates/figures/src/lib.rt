@@ -33,8 +33,9 @@ fn of_told(told: CutAnswer, characters: usize, cells: &[u32]) -> Figures
     }
 }
 
-// Cuts a text with reasons, and adds what became of it to the figures. Refusal 13 is given before all
-// others; figures and output are then as they were, and scratch is as the call would else leave it.
+// Cuts a text with reasons, and adds what became of it to the figures. Refusal 13 is given before
+// all others; figures and output are then as they were, and scratch is as the call would else leave
+// it.
 pub fn feed(
     figures: &mut Figures,
     text: &[u32],
@@ -60,8 +61,8 @@ pub fn feed(
     told
 }
 
-// Adds a text that was refused before it could be fed, by the number of its refusal, 1 to 6. No other
-// number is a text's: it changes nothing. Refusal 13.
+// Adds a text that was refused before it could be fed, by the number of its refusal, 1 to 6. No
+// other number is a text's: it changes nothing. Refusal 13.
 pub fn feed_refused(figures: &mut Figures, number: u32) -> Answer
     ensures { λ r. ⌜ FeedsRefused (now (figures .entry)) number r (now (figures .exit)) ⌝ }
 {

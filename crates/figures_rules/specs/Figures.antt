@@ -5,8 +5,9 @@ use mathlib.Core.List.{List, [], _∷_}
 use lib.ListN.{getD, replicate}
 use lib.Dec.{ltb, eqb}
 
--- Where each figure stands: texts, characters, tokens, tokens by reason 1 to 5 in the cells behind the
--- tokens, edges, the most edges in one text, and texts refused with 1 to 6 in the cells behind it.
+-- Where each figure stands: texts, characters, tokens, tokens by reason 1 to 5 in the cells behind
+-- the tokens, edges, the most edges in one text, and texts refused with 1 to 6 in the cells behind
+-- it.
 abbrev pub texts : ℕ
 texts = 0
 

@@ -16,8 +16,8 @@ unfoldable pub howOften : ℕ → List ℕ → ℕ
 howOften x [] = 0
 howOften x (y ∷ ys) = cond (eqb y x) 1 0 + howOften x ys
 
--- One text, its characters, its tokens, these by each reason, its edges, and as the most edges of one
--- text the same.
+-- One text, its characters, its tokens, these by each reason, its edges, and as the most edges of
+-- one text the same.
 unfoldable pub ofCut : ℕ → List ℕ → ℕ → List ℕ
 ofCut characters reasons edges =
     1
@@ -80,8 +80,8 @@ abbrev pub Reasons : List ℕ → Type 0
 Reasons [] = Unit {0}
 Reasons (r ∷ rs) = Reason r × Reasons rs
 
--- What every outcome of a text has: at most 65,535 characters and as many tokens, each with a reason,
--- and at most 4,294,967,296 edges.
+-- What every outcome of a text has: at most 65,535 characters and as many tokens, each with a
+-- reason, and at most 4,294,967,296 edges.
 abbrev pub OfText : Outcome → Type 0
 OfText (cut characters reasons edges) =
     (characters ≤ 65535) × (length reasons ≤ characters) × (edges ≤ 4294967296) × Reasons reasons

@@ -1,5 +1,5 @@
-// Release figures: what they are, how two batches of them are joined, and what a run of texts gives.
-// The definitions that the contracts and the theorems cite stand in specs/.
+// Release figures: what they are, how two batches of them are joined, and what a run of texts
+// gives. The definitions that the contracts and the theorems cite stand in specs/.
 
 // How many figures there are, and where each of them stands. Tokens by reason 1 to 5 stand in the
 // cells behind the tokens, texts refused with 1 to 6 in the last six.

@@ -12,8 +12,8 @@ ghost use Rattle.newmm_answers.specs.Calls.{call};
 ghost use Rattle.host_telling.specs.Told.{told, toldCut, tells};
 ghost use Rattle.host_figures.specs.Calls.{FeedTold, RefusedTold, JoinTold};
 
-// Cuts a text plainly, with reasons, and adds what became of it to the figures: as the cut with reasons,
-// and refusal 13 before all others.
+// Cuts a text plainly, with reasons, and adds what became of it to the figures: as the cut with
+// reasons, and refusal 13 before all others.
 pub fn feed_plain(
     figures: &mut Figures,
     text: &[u32],

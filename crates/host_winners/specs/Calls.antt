@@ -1,6 +1,6 @@
--- What a host is told of a text's clusters and of the alternatives that won them, and what stands in
--- the two rows that it lends: the answer and the rows of the library function, as its contract gives
--- them.
+-- What a host is told of a text's clusters and of the alternatives that won them, and what stands
+-- in the two rows that it lends: the answer and the rows of the library function, as its contract
+-- gives them.
 use Prim.Native.Nat.{ℕ}
 use mathlib.Core.Path.{_≡_}
 use mathlib.Core.List.{List}

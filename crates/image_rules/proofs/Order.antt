@@ -57,7 +57,8 @@ two x y = go (decLt x y) (decLt y x)
     go (no p) (yes q) = other (omega arith)
     go (no p) (no q) = one (omega arith)
 
--- where two words part: they are the same before, and there the first ends or has the smaller scalar
+-- where two words part: they are the same before, and there the first ends or has the smaller
+-- scalar
 pub record Parts (v w : List ℕ) (l : ℕ) : Type 0 where
   pub same : take l v ≡ take l w
   pub left : l ≤ length v

@@ -1,7 +1,7 @@
 // The program that lists the words of an image. The image stands on standard input. The words go to
-// standard output in their order, a word to a line, with a tab and its class in decimal behind a word
-// of another class than 0. A refusal, or a read or a write that fails, is told in a line on standard
-// error; no word is written where the image is refused.
+// standard output in their order, a word to a line, with a tab and its class in decimal behind a
+// word of another class than 0. A refusal, or a read or a write that fails, is told in a line on
+// standard error; no word is written where the image is refused.
 use image_record::Record;
 use image_record::record_at;
 use libc::STDERR_FILENO;

@@ -1,5 +1,6 @@
 pub mod TextEnds
 pub mod Answered
 pub mod Small
+pub mod Steady
 pub mod Putting
 pub mod Turns

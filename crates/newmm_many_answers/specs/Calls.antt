@@ -8,9 +8,11 @@ use Rattle.refusal.specs.declared.Answer.{Answer}
 use Rattle.refusal.specs.declared.Answer.the-variants.{Accepted, Refused}
 use Rattle.refusal.specs.declared.Refusal.the-variants.{WrongPosition}
 use Rattle.refusal.specs.Answers.{Cause, answer, output, outCause}
+use Rattle.trie_pool.specs.Meaning.{meaning}
 use Rattle.newmm_rules.specs.declared.Mode.{Mode}
 use Rattle.newmm_many_answers.specs.Texts.{textsOf, firstWrong}
-use Rattle.newmm_many_answers.specs.Turns.{Turns, allCells, inTurn}
+use Rattle.newmm_many_answers.specs.Turns.{Singly, Turns, allCells, inTurn}
+use Rattle.newmm_many_answers.specs.Singles.{cutSingly, reasonsSingly}
 
 -- What a call is given, each row as it was lent: `row` holds the texts, `ends` where each of them
 -- ends in it.
@@ -41,9 +43,9 @@ manyCauses size ends room = endsCause size ends ∷ outCause (4 * length ends) r
 abbrev pub manyAnswer : ManyCall → Answer
 manyAnswer c = answer (manyCauses (length (c .row)) (c .ends) (length (c .answers))) (length (c .ends))
 
--- What the single calls answer and leave, one for each text.
-abbrev pub turnsOf : ManyCall → Turns
-turnsOf c = inTurn (c .mode) (c .pool) (textsOf (c .row) (c .ends)) (c .out) (c .scratch)
+-- What single calls answer and leave, one for each text.
+abbrev pub turnsBy : Singly → ManyCall → Turns
+turnsBy one c = inTurn one (textsOf (c .row) (c .ends)) (c .out) (c .scratch)
 
 -- A refusal of the whole call changes no row.
 abbrev pub unless : Answer → List ℕ → List ℕ → List ℕ
@@ -51,16 +53,31 @@ unless (Accepted n) new old = new
 unless (Refused r) new old = old
 
 -- The answers, the output and the scratch afterwards.
-abbrev pub answersOf : ManyCall → List ℕ
-answersOf c = output (manyAnswer c) (allCells (turnsOf c .told)) (c .answers)
+abbrev pub answersBy : Singly → ManyCall → List ℕ
+answersBy one c = output (manyAnswer c) (allCells (turnsBy one c .told)) (c .answers)
 
-abbrev pub manyOut : ManyCall → List ℕ
-manyOut c = unless (manyAnswer c) (turnsOf c .out) (c .out)
+abbrev pub outBy : Singly → ManyCall → List ℕ
+outBy one c = unless (manyAnswer c) (turnsBy one c .out) (c .out)
 
-abbrev pub manyScratch : ManyCall → List ℕ
-manyScratch c = unless (manyAnswer c) (turnsOf c .scratch) (c .scratch)
+abbrev pub scratchBy : Singly → ManyCall → List ℕ
+scratchBy one c = unless (manyAnswer c) (turnsBy one c .scratch) (c .scratch)
 
--- THE CUT OF MANY TEXTS: what it answers, and what it leaves in the three rows.
+-- MANY TEXTS IN ONE CALL: what it answers, and what it leaves in the three rows, by the single
+-- calls that it stands for.
+abbrev pub ManyBy : Singly → ManyCall → Answer → (answers out scratch : List ℕ) → Type 0
+ManyBy one c answer answers out scratch =
+    (answer ≡ manyAnswer c) × ((answers ≡ answersBy one c) × ((out ≡ outBy one c) × (scratch ≡ scratchBy one c)))
+
+-- THE CUT OF MANY TEXTS: by the public cut.
+abbrev pub cutsOne : ManyCall → Singly
+cutsOne c = cutSingly (c .mode) (meaning (c .pool))
+
 abbrev pub ManyCuts : ManyCall → Answer → (answers out scratch : List ℕ) → Type 0
-ManyCuts c answer answers out scratch =
-    (answer ≡ manyAnswer c) × ((answers ≡ answersOf c) × ((out ≡ manyOut c) × (scratch ≡ manyScratch c)))
+ManyCuts c = ManyBy (cutsOne c) c
+
+-- THE SAME WITH REASONS: by the cut with reasons. The output is for pairs.
+abbrev pub reasonsOne : ManyCall → Singly
+reasonsOne c = reasonsSingly (c .mode) (meaning (c .pool))
+
+abbrev pub ManyReasons : ManyCall → Answer → (answers out scratch : List ℕ) → Type 0
+ManyReasons c = ManyBy (reasonsOne c) c

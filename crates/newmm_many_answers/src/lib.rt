@@ -1,5 +1,5 @@
-// What the cut of many texts answers: the definitions that its contract and the theorems cite stand
-// in specs/. The test of the whole call, and the four cells of an answer.
+// What a call with many texts answers: the definitions that the contracts and the theorems cite
+// stand in specs/. The test of the whole call, and the four cells of an answer.
 use cells::wide;
 use newmm_answers::CutAnswer;
 use refusal::Answer;
@@ -8,16 +8,23 @@ use refusal::detail;
 use refusal::number;
 ghost use mathlib.Core.Path.{_≡_};
 ghost use mathlib.Core.List.{_∷_, _++_};
-ghost use Prim.Native.Nat.{_≤_};
+ghost use Prim.Native.Nat.{_*_, _≤_};
 ghost use lib.ListN.{length, drop};
 ghost use Rattle.refusal.specs.Answers.{answer};
 ghost use Rattle.newmm_many_answers.specs.Texts.{firstWrong};
 ghost use Rattle.newmm_many_answers.specs.Turns.{cellsOf, endsTold};
 ghost use Rattle.newmm_many_answers.specs.Calls.{manyCauses};
 ghost use Rattle.newmm_many_answers.specs.inner.Small.{Small};
+ghost use Rattle.newmm_many_answers.specs.inner.Singles.{widthOf};
 
 // The cells of a text's answer.
 pub const ANSWER: usize = 4;
+
+// What a call with many texts writes for a token: its end, or a pair of its end and its reason.
+pub enum Wanted {
+    Ends,
+    Pairs,
+}
 
 // The index of the first text end that is below the one before it or over `size`, or the number of
 // ends where none is.
@@ -99,5 +106,17 @@ pub fn ends_told(told: CutAnswer) -> usize
     match told {
         CutAnswer::Ends(n, _) => n,
         CutAnswer::Refused(_) => 0,
+    }
+}
+
+// The number of cells that are written for an answer.
+pub fn cells_told(told: CutAnswer, wanted: Wanted) -> usize
+    requires { ⌜ Small told ⌝ }
+    ensures { λ r. ⌜ r ≡ widthOf wanted * endsTold told ⌝ }
+{
+    let n = ends_told(told);
+    match wanted {
+        Wanted::Ends => n,
+        Wanted::Pairs => 2 * n,
     }
 }

@@ -7,8 +7,8 @@ use Rattle.newmm_rules.specs.Words.{Given, size, wordEnds}
 use Rattle.newmm_rules.specs.NonDictionary.{nonThaiAt, startsWord, skipEnd}
 use Rattle.newmm_rules.specs.Claims.{isNil}
 
--- One of dictionary word, non-Thai run, skipped to a word, skipped to a non-Thai run, skipped to the
--- end: 1 to 5 as listed.
+-- One of dictionary word, non-Thai run, skipped to a word, skipped to a non-Thai run, skipped to
+-- the end: 1 to 5 as listed.
 abbrev pub dictionaryWord : ℕ
 dictionaryWord = 1
 
@@ -24,8 +24,8 @@ toNonThai = 4
 abbrev pub toEnd : ℕ
 toEnd = 5
 
--- The search for the token's end stopped at a place, or at none. Where both stopping reasons hold at
--- one place, "to a word" is given.
+-- The search for the token's end stopped at a place, or at none. Where both stopping reasons hold
+-- at one place, "to a word" is given.
 unfoldable pub skipReason : Given → ℕ → ℕ
 skipReason g b = cond (ltb (skipEnd g b) (size g)) (cond (startsWord g (skipEnd g b)) toWord toNonThai) toEnd
 

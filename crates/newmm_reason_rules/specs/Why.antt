@@ -18,9 +18,9 @@ pub record Skipped (g : Given) (b e : ℕ) : Type 0 where
   pub past : (p : ℕ) → b < p → p < e → stopsAt g p ≡ false
 
 -- The token from b to e has this reason. It is a dictionary word that ends at a cluster end. Or no
--- such word starts at b, and it is the match of NON_THAI_PATTERN. Or it is skipped to the cluster end
--- e, where such a word starts that isn't one or two characters U+0E01..0E2E; or where none does, and
--- NON_THAI_PATTERN matches. Or it is skipped to the end of the text.
+-- such word starts at b, and it is the match of NON_THAI_PATTERN. Or it is skipped to the cluster
+-- end e, where such a word starts that isn't one or two characters U+0E01..0E2E; or where none
+-- does, and NON_THAI_PATTERN matches. Or it is skipped to the end of the text.
 pub data Why (g : Given) (b e : ℕ) : ℕ → Type 0 where
   word : In e (wordEnds g b) → Why g b e dictionaryWord
   run : wordEnds g b ≡ [] → 0 < nonThaiAt g b → e ≡ b + nonThaiAt g b → Why g b e nonThaiRun

@@ -28,8 +28,8 @@ pub fn put_pairs(cells: &[u32], out: &mut [u32], k: usize)
     }
 }
 
-// Cuts a text by the words of a pool, in a mode: for each token two cells of the output, its end and
-// its reason. Answers the number of tokens and the number of edges recorded in the whole call.
+// Cuts a text by the words of a pool, in a mode: for each token two cells of the output, its end
+// and its reason. Answers the number of tokens and the number of edges recorded in the whole call.
 // Refusals 2 to 6; 6 counts pairs.
 pub fn cut_reasons(
     text: &[u32],

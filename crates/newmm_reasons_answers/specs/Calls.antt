@@ -1,5 +1,5 @@
--- A call of the cut with reasons, and what its contract says of it. It is given what a call of the cut
--- is given; the output is for pairs.
+-- A call of the cut with reasons, and what its contract says of it. It is given what a call of the
+-- cut is given; the output is for pairs.
 use mathlib.Core.Path.{_≡_}
 use mathlib.Core.List.{List}
 use Prim.Native.Nat.{ℕ}

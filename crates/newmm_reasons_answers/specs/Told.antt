@@ -13,8 +13,8 @@ use Rattle.newmm_rules.specs.Modes.{unshifted, behindSpace}
 use Rattle.newmm_reason_rules.specs.Reasons.{Told, toldFrom}
 use Rattle.newmm_answers.specs.Answers.{given, plainCut}
 
--- The parts of a text, each of which is cut plainly by itself: below 140 characters the text itself.
--- An empty text has none.
+-- The parts of a text, each of which is cut plainly by itself: below 140 characters the text
+-- itself. An empty text has none.
 abbrev pub partsBy : (ℕ → ℕ) → Cutter → List ℕ → List (List ℕ)
 partsBy spaceCut plain text =
     cond (ltb (length text) textScanEnd) (lastPart text) (runsOf (length text) spaceCut plain text .parts)

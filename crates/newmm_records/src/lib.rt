@@ -36,9 +36,9 @@ fn fill(records: &mut [Record], told: &mut [u32], n: usize)
     }
 }
 
-// Cuts a text by the words of a pool, in a mode: a record for each token, its end and its reason, at
-// the front of the row. Answers the number of tokens and the number of edges recorded in the whole
-// call. Refusals 2 to 6; 6 counts records.
+// Cuts a text by the words of a pool, in a mode: a record for each token, its end and its reason,
+// at the front of the row. Answers the number of tokens and the number of edges recorded in the
+// whole call. Refusals 2 to 6; 6 counts records.
 pub fn cut_records(
     text: &[u32],
     pool: &[u32],

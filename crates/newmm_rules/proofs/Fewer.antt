@@ -88,7 +88,8 @@ known-old b (w ∷ ws) s x m = go (known-old b ws (recorded b w s) x (List·Mem�
     go ih true = List·Memᴰ·tail m
     go ih false = ih
 
--- ---- all words of the places handled since the last clearing are recorded, where at most 50 edges stand
+-- ---- all words of the places handled since the last clearing are recorded, where at most 50 edges
+-- stand
 
 abbrev FullBelow : Given → ℕ → State → Type 0
 FullBelow g low s = length (s .edges) ≤ 50 → (x : ℕ) → In x (s .known) → s .committed ≤ x → x < low → (y : ℕ) → In y (wordEnds g x) → In (edgeOf x y) (s .edges)

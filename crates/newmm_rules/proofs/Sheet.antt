@@ -32,7 +32,8 @@ shifted-by-none [] = refl
 shifted-by-none (e ∷ es) = let z : 0 + e ≡ e = omega arith in λ i. z i ∷ shifted-by-none es i
 
 module _ (plain : Cutter) where
-  -- where a remaining text is cut: 101 behind the index of its sample's last space, or as in safe mode
+  -- where a remaining text is cut: 101 behind the index of its sample's last space, or as in safe
+  -- mode
   at-index : (text : List ℕ) (i : ℕ) → lastSpace (sampleOf text) ≡ At i → cutAt behindSpace plain text ≡ i + 101
   unfolding cutAt
   at-index text i e = ap (cutFor behindSpace plain (sampleOf text)) e

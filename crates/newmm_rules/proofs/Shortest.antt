@@ -1,4 +1,5 @@
--- The search finds a shortest way: no way along edges from the start to the goal has fewer vertices. Assumes nothing.
+-- The search finds a shortest way: no way along edges from the start to the goal has fewer
+-- vertices. Assumes nothing.
 use Prim.Native.Nat.{ℕ, zero, suc, _+_, _-_, _≤_, _<_}
 use native.Mathlib.Omega.{arith}
 use native.Mathlib.Decide.{decLt}
@@ -89,7 +90,8 @@ module _ (graph : Graph) (a goal : ℕ) (apart : goal ≡ a → ⊥) where
   Least : ℕ → ℕ → Type 0
   Least x l = (ws : List ℕ) → Chain graph a ws x → l ≤ length ws
 
-  -- each vertex that was queued waits by a shortest way, or is closed, or is the one that is being read
+  -- each vertex that was queued waits by a shortest way, or is closed, or is the one that is being
+  -- read
   record Good (reading : ℕ → Type 0) (q : Queue) : Type 0 where
     start : In a (q .seen)
     each : (x : ℕ) → In x (q .seen) → Waits (q .ways) x ⊎ (Closed (q .seen) x ⊎ reading x)

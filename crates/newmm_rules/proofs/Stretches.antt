@@ -1,4 +1,5 @@
--- The ends of a plain cut, stretch by stretch, and that each which a search joined has the fewest words. Assumes nothing.
+-- The ends of a plain cut, stretch by stretch, and that each which a search joined has the fewest
+-- words. Assumes nothing.
 use Prim.Native.Nat.{ℕ, zero, suc, _+_, _≤_, _<_}
 use native.Mathlib.Omega.{arith}
 use native.Mathlib.Decide.{decLt}

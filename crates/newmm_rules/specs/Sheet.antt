@@ -50,7 +50,8 @@ pub record InSheetParts (plain : Cutter) (text ends : List ℕ) : Type 0 where
   pub taken : SheetParts plain text parts
   pub ends-are : ends ≡ partEnds plain 0 parts
 
--- A text of exactly 140 characters whose last one is a space is its only part: it is cut as plainly.
+-- A text of exactly 140 characters whose last one is a space is its only part: it is cut as
+-- plainly.
 abbrev pub OnlyPart : Type 0
 OnlyPart =
     (plain : Cutter) (text : List ℕ)

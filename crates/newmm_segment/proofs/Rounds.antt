@@ -1,5 +1,5 @@
--- The rounds of cutting in parts, whatever is written of a part: as many cells as it has ends. Assumes
--- nothing.
+-- The rounds of cutting in parts, whatever is written of a part: as many cells as it has ends.
+-- Assumes nothing.
 use Prim.Native.Nat.{ℕ, zero, suc, _+_, _*_, _-_, _≤_, _<_}
 use native.Mathlib.Omega.{arith}
 use mathlib.Core.Path.{_≡_, refl, sym, _∙_, ap, subst}

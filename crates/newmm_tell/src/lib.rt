@@ -1,6 +1,6 @@
-// Telling the reasons of a cut, part by part: each part is cut plainly, and then its tokens are told,
-// while the part and its start are at hand. What is told of a token is one cell: eight times its end,
-// and its reason.
+// Telling the reasons of a cut, part by part: each part is cut plainly, and then its tokens are
+// told, while the part and its start are at hand. What is told of a token is one cell: eight times
+// its end, and its reason.
 use cells::clear_from;
 use cells::narrow;
 use cells::wide;
@@ -30,8 +30,8 @@ ghost use Rattle.newmm_one_cut.specs.inner.Strips.{Fresh};
 ghost use Rattle.newmm_segment.specs.inner.Written.{Ready, Written, FirstTold};
 ghost use Rattle.newmm_tell.specs.inner.Telling.{CutPart};
 
-// Tells each of the k tokens of a part whose ends stand at the front of the row, and the flags of its
-// cluster ends in their strip.
+// Tells each of the k tokens of a part whose ends stand at the front of the row, and the flags of
+// its cluster ends in their strip.
 fn tell(part: &[u32], pool: &[u32], row: &mut [u32], k: usize, start: usize)
     requires { ⌜ CutPart (now part) (now pool) (now row) k × (start + length (now part) ≤ 65535) ⌝ }
     ensures { λ _. ⌜ now (row .exit)
@@ -74,7 +74,8 @@ fn tell_part(part: &[u32], pool: &[u32], row: &mut [u32], start: usize) -> Ends
     tell_strips(part, pool, &mut row[..cells], start)
 }
 
-// Tells the first part of the remaining text, which starts at `start` and has 140 characters or more.
+// Tells the first part of the remaining text, which starts at `start` and has 140 characters or
+// more.
 fn tell_first(rest: &[u32], pool: &[u32], row: &mut [u32], start: usize, space_cut: usize) -> Part
     requires { ⌜ Ready (now rest) (now pool) (now row) × (textScanEnd ≤ length (now rest)) × (1 ≤ «space_cut»)
         × («space_cut» ≤ textScanBegin + 1) × (start + length (now rest) ≤ 65535) ⌝ }
@@ -114,7 +115,8 @@ fn tell_parts(text: &[u32], pool: &[u32], row: &mut [u32], space_cut: usize) -> 
     }
 }
 
-// Tells a text in a mode: its cells stand at the front of the row, whose other cells are as they were.
+// Tells a text in a mode: its cells stand at the front of the row, whose other cells are as they
+// were.
 pub fn tell_text(text: &[u32], pool: &[u32], row: &mut [u32], mode: Mode) -> Ends
     requires { ⌜ Ready (now text) (now pool) (now row) ⌝ }
     ensures { λ r. ⌜ Written (textCells mode (holds (now (pool .entry))) (now (text .entry)))

@@ -1,10 +1,9 @@
 -- What telling a text answers and leaves in scratch. Assumes nothing.
 use Prim.Native.Nat.{ℕ, _≤_, _<_}
-use native.Mathlib.Omega.{arith}
 use mathlib.Core.Path.{_≡_, refl, sym, _∙_, ap, subst}
 use mathlib.Core.List.{List, _++_}
 use mathlib.Core.Option.{Option}
-use lib.ListN.{length, drop, replicate, length-map}
+use lib.ListN.{length, drop, replicate, length-map, length-replicate}
 use Rattle.refusal.specs.declared.Refusal.{Refusal}
 use Rattle.refusal.specs.declared.Refusal.the-variants.{OutputTooShort}
 use Rattle.refusal.specs.declared.Answer.{Answer}
@@ -17,13 +16,13 @@ use Rattle.newmm_rules.specs.declared.Mode.{Mode}
 use Rattle.newmm_one_cut.specs.declared.Ends.{Ends}
 use Rattle.newmm_answers.specs.declared.CutAnswer.{CutAnswer}
 use Rattle.newmm_answers.specs.declared.CutAnswer.the-variants as variants
-use Rattle.newmm_answers.specs.Answers.{firstCauses, accepts, scratchAfter}
-use Rattle.newmm_answers.specs.inner.Passing.{inView}
+use Rattle.newmm_answers.specs.Answers.{firstCauses, accepts, cutAnswer, scratchAfter}
+use Rattle.newmm_answers.specs.inner.Passing.{inView, Sees}
 use Rattle.newmm_answers.proofs.Views.{Viewed}
 use Rattle.newmm_reasons_answers.specs.Told.{toldOf}
 use Rattle.newmm_reasons_answers.specs.inner.Cells.{cellOf, cellsOf, textCells, Tells}
 use Rattle.newmm_reasons_answers.proofs.Told.{as-many}
-use Rattle.newmm.proofs.Calls.{Like, Ended, v, all-zero, accepts-no, accepts-yes, answers-no, answers-yes, scratch-zero, refused-all, refused-told, scratch-kept}
+use Rattle.newmm.proofs.Calls.{Like, Ended, v, all-zero, accepts-no, accepts-yes, answers-no, answers-yes, scratch-zero, still-sees, refused-all, refused-told, scratch-kept}
 
 -- as many cells as ends, and the edges of the cut
 pub the-cells : Like textCells
@@ -59,6 +58,17 @@ module _ {mode : Mode} {text view row : List ℕ} (scratch : List ℕ) (room : �
     answers-yes z room h,
     v z .is ∙ ap (λ (l : List ℕ). cells ++ drop (length cells) l) (sym (scratch-zero scratch (z .lent .sees .passes))) ∙ sym (leaves mode text (inView view) scratch room (accepts-yes z room h)),
   )
+
+-- what scratch held before it was cleared decides nothing
+pub cleared-tells : (scratch : List ℕ) {row : List ℕ} → row ≡ replicate {A = ℕ} (length scratch) 0 → {text view : List ℕ} → Sees text view (length scratch)
+    → (room : ℕ) (mode : Mode) {r : CutAnswer} {after : List ℕ} → Tells text (inView view) row room mode r after → Tells text (inView view) scratch room mode r after
+cleared-tells scratch {row} e {text} {view} p room mode c =
+    let l : length row ≡ length scratch = ap length e ∙ length-replicate {A = ℕ} (length scratch) 0 in
+    let z : scratchAfter text (inView view) row ≡ scratchAfter text (inView view) scratch =
+    scratch-zero row (still-sees scratch e p .passes) ∙ ap (λ (k : ℕ). replicate {A = ℕ} k 0) l ∙ sym (scratch-zero scratch (p .passes)) in (
+      c .0 ∙ ap (λ (k : ℕ). cutAnswer mode text (inView view) k room) l,
+      c .1 ∙ (λ i. output (accepts mode text (inView view) (l i) room) (cellsOf (toldOf mode (holds view) text)) (z i)),
+    )
 
 -- what is told by a view is told by the pool
 pub told-by-view : {m : Option Words} {view : List ℕ} → Viewed m view → (text scratch : List ℕ) (room : ℕ) (mode : Mode) {r : CutAnswer} {after : List ℕ}

@@ -1,7 +1,7 @@
-// Makes a release's list of figures: reads lines as why_lines does, cuts the texts with the words of
-// the lines before them, and at the end writes the figures, one name and number a line. A read or a
-// write that fails stops it at once, and so do figures that are full; a line on standard error tells
-// it.
+// Makes a release's list of figures: reads lines as why_lines does, cuts the texts with the words
+// of the lines before them, and at the end writes the figures, one name and number a line. A read
+// or a write that fails stops it at once, and so do figures that are full; a line on standard error
+// tells it.
 use figures_cells::Figures;
 use libc::STDERR_FILENO;
 use release_lines::count_line;
@@ -157,7 +157,8 @@ fn read_all(
     Line::Kept(kept)
 }
 
-// Counts the lines that end in the bytes, the first of which starts with the `kept` bytes of `line`.
+// Counts the lines that end in the bytes, the first of which starts with the `kept` bytes of
+// `line`.
 fn feed_all(
     bytes: &[u8],
     line: &mut [u8; LINE],

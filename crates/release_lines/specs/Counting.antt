@@ -25,8 +25,8 @@ abbrev pub refusedFull : Answer → Bool
 refusedFull (answers.Accepted n) = false
 refusedFull (answers.Refused r) = true
 
--- A text is decoded first. One that decoding refuses is counted by the number of its refusal, any other
--- is fed.
+-- A text is decoded first. One that decoding refuses is counted by the number of its refusal, any
+-- other is fed.
 abbrev pub figuresBy : Answer → List ℕ → Call → List ℕ
 figuresBy (answers.Accepted n) figures c = after figures (textFigures c)
 figuresBy (answers.Refused r) figures c = refusedAfter figures (numberOf r)

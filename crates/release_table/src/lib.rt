@@ -79,7 +79,8 @@ fn keep_row_refusals(out: &mut [u8], used: usize, figures: &Figures) -> usize
     keep_figure(out, b, b"refused-6", figures[15])
 }
 
-// Writes the figures to the front of `out`, as far as there is room. Answers how many bytes that is.
+// Writes the figures to the front of `out`, as far as there is room. Answers how many bytes that
+// is.
 pub fn write_figures(figures: &Figures, out: &mut [u8]) -> usize
     ensures { λ r. ⌜ r ≡ amount (table (now (figures .entry))) (now (out .entry)) ⌝ }
     ensures { λ _. ⌜ now (out .exit) ≡ written (table (now (figures .entry))) (now (out .entry)) ⌝ }

@@ -25,7 +25,8 @@ abbrev pub askedIf : Bool → List ℕ → Asked
 askedIf true line = asked line
 askedIf false line = Nothing
 
--- the text that is written for a line; the rows for decoding, scratch and ends are those of the call
+-- the text that is written for a line; the rows for decoding, scratch and ends are those of the
+-- call
 abbrev pub told : List ℕ → List ℕ → Room → ℕ → List ℕ → List ℕ
 told line pool room cells ends =
     lineOf (replyOf line pool room cells (length ends)) (endsAfter (asked line) (textOf line) pool room cells ends)

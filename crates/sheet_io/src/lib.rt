@@ -1,6 +1,6 @@
-// Standard input and output of a line program: `read_some` and `write_whole`. A call that was interrupted, or that would have had to wait, is tried
-// again; one that fails for another reason is told on standard error. A proved loop has to end:
-// each has more turns than any run uses up.
+// Standard input and output of a line program: `read_some` and `write_whole`. A call that was
+// interrupted, or that would have had to wait, is tried again; one that fails for another reason is
+// told on standard error. A proved loop has to end: each has more turns than any run uses up.
 use libc::EAGAIN;
 use libc::EINTR;
 use libc::STDERR_FILENO;

@@ -82,8 +82,8 @@ module _ (classes row text : List ℕ) where
 
   -- ---- one item
 
-  -- what an item and the rest give, by whether it is needed and whether it is there, from the rest behind it and from
-  -- the rest at its place
+  -- what an item and the rest give, by whether it is needed and whether it is there, from the rest
+  -- behind it and from the rest at its place
   abbrev tried : Bool → Bool → Match → Match → Match
   tried true here behind at-once = cond here behind none
   tried false here behind at-once = orElse (cond here behind none) at-once

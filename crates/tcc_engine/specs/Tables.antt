@@ -1,5 +1,5 @@
--- 02, ticket 5: the alternatives as tables of items (class, optional, group), and how the tables are
--- read.
+-- 02, ticket 5: the alternatives as tables of items (class, optional, group), and how the tables
+-- are read.
 use Prim.Native.Nat.{ℕ, zero, suc, _+_, _-_, _*_, _/_, _%_}
 use mathlib.Core.Path.{_≡_}
 use mathlib.Core.Bool.{Bool, cond, not}

@@ -1,8 +1,8 @@
 // Replays the test vectors of `utf8`, `char_string` and `char_string_view`: a line with the answer
 // for each line of standard input.
 //
-// The rows of a decoding are lent full of leftovers. Where it leaves a cell otherwise than documents
-// 01 and 02 say, a `?` is written.
+// The rows of a decoding are lent full of leftovers. Where it leaves a cell otherwise than
+// documents 01 and 02 say, a `?` is written.
 mod places;
 mod views;
 

@@ -14,7 +14,8 @@ use test_rows::expect_leftovers;
 use test_rows::smear;
 use utf8::InBytes;
 
-// decode bytes, out cells, position cells => ok n scalars, and the positions: the first, and how far
+// decode bytes, out cells, position cells => ok n scalars, and the positions: the first, and how
+// far
 //   each is from the one before
 pub fn decode(line: &[u8], bytes: &mut [u8], cells: &mut [u32], positions: &mut [u32]) {
     let n = read_bytes(field(line, 1), bytes);
@@ -63,7 +64,8 @@ fn steps(row: &mut [u32]) {
     }
 }
 
-// endbytes bytes, ends as cells => ok the ends in bytes, joined by commas, `x` for one that has none
+// endbytes bytes, ends as cells => ok the ends in bytes, joined by commas, `x` for one that has
+// none
 pub fn ends_in_bytes(line: &[u8], bytes: &mut [u8], cells: &mut [u32], positions: &mut [u32]) {
     let n = read_bytes(field(line, 1), bytes);
     let answer = utf8::decode(&bytes[..n], cells, positions);

@@ -1,9 +1,12 @@
-// Replays the test vectors of the cut of many texts: a line with the answer for each line of
-// standard input.
+// Replays the test vectors of the calls with many texts, those with reasons and those of a plant
+// too: a line with the answer for each line of standard input.
 //
-// The rows are lent full of leftovers. Where a call leaves a cell otherwise than it should, a `?` is
-// written.
+// The rows are lent full of leftovers. Where a call leaves a cell otherwise than it should, a `?`
+// is written.
 use newmm_many::cut_many;
+use newmm_many::cut_reasons_many;
+use newmm_plants_many::cut_many_in;
+use newmm_plants_many::cut_reasons_many_in;
 use newmm_rules::Mode;
 use refusal::Answer;
 use test_lines::behind;
@@ -24,6 +27,7 @@ use test_rows::mode_of;
 use test_rows::print_left;
 use test_rows::smear;
 use test_words::hold;
+use trie_plants::Plant;
 ghost use Prim.Native.Nat.{_≤_};
 
 const INPUT: usize = 589824;
@@ -76,6 +80,53 @@ fn replay(
     }
 }
 
+// What a line asks for: ends or pairs, by the words of a pool or of one of its plants.
+enum Form {
+    Ends,
+    Pairs,
+    EndsOf(Plant),
+    PairsOf(Plant),
+}
+
+// What a line calls its form.
+enum Asked {
+    By(Form),
+    Nothing,
+}
+
+fn form_of(op: &[u8]) -> Asked {
+    if is(op, b"many") {
+        return Asked::By(Form::Ends);
+    }
+    if is(op, b"many_pool") {
+        return Asked::By(Form::Ends);
+    }
+    if is(op, b"pairs_pool") {
+        return Asked::By(Form::Pairs);
+    }
+    if is(op, b"many_a") {
+        return Asked::By(Form::EndsOf(Plant::A));
+    }
+    if is(op, b"many_b") {
+        return Asked::By(Form::EndsOf(Plant::B));
+    }
+    if is(op, b"pairs_a") {
+        return Asked::By(Form::PairsOf(Plant::A));
+    }
+    if is(op, b"pairs_b") {
+        return Asked::By(Form::PairsOf(Plant::B));
+    }
+    Asked::Nothing
+}
+
+// Puts a line's words into the pool, or its cells; how many cells the pool has.
+fn read_pool(line: &[u8], texts: &mut [u32], pool: &mut [u32]) -> usize {
+    if is(field(line, 0), b"many") {
+        return hold(field(line, 2), texts, pool);
+    }
+    read_cells(field(line, 2), pool)
+}
+
 fn answer(
     line: &[u8],
     pool: &mut [u32],
@@ -85,39 +136,29 @@ fn answer(
     out: &mut [u32],
     scratch: &mut [u32],
 ) {
-    let op = field(line, 0);
-    if is(op, b"many") {
-        let cells = hold(field(line, 2), texts, pool);
-        lend(
-            line,
-            first(pool, cells),
-            texts,
-            text_ends,
-            answers,
-            out,
-            scratch,
-        );
-        return;
+    let asked = form_of(field(line, 0));
+    match asked {
+        Asked::By(form) => {
+            let cells = read_pool(line, texts, pool);
+            lend(
+                line,
+                first(pool, cells),
+                texts,
+                text_ends,
+                answers,
+                out,
+                scratch,
+                form,
+            );
+        }
+        Asked::Nothing => print(b"?"),
     }
-    if is(op, b"many_pool") {
-        let cells = read_cells(field(line, 2), pool);
-        lend(
-            line,
-            first(pool, cells),
-            texts,
-            text_ends,
-            answers,
-            out,
-            scratch,
-        );
-        return;
-    }
-    print(b"?");
 }
 
 // many mode, words, texts, text ends, answer cells, out cells, scratch cells
 //     => ok texts answers ends scratch
-// many_pool mode, the pool's cells, and so on, as many
+// many_pool mode, the pool's cells, and so on, as many; pairs_pool tells ends and reasons
+// many_a, many_b, pairs_a, pairs_b by a plant's words
 fn lend(
     line: &[u8],
     pool: &[u32],
@@ -126,10 +167,21 @@ fn lend(
     answers: &mut [u32],
     out: &mut [u32],
     scratch: &mut [u32],
+    form: Form,
 ) {
     let named = mode_of(field(line, 1));
     match named {
-        Named::In(mode) => ask(line, pool, texts, text_ends, answers, out, scratch, mode),
+        Named::In(mode) => ask(
+            line,
+            pool,
+            texts,
+            text_ends,
+            answers,
+            out,
+            scratch,
+            mode,
+            form,
+        ),
         Named::Nothing => print(b"?"),
     }
 }
@@ -143,6 +195,7 @@ fn ask(
     out: &mut [u32],
     scratch: &mut [u32],
     mode: Mode,
+    form: Form,
 ) {
     let n = read_cells(field(line, 3), texts);
     let k = read_cells(field(line, 4), text_ends);
@@ -155,6 +208,7 @@ fn ask(
         out,
         scratch,
         mode,
+        form,
     );
 }
 
@@ -167,6 +221,7 @@ fn lend_rows(
     out: &mut [u32],
     scratch: &mut [u32],
     mode: Mode,
+    form: Form,
 ) {
     let told = lent(field(line, 5), answers.len());
     let room = lent(field(line, 6), out.len());
@@ -179,6 +234,7 @@ fn lend_rows(
         &mut out[0..room],
         &mut scratch[0..cells],
         mode,
+        form,
     );
 }
 
@@ -190,20 +246,52 @@ fn call(
     out: &mut [u32],
     scratch: &mut [u32],
     mode: Mode,
+    form: Form,
 ) {
     smear(answers);
     smear(out);
     smear(scratch);
-    let answer = cut_many(texts, text_ends, pool, answers, out, scratch, mode);
-    show(answer, answers, out, scratch);
+    let answer = answer_to(texts, text_ends, pool, answers, out, scratch, mode, form);
+    show(answer, answers, out, scratch, has_pairs(form));
 }
 
-fn show(answer: Answer, answers: &[u32], out: &[u32], scratch: &[u32]) {
+fn answer_to(
+    texts: &[u32],
+    text_ends: &[u32],
+    pool: &[u32],
+    answers: &mut [u32],
+    out: &mut [u32],
+    scratch: &mut [u32],
+    mode: Mode,
+    form: Form,
+) -> Answer {
+    match form {
+        Form::Ends => cut_many(texts, text_ends, pool, answers, out, scratch, mode),
+        Form::Pairs => cut_reasons_many(texts, text_ends, pool, answers, out, scratch, mode),
+        Form::EndsOf(plant) => {
+            cut_many_in(texts, text_ends, pool, plant, answers, out, scratch, mode)
+        }
+        Form::PairsOf(plant) => {
+            cut_reasons_many_in(texts, text_ends, pool, plant, answers, out, scratch, mode)
+        }
+    }
+}
+
+fn has_pairs(form: Form) -> bool {
+    match form {
+        Form::Ends => false,
+        Form::Pairs => true,
+        Form::EndsOf(_) => false,
+        Form::PairsOf(_) => true,
+    }
+}
+
+fn show(answer: Answer, answers: &[u32], out: &[u32], scratch: &[u32], pairs: bool) {
     match answer {
         Answer::Accepted(n) => {
             print(b"ok ");
             print_number(n);
-            print_rows(first(answers, four_times(n, answers.len())), out);
+            print_rows(first(answers, four_times(n, answers.len())), out, pairs);
             expect_leftovers(answers, four_times(n, answers.len()));
             print_left(scratch);
         }
@@ -224,9 +312,17 @@ fn four_times(n: usize, most: usize) -> usize {
     4 * n
 }
 
-// The answers, and as many ends as they count.
-fn print_rows(answers: &[u32], out: &[u32]) {
-    let used = counted(answers, out.len());
+// The cells that the answers count: one for an end, two for a pair; all of them where that is less.
+fn used_cells(answers: &[u32], room: usize, pairs: bool) -> usize {
+    if pairs {
+        return 2 * counted(answers, room / 2);
+    }
+    counted(answers, room)
+}
+
+// The answers, and as many ends or pairs as they count.
+fn print_rows(answers: &[u32], out: &[u32], pairs: bool) {
+    let used = used_cells(answers, out.len(), pairs);
     print(b" ");
     print_numbers(answers, b',');
     print(b" ");

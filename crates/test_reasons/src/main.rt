@@ -1,5 +1,5 @@
-// Replays the test vectors of the cut with reasons: a line with the answer for each line of standard
-// input.
+// Replays the test vectors of the cut with reasons: a line with the answer for each line of
+// standard input.
 //
 // The row of pairs has one cell more than its records take. It and scratch are lent full of
 // leftovers. Where a call leaves a cell otherwise than documents 01 and 02 say, a `?` is written.

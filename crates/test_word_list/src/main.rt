@@ -1,8 +1,8 @@
 // Replays the test vectors of word list images: a line with the answer for each line of standard
 // input.
 //
-// The output of a writing is lent full of leftovers. Where it leaves a byte otherwise than documents
-// 01 and 02 say, a `?` is written.
+// The output of a writing is lent full of leftovers. Where it leaves a byte otherwise than
+// documents 01 and 02 say, a `?` is written.
 use refusal::Answer;
 use test_lines::behind;
 use test_lines::field;

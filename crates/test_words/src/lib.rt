@@ -70,7 +70,8 @@ pub fn has_class(word: &[u8]) -> bool {
     behind(word, 0, b':') < word.len()
 }
 
-// The class behind a word, 0 where it has none. Where it is no number up to 65,535 a `?` is written.
+// The class behind a word, 0 where it has none. Where it is no number up to 65,535 a `?` is
+// written.
 pub fn read_class(word: &[u8]) -> u16 {
     if !has_class(word) {
         return 0;

@@ -12,10 +12,11 @@ pub mod FewestWords
 pub mod Fails
 pub mod Sheet
 pub mod Claims
-pub mod ManyTurns
-pub mod ManyTexts
-pub mod ManyAlone
 pub mod Maps
 pub mod InBytes
 pub mod Reasons
+pub mod ManyShapes
+pub mod ManyTurns
+pub mod ManyTexts
+pub mod ManyAlone
 pub mod Figures

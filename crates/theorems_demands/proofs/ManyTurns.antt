@@ -1,26 +1,27 @@
--- Texts that are cut one after the other, text by text. Assumes nothing.
+-- Texts that are answered one after the other, text by text. Assumes nothing.
 use Prim.Native.Nat.{ℕ, zero, suc, _+_, _*_, _-_, _≤_, _<_}
 use native.Mathlib.Omega.{arith}
 use mathlib.Core.Path.{_≡_, refl, sym, _∙_, ap, subst}
 use mathlib.Core.List.{List, [], _∷_, _++_, append-assoc}
-use lib.ListN.{length, getD, take, drop, replicate, length-append, length-drop, length-replicate}
+use mathlib.Core.Option.{Option}
+use lib.ListN.{length, getD, take, drop, replicate, length-drop, length-replicate}
 use lib.Seq.{take-at, drop-at, drop-drop}
 use Rattle.refusal.specs.declared.Answer.{Answer}
 use Rattle.refusal.specs.declared.Answer.the-variants.{Accepted, Refused}
-use Rattle.refusal.specs.Answers.{answer, output}
+use Rattle.refusal.specs.Answers.{answer}
 use Rattle.refusal.proofs.Causes.{again}
-use Rattle.trie_pool.specs.Meaning.{meaning}
+use Rattle.trie_pool.specs.Meaning.{Words}
 use Rattle.newmm_rules.specs.declared.Mode.{Mode}
 use Rattle.newmm_answers.specs.declared.CutAnswer.{CutAnswer}
 use Rattle.newmm_answers.specs.declared.CutAnswer.the-variants.{Ends}
 use Rattle.newmm_answers.specs.declared.CutAnswer.the-variants as variants
-use Rattle.newmm_answers.specs.Answers.{firstCauses, told, cutAnswer, outAfter, cleared}
-use Rattle.newmm_answers.specs.Calls.{Call, call, answerOf, outOf, scratchOf}
+use Rattle.newmm_answers.specs.Answers.{firstCauses, cleared, scratchAfter}
 use Rattle.newmm_many_answers.specs.Texts.{textsFrom}
-use Rattle.newmm_many_answers.specs.Turns.{Turns, cellsOf, allCells, endsTold, wroteOf, restOf, inTurn}
-use Rattle.newmm_many_answers.proofs.Answered.{ends, edges, accepted, accepted-fits, told-fits, wrote-long, scratch-as-long}
+use Rattle.newmm_many_answers.specs.Turns.{Singly, Turns, cellsOf, allCells, endsTold, restOf, inTurn}
+use Rattle.newmm_many_answers.proofs.Answered.{scratch-as-long}
 use Rattle.newmm_many_answers.proofs.Turns.{turn-first, cells-long}
 use Rattle.theorems_demands.specs.ManyTexts.{cellsAt, countsBefore}
+use Rattle.theorems_demands.proofs.ManyShapes.{Shape, no-cells, telling, taking, writing, taking-fits, writing-long, rest-is, shaped}
 
 -- ---- the texts
 
@@ -40,17 +41,6 @@ unfolding textsFrom
 nth-text row from [] i h = absurd (omega arith)
 nth-text row from (e ∷ es) zero h = refl
 nth-text row from (e ∷ es) (suc i) h = nth-text row e es i (omega arith)
-
--- ---- what a call leaves behind the ends that it wrote
-
-pub rest-is : (c : Call) → restOf c ≡ drop (endsTold (answerOf c)) (c .out)
-rest-is c = go (accepted c) refl
-  where
-    go : (x : Answer) → accepted c ≡ x → drop (endsTold (told x (edges c))) (output x (ends c) (c .out)) ≡ drop (endsTold (told x (edges c))) (c .out)
-    go (Accepted n) h =
-        let q = accepted-fits c n h in
-        drop-at (ends c) (drop (length (ends c)) (c .out)) n (sym (q .0)) ∙ ap (λ (k : ℕ). drop k (c .out)) (sym (q .0))
-    go (Refused r) h = refl
 
 -- ---- the answers
 
@@ -85,92 +75,92 @@ counts-are (variants.Refused r ∷ told) rest (suc i) h = ap (λ (k : ℕ). 0 + 
 
 -- ---- the turns
 
-module _ (mode : Mode) (pool : List ℕ) where
-  pub told-number : (texts : List (List ℕ)) (out scratch : List ℕ) → length (inTurn mode pool texts out scratch .told) ≡ length texts
+module _ (s : Shape) (mode : Mode) (m : Option Words) where
+  abbrev one : Singly
+  one = shaped s mode m
+
+  pub told-number : (texts : List (List ℕ)) (out scratch : List ℕ) → length (inTurn one texts out scratch .told) ≡ length texts
   unfolding inTurn
   told-number [] out scratch = refl
-  told-number (t ∷ ts) out scratch = ap suc (told-number ts (restOf (call t pool out scratch mode)) (scratchOf (call t pool out scratch mode)))
+  told-number (t ∷ ts) out scratch = ap suc (told-number ts (restOf (one t out scratch)) (scratchAfter t m scratch))
 
-  -- a text, by the cells of scratch and the output that it was lent
-  abbrev pub telling : ℕ → List ℕ → List ℕ → CutAnswer
-  telling cells text out = cutAnswer mode text (meaning pool) cells (length out)
+  -- what is told of text i, and what stands at `start`, where its cells start
+  pub record Answered (texts : List (List ℕ)) (out : List ℕ) (cells i : ℕ) (t : Turns) (start : ℕ) : Type 0 where
+    pub fits : start ≤ length out
+    pub told-is : nthTold i (t .told) ≡ cellsOf (telling s mode m cells (nth i texts) (drop start out))
+    pub wrote-is : take (taking s mode m cells (nth i texts) (drop start out)) (drop start (t .out)) ≡ writing s mode m cells (nth i texts) (drop start out)
 
-  abbrev pub writing : ℕ → List ℕ → List ℕ → List ℕ
-  writing cells text out = take (endsTold (telling cells text out)) (outAfter mode text (meaning pool) cells out)
-
-  -- what is told of text i, and where its ends stand
-  pub record Single (texts : List (List ℕ)) (out : List ℕ) (cells i : ℕ) (s : Turns) : Type 0 where
-    pub fits : usedBefore i (s .told) ≤ length out
-    pub cells-are : nthTold i (s .told) ≡ cellsOf (telling cells (nth i texts) (drop (usedBefore i (s .told)) out))
-    pub ends-are : take (endsTold (telling cells (nth i texts) (drop (usedBefore i (s .told)) out))) (drop (usedBefore i (s .told)) (s .out))
-        ≡ writing cells (nth i texts) (drop (usedBefore i (s .told)) out)
-
-  pub each : (texts : List (List ℕ)) (out scratch : List ℕ) (i : ℕ) → i < length texts → Single texts out (length scratch) i (inTurn mode pool texts out scratch)
+  pub each : (texts : List (List ℕ)) (out scratch : List ℕ) (i : ℕ) → i < length texts
+      → Answered texts out (length scratch) i (inTurn one texts out scratch) (s .cells (usedBefore i (inTurn one texts out scratch .told)))
   each [] out scratch i h = absurd (omega arith)
   each (t ∷ ts) out scratch zero h =
-      subst (Single (t ∷ ts) out (length scratch) 0) (sym (turn-first mode pool t ts out scratch))
+      let later = inTurn one ts (restOf (one t out scratch)) (scratchAfter t m scratch) in
+      subst (λ (r : Turns). Answered (t ∷ ts) out (length scratch) 0 r (s .cells (usedBefore 0 (r .told)))) (sym (turn-first one t ts out scratch))
+      (subst (Answered (t ∷ ts) out (length scratch) 0 (record { told = one t out scratch .told ∷ later .told; out = writing s mode m (length scratch) t out ++ later .out; scratch = later .scratch })) (sym (no-cells s))
       (record {
         fits = omega arith;
-        cells-are = refl;
-        ends-are = take-at (wroteOf (call t pool out scratch mode)) (inTurn mode pool ts (restOf (call t pool out scratch mode)) (scratchOf (call t pool out scratch mode)) .out) (endsTold (answerOf (call t pool out scratch mode))) (wrote-long (call t pool out scratch mode));
-      })
+        told-is = refl;
+        wrote-is = take-at (writing s mode m (length scratch) t out) (later .out) (taking s mode m (length scratch) t out) (writing-long s mode m (length scratch) t out);
+      }))
   each (t ∷ ts) out scratch (suc i) h =
-      let c = call t pool out scratch mode in
-      let s = inTurn mode pool ts (restOf c) (scratchOf c) in
-      let ih : Single ts (drop (endsTold (answerOf c)) out) (length scratch) i s =
-      subst (λ (k : ℕ). Single ts (drop (endsTold (answerOf c)) out) k i s) (scratch-as-long c)
-      (subst (λ (o : List ℕ). Single ts o (length (scratchOf c)) i s) (rest-is c) (each ts (restOf c) (scratchOf c) i (omega arith))) in
-      let u = usedBefore i (s .told) in
-      let d : drop u (drop (endsTold (answerOf c)) out) ≡ drop (endsTold (answerOf c) + u) out = drop-drop u (endsTold (answerOf c)) out in
-      let e : drop (endsTold (answerOf c) + u) (wroteOf c ++ s .out) ≡ drop u (s .out) =
-      sym (drop-drop u (endsTold (answerOf c)) (wroteOf c ++ s .out)) ∙ ap (drop u) (drop-at (wroteOf c) (s .out) (endsTold (answerOf c)) (wrote-long c)) in
-      subst (Single (t ∷ ts) out (length scratch) (suc i)) (sym (turn-first mode pool t ts out scratch))
+      let k = length scratch in
+      let n = taking s mode m k t out in
+      let later = inTurn one ts (restOf (one t out scratch)) (scratchAfter t m scratch) in
+      let u = s .cells (usedBefore i (later .told)) in
+      let ih : Answered ts (drop n out) k i later u =
+      subst (λ (j : ℕ). Answered ts (drop n out) j i later u) (scratch-as-long t m scratch)
+      (subst (λ (o : List ℕ). Answered ts o (length (scratchAfter t m scratch)) i later u) (rest-is s mode m k t out) (each ts (restOf (one t out scratch)) (scratchAfter t m scratch) i (omega arith))) in
+      let d : drop u (drop n out) ≡ drop (n + u) out = drop-drop u n out in
+      let e : drop (n + u) (writing s mode m k t out ++ later .out) ≡ drop u (later .out) =
+      sym (drop-drop u n (writing s mode m k t out ++ later .out)) ∙ ap (drop u) (drop-at (writing s mode m k t out) (later .out) n (writing-long s mode m k t out)) in
+      subst (λ (r : Turns). Answered (t ∷ ts) out k (suc i) r (s .cells (usedBefore (suc i) (r .told)))) (sym (turn-first one t ts out scratch))
+      (subst (Answered (t ∷ ts) out k (suc i) (record { told = one t out scratch .told ∷ later .told; out = writing s mode m k t out ++ later .out; scratch = later .scratch })) (sym (s .sums (endsTold (one t out scratch .told)) (usedBefore i (later .told))))
       (record {
-        fits = omega (arith, ih .fits, told-fits c, length-drop (endsTold (answerOf c)) out);
-        cells-are = ih .cells-are ∙ ap (λ (o : List ℕ). cellsOf (telling (length scratch) (nth i ts) o)) d;
-        ends-are = ap (take (endsTold (telling (length scratch) (nth i ts) (drop (endsTold (answerOf c) + u) out)))) e
-            ∙ ap (λ (o : List ℕ). take (endsTold (telling (length scratch) (nth i ts) o)) (drop u (s .out))) (sym d)
-            ∙ ih .ends-are
-            ∙ ap (writing (length scratch) (nth i ts)) d;
-      })
+        fits = omega (arith, ih .fits, taking-fits s mode m k t out, length-drop n out);
+        told-is = ih .told-is ∙ ap (λ (o : List ℕ). cellsOf (telling s mode m k (nth i ts) o)) d;
+        wrote-is = ap (take (taking s mode m k (nth i ts) (drop (n + u) out))) e
+            ∙ ap (λ (o : List ℕ). take (taking s mode m k (nth i ts) o) (drop u (later .out))) (sym d)
+            ∙ ih .wrote-is
+            ∙ ap (writing s mode m k (nth i ts)) d;
+      }))
 
   -- ---- scratch
 
   abbrev first : List ℕ → ℕ → Answer
-  first text cells = answer (firstCauses text (meaning pool) cells) 0
+  first text cells = answer (firstCauses text m cells) 0
 
   -- cells of 0 stay so
-  zeros-stay : (texts : List (List ℕ)) (out scratch : List ℕ) (k : ℕ) → scratch ≡ replicate {A = ℕ} k 0 → inTurn mode pool texts out scratch .scratch ≡ replicate {A = ℕ} k 0
+  zeros-stay : (texts : List (List ℕ)) (out scratch : List ℕ) (k : ℕ) → scratch ≡ replicate {A = ℕ} k 0 → inTurn one texts out scratch .scratch ≡ replicate {A = ℕ} k 0
   unfolding inTurn
   zeros-stay [] out scratch k e = e
-  zeros-stay (t ∷ ts) out scratch k e = zeros-stay ts (restOf (call t pool out scratch mode)) (scratchOf (call t pool out scratch mode)) k (go (first t (length scratch)))
+  zeros-stay (t ∷ ts) out scratch k e = zeros-stay ts (restOf (one t out scratch)) (scratchAfter t m scratch) k (go (first t (length scratch)))
     where
       go : (x : Answer) → cleared x scratch ≡ replicate {A = ℕ} k 0
       go (Accepted n) = ap (λ (j : ℕ). replicate {A = ℕ} j 0) (ap length e ∙ length-replicate {A = ℕ} k 0)
       go (Refused r) = e
 
   pub some-past : (texts : List (List ℕ)) (out scratch : List ℕ) (i : ℕ) → i < length texts → first (nth i texts) (length scratch) ≡ Accepted 0
-      → inTurn mode pool texts out scratch .scratch ≡ replicate {A = ℕ} (length scratch) 0
+      → inTurn one texts out scratch .scratch ≡ replicate {A = ℕ} (length scratch) 0
   unfolding inTurn
   some-past [] out scratch i h p = absurd (omega arith)
   some-past (t ∷ ts) out scratch zero h p =
-      zeros-stay ts (restOf (call t pool out scratch mode)) (scratchOf (call t pool out scratch mode)) (length scratch) (ap (λ (x : Answer). cleared x scratch) p)
+      zeros-stay ts (restOf (one t out scratch)) (scratchAfter t m scratch) (length scratch) (ap (λ (x : Answer). cleared x scratch) p)
   some-past (t ∷ ts) out scratch (suc i) h p =
-      let l = scratch-as-long (call t pool out scratch mode) in
-      some-past ts (restOf (call t pool out scratch mode)) (scratchOf (call t pool out scratch mode)) i (omega arith) (ap (first (nth i ts)) l ∙ p)
+      let l = scratch-as-long t m scratch in
+      some-past ts (restOf (one t out scratch)) (scratchAfter t m scratch) i (omega arith) (ap (first (nth i ts)) l ∙ p)
       ∙ ap (λ (j : ℕ). replicate {A = ℕ} j 0) l
 
   pub none-past : (texts : List (List ℕ)) (out scratch : List ℕ) → ((i : ℕ) → i < length texts → first (nth i texts) (length scratch) ≡ Accepted 0 → ⊥)
-      → inTurn mode pool texts out scratch .scratch ≡ scratch
+      → inTurn one texts out scratch .scratch ≡ scratch
   unfolding inTurn
   none-past [] out scratch h = refl
   none-past (t ∷ ts) out scratch h =
-      let e : scratchOf (call t pool out scratch mode) ≡ scratch = go (first t (length scratch)) refl in
-      none-past ts (restOf (call t pool out scratch mode)) (scratchOf (call t pool out scratch mode))
-      (λ i l p. h (suc i) (omega arith) (ap (first (nth i ts)) (sym (scratch-as-long (call t pool out scratch mode))) ∙ p)) ∙ e
+      let e : scratchAfter t m scratch ≡ scratch = go (first t (length scratch)) refl in
+      none-past ts (restOf (one t out scratch)) (scratchAfter t m scratch)
+      (λ i l p. h (suc i) (omega arith) (ap (first (nth i ts)) (sym (scratch-as-long t m scratch)) ∙ p)) ∙ e
     where
       zero-is : (n : ℕ) → first t (length scratch) ≡ Accepted n → first t (length scratch) ≡ Accepted 0
-      zero-is n q = sym (again (firstCauses t (meaning pool) (length scratch)) 0 0 q)
+      zero-is n q = sym (again (firstCauses t m (length scratch)) 0 0 q)
 
       go : (x : Answer) → first t (length scratch) ≡ x → cleared x scratch ≡ scratch
       go (Accepted n) q = absurd (h 0 (omega arith) (zero-is n q))

@@ -78,8 +78,8 @@ count-order pool = refl
 pub fresh-order : (pool : List ℕ) → numbers (freshCauses pool) ≡ 8 ∷ []
 fresh-order pool = refl
 
--- ---- Each of these lists but that of many texts rises, so the refusal that is given has the lowest number that applies
--- (crates/refusal/proofs/Firsts.antt: lowest).
+-- ---- Each of these lists but that of many texts rises, so the refusal that is given has the
+-- lowest number that applies (crates/refusal/proofs/Firsts.antt: lowest).
 
 pub decode-rises : Rising (1 ∷ 2 ∷ 6 ∷ [])
 decode-rises = ((omega arith, (omega arith, tt)), ((omega arith, tt), (tt, tt)))

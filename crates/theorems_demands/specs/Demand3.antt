@@ -1,7 +1,7 @@
 -- DEMAND 3: the same text, mode and words give the same ends and the same edge count, however the
 -- pools came about and whatever scratch held. Everything that the statement stands on is named
--- here; `Demand3AnyFor` and `Demand3For` are the statement for every cutting call, for any pools and
--- for reached ones; the last two are the statement for the cut.
+-- here; `Demand3AnyFor` and `Demand3For` are the statement for every cutting call, for any pools
+-- and for reached ones; the last two are the statement for the cut.
 use Prim.Native.Nat.{ℕ, _≤_}
 use mathlib.Core.Path.{_≡_}
 use mathlib.Core.List.{List}
@@ -20,8 +20,8 @@ use Rattle.newmm_answers.specs.declared.CutAnswer.the-variants.{Ends}
 use Rattle.newmm_answers.specs.Answers.{scratchFor}
 use Rattle.newmm_answers.specs.Calls.{Call, answerOf, outOf}
 
--- What the contracts of `fresh`, `add`, `remove` and `read_image` say of a call: its answer, and the
--- pool before and after it.
+-- What the contracts of `fresh`, `add`, `remove` and `read_image` say of a call: its answer, and
+-- the pool before and after it.
 abbrev pub Freshened : Answer → List ℕ → List ℕ → Type 0
 Freshened r old new = (r ≡ freshAnswer old) × After r old new noTerm
 
@@ -67,8 +67,8 @@ pub record Operation : Type 1 where
   pub cells : ℕ → ℕ
 
 -- Two calls with the same text and mode. If one answers, and the other has 9n+128 cells of scratch
--- and room for that answer, then the other answers too, with the same number, the same edge count and
--- the same cells.
+-- and room for that answer, then the other answers too, with the same number, the same edge count
+-- and the same cells.
 abbrev pub SameAnswerFor : (o : Operation) → o .Asked → o .Asked → Type 0
 SameAnswerFor o a b =
     o .text a ≡ o .text b

@@ -17,14 +17,15 @@ use Rattle.figures_rules.specs.Runs.{run, total, Balanced}
 use Rattle.figures.specs.Calls.{outcomeOf, textFigures, feedAnswer, pairsFed, refusedAfter}
 use Rattle.theorems_demands.specs.Demand3.{Operation, Reached, SameAnswerFor}
 
--- A text of a run: it is fed by a call; or it was refused before, and is fed by its refusal's number.
+-- A text of a run: it is fed by a call; or it was refused before, and is fed by its refusal's
+-- number.
 pub data Text : Type 0 where
   called : Call → Text
   refusedBefore : (number : ℕ) → 1 ≤ number → number ≤ 6 → Text
 
--- What became of it. The contracts of `feed` and `feed_refused` say that figures are then
--- `after figures (ofOutcome ..)` of this (the latter by `RefusedIsFed`), so the figures of texts that
--- were fed to zeros, one after the other, are `run` of these.
+-- What became of it. The contracts of `feed` and `feed_refused` say that figures are then `after
+-- figures (ofOutcome ..)` of this (the latter by `RefusedIsFed`), so the figures of texts that were
+-- fed to zeros, one after the other, are `run` of these.
 abbrev pub became : Text → Outcome
 became (called c) = outcomeOf c
 became (refusedBefore number least most) = refused number
@@ -67,8 +68,8 @@ Associative = (a b c : List ℕ) → joined (joined a b) c ≡ joined a (joined 
 abbrev pub Neutral : Type 0
 Neutral = (a : List ℕ) → length a ≡ figureCount → joined zeros a ≡ a
 
--- BATCHES: figures of two batches joined equal those of the batches run as one, in either order. The
--- join is not refused.
+-- BATCHES: figures of two batches joined equal those of the batches run as one, in either order.
+-- The join is not refused.
 pub record AsOne (xs ys : List Text) : Type 0 where
   pub accepted : full (run (outcomes xs)) (run (outcomes ys)) ≡ false
   pub in-order : joined (run (outcomes xs)) (run (outcomes ys)) ≡ run (outcomes (xs ++ ys))
@@ -77,8 +78,8 @@ pub record AsOne (xs ys : List Text) : Type 0 where
 abbrev pub Batches : Type 0
 Batches = (xs ys : List Text) → length xs + length ys ≤ maxTexts → AsOne xs ys
 
--- THIRTEEN: a call is refused with 13 where its figures would be full, and else is answered as the cut
--- with reasons.
+-- THIRTEEN: a call is refused with 13 where its figures would be full, and else is answered as the
+-- cut with reasons.
 abbrev pub ThirteenIfFull : Type 0
 ThirteenIfFull =
     (figures : List ℕ) (c : Call)
@@ -92,7 +93,8 @@ ThirteenOnlyIfFull =
     → feedAnswer figures c ≡ variants.Refused FiguresFull
     → full figures (textFigures c) ≡ true
 
--- For a run's figures that is exactly if texts would pass 4,294,967,295; and so for two runs joined.
+-- For a run's figures that is exactly if texts would pass 4,294,967,295; and so for two runs
+-- joined.
 abbrev pub ThirteenByTexts : Type 0
 ThirteenByTexts =
     (ts : List Text) (t : Text)
@@ -104,8 +106,8 @@ JoinThirteenByTexts =
     → full (run (outcomes xs)) (run (outcomes ys))
     ≡ ltb maxTexts (figure (run (outcomes xs)) texts + figure (run (outcomes ys)) texts)
 
--- DEMAND 3 FOR FIGURES: as for the cut with reasons, whatever the figures are. It leaves calls refused
--- with 13 aside.
+-- DEMAND 3 FOR FIGURES: as for the cut with reasons, whatever the figures are. It leaves calls
+-- refused with 13 aside.
 pub record FeedCall : Type 0 where
   pub figures : List ℕ
   pub asked : Call

@@ -26,9 +26,9 @@ endsTold ts = map (λ (t : Told). t .end) ts
 abbrev pub SameTokens : Type 0
 SameTokens = (mode : Mode) (words : Words) (text : List ℕ) → endsTold (toldOf mode words text) ≡ cutOf mode words text .ends
 
--- Parts one behind the other, the first of which starts at `start`, and what is told of them. Of each
--- part tokens are told from its start to its end, each with its reason by 01's rule in that part
--- alone; then they are moved to where the part stands.
+-- Parts one behind the other, the first of which starts at `start`, and what is told of them. Of
+-- each part tokens are told from its start to its end, each with its reason by 01's rule in that
+-- part alone; then they are moved to where the part stands.
 pub data ReasonedParts (words : Words) : ℕ → List (List ℕ) → List Told → Type 0 where
   none : {start : ℕ} → ReasonedParts words start [] []
   one : {start : ℕ} {part : List ℕ} {parts : List (List ℕ)} {ts later : List Told}
@@ -41,8 +41,8 @@ abbrev pub whole : List (List ℕ) → List ℕ
 whole [] = []
 whole (part ∷ parts) = part ++ whole parts
 
--- THE TRUE REASONS, in every mode: about the part, and the parts make up the text. In plain mode the
--- text is the only part.
+-- THE TRUE REASONS, in every mode: about the part, and the parts make up the text. In plain mode
+-- the text is the only part.
 abbrev pub TrueReasons : Type 0
 TrueReasons =
     (mode : Mode) (words : Words) (text : List ℕ)
@@ -57,8 +57,8 @@ AnswersAsCut =
     → length out ≡ pairRoom (c .out)
     → reasonsAnswerOf c ≡ answerOf (call (c .text) (c .pool) out (c .scratch) (c .mode))
 
--- What a call that answered with n records wrote: by the words of its pool, which passes, the pairs of
--- n tokens. They have the ends and the edge count of the cut, and each the true reason.
+-- What a call that answered with n records wrote: by the words of its pool, which passes, the pairs
+-- of n tokens. They have the ends and the edge count of the cut, and each the true reason.
 pub record WroteReasons (c : Call) (n edges : ℕ) (after : List ℕ) : Type 0 where
   pub words : Words
   pub means : meaning (c .pool) ≡ some words
@@ -94,8 +94,8 @@ Demand3AnyReasons = Demand3AnyFor telling
 abbrev pub Demand3Reasons : Type 0
 Demand3Reasons = Demand3For telling
 
--- RECORDS: the same, one record for each token instead of a pair of cells. A call that answered with n
--- has written the records of what the pairs tell of the same text.
+-- RECORDS: the same, one record for each token instead of a pair of cells. A call that answered
+-- with n has written the records of what the pairs tell of the same text.
 pub record WroteRecords (c : RecordsCall) (n edges : ℕ) (after : List Record) : Type 0 where
   pub words : Words
   pub means : meaning (c .pool) ≡ some words

@@ -1,5 +1,5 @@
--- The charge of a list is the number of distinct non-empty prefixes of its words: each is counted at
--- the first word that has it. Assumes nothing.
+-- The charge of a list is the number of distinct non-empty prefixes of its words: each is counted
+-- at the first word that has it. Assumes nothing.
 use Prim.Native.Nat.{ℕ, suc, _+_, _-_, _≤_}
 use native.Mathlib.Omega.{arith}
 use mathlib.Core.Path.{_≡_, refl, sym, ap, subst, _∙_}

@@ -21,8 +21,8 @@ ImageSays = (ts : List Term) → Good ts → readOf (imageOf ts) ≡ list ts
 abbrev pub OnlyImages : Type 0
 OnlyImages = (image : List ℕ) (ts : List Term) → Bytes image → readOf image ≡ list ts → (image ≡ imageOf ts) × Good ts
 
--- THE CHARGE: refusal 8 counts the root and 01's nodes, one for each distinct non-empty prefix of the
--- words, also where no pool has so many.
+-- THE CHARGE: refusal 8 counts the root and 01's nodes, one for each distinct non-empty prefix of
+-- the words, also where no pool has so many.
 abbrev pub ChargeIs : Type 0
 ChargeIs = (ts : List Term) → Good ts → Number (Prefix (wordsIn (termsIn ts))) (charge ts)
 

@@ -1,4 +1,5 @@
--- Release figures: no second answer fits, and what runs that follow each other leave. Assumes nothing.
+-- Release figures: no second answer fits, and what runs that follow each other leave. Assumes
+-- nothing.
 use Prim.Native.Nat.{ℕ, _≤_}
 use mathlib.Core.Path.{_≡_, refl, sym, _∙_, ap}
 use mathlib.Core.List.{List, [], _∷_}

@@ -50,6 +50,12 @@ use Rattle.fetlockice.proofs.fetlockice_cut_many_safe.Kinds as many-safe-kinds
 use Rattle.fetlockice.proofs.fetlockice_cut_many_safe.Reads as many-safe-contract
 use Rattle.fetlockice.proofs.fetlockice_cut_many_sheet.Kinds as many-sheet-kinds
 use Rattle.fetlockice.proofs.fetlockice_cut_many_sheet.Reads as many-sheet-contract
+use Rattle.fetlockice.proofs.fetlockice_reasons_many_plain.Kinds as reasons-many-plain-kinds
+use Rattle.fetlockice.proofs.fetlockice_reasons_many_plain.Reads as reasons-many-plain-contract
+use Rattle.fetlockice.proofs.fetlockice_reasons_many_safe.Kinds as reasons-many-safe-kinds
+use Rattle.fetlockice.proofs.fetlockice_reasons_many_safe.Reads as reasons-many-safe-contract
+use Rattle.fetlockice.proofs.fetlockice_reasons_many_sheet.Kinds as reasons-many-sheet-kinds
+use Rattle.fetlockice.proofs.fetlockice_reasons_many_sheet.Reads as reasons-many-sheet-contract
 use Rattle.fetlockice.proofs.fetlockice_break_map.Kinds as break-map-kinds
 use Rattle.fetlockice.proofs.fetlockice_break_map.Reads as break-map-contract
 use Rattle.fetlockice.proofs.fetlockice_breaks_up_to.Kinds as breaks-up-to-kinds
@@ -190,6 +196,24 @@ pub cut-many-sheet-one :
     OneAnswer {A = (Told × List ℕ × List ℕ) × List ℕ} 8 many-sheet-kinds.ps many-sheet-kinds.r many-sheet-contract.Post
     (λ κs number s. let answers = s .1 .1 .1 .0 .now in let out = s .1 .1 .1 .1 .0 .now in let scratch = s .1 .1 .1 .1 .1 .0 .now in let count = s .1 .1 .1 .1 .1 .1 .0 .now in let detail = s .1 .1 .1 .1 .1 .1 .1 .0 .now in ((told number count detail, answers, out), scratch))
 cut-many-sheet-one κs a x y s t p q =
+    both (answer-and-two-rows (p .0) (p .1 .0) (p .1 .1 .0) (q .0) (q .1 .0) (q .1 .1 .0)) (answer (p .1 .1 .1) (q .1 .1 .1))
+
+pub reasons-many-plain-one :
+    OneAnswer {A = (Told × List ℕ × List ℕ) × List ℕ} 8 reasons-many-plain-kinds.ps reasons-many-plain-kinds.r reasons-many-plain-contract.Post
+    (λ κs number s. let answers = s .1 .1 .1 .0 .now in let pairs = s .1 .1 .1 .1 .0 .now in let scratch = s .1 .1 .1 .1 .1 .0 .now in let count = s .1 .1 .1 .1 .1 .1 .0 .now in let detail = s .1 .1 .1 .1 .1 .1 .1 .0 .now in ((told number count detail, answers, pairs), scratch))
+reasons-many-plain-one κs a x y s t p q =
+    both (answer-and-two-rows (p .0) (p .1 .0) (p .1 .1 .0) (q .0) (q .1 .0) (q .1 .1 .0)) (answer (p .1 .1 .1) (q .1 .1 .1))
+
+pub reasons-many-safe-one :
+    OneAnswer {A = (Told × List ℕ × List ℕ) × List ℕ} 8 reasons-many-safe-kinds.ps reasons-many-safe-kinds.r reasons-many-safe-contract.Post
+    (λ κs number s. let answers = s .1 .1 .1 .0 .now in let pairs = s .1 .1 .1 .1 .0 .now in let scratch = s .1 .1 .1 .1 .1 .0 .now in let count = s .1 .1 .1 .1 .1 .1 .0 .now in let detail = s .1 .1 .1 .1 .1 .1 .1 .0 .now in ((told number count detail, answers, pairs), scratch))
+reasons-many-safe-one κs a x y s t p q =
+    both (answer-and-two-rows (p .0) (p .1 .0) (p .1 .1 .0) (q .0) (q .1 .0) (q .1 .1 .0)) (answer (p .1 .1 .1) (q .1 .1 .1))
+
+pub reasons-many-sheet-one :
+    OneAnswer {A = (Told × List ℕ × List ℕ) × List ℕ} 8 reasons-many-sheet-kinds.ps reasons-many-sheet-kinds.r reasons-many-sheet-contract.Post
+    (λ κs number s. let answers = s .1 .1 .1 .0 .now in let pairs = s .1 .1 .1 .1 .0 .now in let scratch = s .1 .1 .1 .1 .1 .0 .now in let count = s .1 .1 .1 .1 .1 .1 .0 .now in let detail = s .1 .1 .1 .1 .1 .1 .1 .0 .now in ((told number count detail, answers, pairs), scratch))
+reasons-many-sheet-one κs a x y s t p q =
     both (answer-and-two-rows (p .0) (p .1 .0) (p .1 .1 .0) (q .0) (q .1 .0) (q .1 .1 .0)) (answer (p .1 .1 .1) (q .1 .1 .1))
 
 pub break-map-one :

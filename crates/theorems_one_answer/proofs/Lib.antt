@@ -21,4 +21,5 @@ pub mod Images
 pub mod WordLines
 pub mod Plants
 pub mod PlantCuts
+pub mod PlantMany
 pub mod PlantHosts

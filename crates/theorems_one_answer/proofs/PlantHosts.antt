@@ -1,5 +1,5 @@
--- The plant calls for hosts: what is told, and the rows. Each place of `s` is named by the parameter
--- that stands there. Assumes nothing.
+-- The plant calls for hosts: what is told, and the rows. Each place of `s` is named by the
+-- parameter that stands there. Assumes nothing.
 use Prim.Native.Nat.{ℕ}
 use mathlib.Core.List.{List}
 use Rattle.fetlockice.proofs.fetlockice_plants_start.Kinds as start-kinds
@@ -30,6 +30,18 @@ use Rattle.fetlockice.proofs.fetlockice_plant_reasons_safe.Kinds as reasons-saf
 use Rattle.fetlockice.proofs.fetlockice_plant_reasons_safe.Reads as reasons-safe-contract
 use Rattle.fetlockice.proofs.fetlockice_plant_reasons_sheet.Kinds as reasons-sheet-kinds
 use Rattle.fetlockice.proofs.fetlockice_plant_reasons_sheet.Reads as reasons-sheet-contract
+use Rattle.fetlockice.proofs.fetlockice_plant_cut_many_plain.Kinds as cut-many-plain-kinds
+use Rattle.fetlockice.proofs.fetlockice_plant_cut_many_plain.Reads as cut-many-plain-contract
+use Rattle.fetlockice.proofs.fetlockice_plant_cut_many_safe.Kinds as cut-many-safe-kinds
+use Rattle.fetlockice.proofs.fetlockice_plant_cut_many_safe.Reads as cut-many-safe-contract
+use Rattle.fetlockice.proofs.fetlockice_plant_cut_many_sheet.Kinds as cut-many-sheet-kinds
+use Rattle.fetlockice.proofs.fetlockice_plant_cut_many_sheet.Reads as cut-many-sheet-contract
+use Rattle.fetlockice.proofs.fetlockice_plant_reasons_many_plain.Kinds as reasons-many-plain-kinds
+use Rattle.fetlockice.proofs.fetlockice_plant_reasons_many_plain.Reads as reasons-many-plain-contract
+use Rattle.fetlockice.proofs.fetlockice_plant_reasons_many_safe.Kinds as reasons-many-safe-kinds
+use Rattle.fetlockice.proofs.fetlockice_plant_reasons_many_safe.Reads as reasons-many-safe-contract
+use Rattle.fetlockice.proofs.fetlockice_plant_reasons_many_sheet.Kinds as reasons-many-sheet-kinds
+use Rattle.fetlockice.proofs.fetlockice_plant_reasons_many_sheet.Reads as reasons-many-sheet-contract
 use Rattle.trie_plants_answers.specs.Answers.{startAnswer, plantAddAnswer, plantAdded, plantRemoveAnswer, plantRemoved}
 use Rattle.trie_plants_answers.proofs.One.{one-plant-after, one-started}
 use Rattle.word_list_answers.specs.Answers.{imageTerms}
@@ -112,3 +124,39 @@ pub plant-reasons-sheet-one :
     OneAnswer {A = Told × List ℕ × List ℕ} 7 reasons-sheet-kinds.ps reasons-sheet-kinds.r reasons-sheet-contract.Post
     (λ κs number s. let pairs = s .1 .1 .1 .0 .now in let scratch = s .1 .1 .1 .1 .0 .now in let count = s .1 .1 .1 .1 .1 .0 .now in let edges = s .1 .1 .1 .1 .1 .1 .0 .now in let detail = s .1 .1 .1 .1 .1 .1 .1 .0 .now in (toldCut number count edges detail, pairs, scratch))
 plant-reasons-sheet-one κs a x y s t p q = answer-and-two-rows (p .0) (p .1 .0) (p .1 .1) (q .0) (q .1 .0) (q .1 .1)
+
+pub plant-cut-many-plain-one :
+    OneAnswer {A = (Told × List ℕ × List ℕ) × List ℕ} 8 cut-many-plain-kinds.ps cut-many-plain-kinds.r cut-many-plain-contract.Post
+    (λ κs number s. let answers = s .1 .1 .1 .1 .0 .now in let out = s .1 .1 .1 .1 .1 .0 .now in let scratch = s .1 .1 .1 .1 .1 .1 .0 .now in let count = s .1 .1 .1 .1 .1 .1 .1 .0 .now in let detail = s .1 .1 .1 .1 .1 .1 .1 .1 .0 .now in ((told number count detail, answers, out), scratch))
+plant-cut-many-plain-one κs a x y s t p q =
+    both (answer-and-two-rows (p .0) (p .1 .0) (p .1 .1 .0) (q .0) (q .1 .0) (q .1 .1 .0)) (answer (p .1 .1 .1) (q .1 .1 .1))
+
+pub plant-cut-many-safe-one :
+    OneAnswer {A = (Told × List ℕ × List ℕ) × List ℕ} 8 cut-many-safe-kinds.ps cut-many-safe-kinds.r cut-many-safe-contract.Post
+    (λ κs number s. let answers = s .1 .1 .1 .1 .0 .now in let out = s .1 .1 .1 .1 .1 .0 .now in let scratch = s .1 .1 .1 .1 .1 .1 .0 .now in let count = s .1 .1 .1 .1 .1 .1 .1 .0 .now in let detail = s .1 .1 .1 .1 .1 .1 .1 .1 .0 .now in ((told number count detail, answers, out), scratch))
+plant-cut-many-safe-one κs a x y s t p q =
+    both (answer-and-two-rows (p .0) (p .1 .0) (p .1 .1 .0) (q .0) (q .1 .0) (q .1 .1 .0)) (answer (p .1 .1 .1) (q .1 .1 .1))
+
+pub plant-cut-many-sheet-one :
+    OneAnswer {A = (Told × List ℕ × List ℕ) × List ℕ} 8 cut-many-sheet-kinds.ps cut-many-sheet-kinds.r cut-many-sheet-contract.Post
+    (λ κs number s. let answers = s .1 .1 .1 .1 .0 .now in let out = s .1 .1 .1 .1 .1 .0 .now in let scratch = s .1 .1 .1 .1 .1 .1 .0 .now in let count = s .1 .1 .1 .1 .1 .1 .1 .0 .now in let detail = s .1 .1 .1 .1 .1 .1 .1 .1 .0 .now in ((told number count detail, answers, out), scratch))
+plant-cut-many-sheet-one κs a x y s t p q =
+    both (answer-and-two-rows (p .0) (p .1 .0) (p .1 .1 .0) (q .0) (q .1 .0) (q .1 .1 .0)) (answer (p .1 .1 .1) (q .1 .1 .1))
+
+pub plant-reasons-many-plain-one :
+    OneAnswer {A = (Told × List ℕ × List ℕ) × List ℕ} 8 reasons-many-plain-kinds.ps reasons-many-plain-kinds.r reasons-many-plain-contract.Post
+    (λ κs number s. let answers = s .1 .1 .1 .1 .0 .now in let pairs = s .1 .1 .1 .1 .1 .0 .now in let scratch = s .1 .1 .1 .1 .1 .1 .0 .now in let count = s .1 .1 .1 .1 .1 .1 .1 .0 .now in let detail = s .1 .1 .1 .1 .1 .1 .1 .1 .0 .now in ((told number count detail, answers, pairs), scratch))
+plant-reasons-many-plain-one κs a x y s t p q =
+    both (answer-and-two-rows (p .0) (p .1 .0) (p .1 .1 .0) (q .0) (q .1 .0) (q .1 .1 .0)) (answer (p .1 .1 .1) (q .1 .1 .1))
+
+pub plant-reasons-many-safe-one :
+    OneAnswer {A = (Told × List ℕ × List ℕ) × List ℕ} 8 reasons-many-safe-kinds.ps reasons-many-safe-kinds.r reasons-many-safe-contract.Post
+    (λ κs number s. let answers = s .1 .1 .1 .1 .0 .now in let pairs = s .1 .1 .1 .1 .1 .0 .now in let scratch = s .1 .1 .1 .1 .1 .1 .0 .now in let count = s .1 .1 .1 .1 .1 .1 .1 .0 .now in let detail = s .1 .1 .1 .1 .1 .1 .1 .1 .0 .now in ((told number count detail, answers, pairs), scratch))
+plant-reasons-many-safe-one κs a x y s t p q =
+    both (answer-and-two-rows (p .0) (p .1 .0) (p .1 .1 .0) (q .0) (q .1 .0) (q .1 .1 .0)) (answer (p .1 .1 .1) (q .1 .1 .1))
+
+pub plant-reasons-many-sheet-one :
+    OneAnswer {A = (Told × List ℕ × List ℕ) × List ℕ} 8 reasons-many-sheet-kinds.ps reasons-many-sheet-kinds.r reasons-many-sheet-contract.Post
+    (λ κs number s. let answers = s .1 .1 .1 .1 .0 .now in let pairs = s .1 .1 .1 .1 .1 .0 .now in let scratch = s .1 .1 .1 .1 .1 .1 .0 .now in let count = s .1 .1 .1 .1 .1 .1 .1 .0 .now in let detail = s .1 .1 .1 .1 .1 .1 .1 .1 .0 .now in ((told number count detail, answers, pairs), scratch))
+plant-reasons-many-sheet-one κs a x y s t p q =
+    both (answer-and-two-rows (p .0) (p .1 .0) (p .1 .1 .0) (q .0) (q .1 .0) (q .1 .1 .0)) (answer (p .1 .1 .1) (q .1 .1 .1))

@@ -20,6 +20,10 @@ use Rattle.newmm_plants.proofs.cut_in.Kinds as cut-kinds
 use Rattle.newmm_plants.proofs.cut_in.Reads as cut-contract
 use Rattle.newmm_plants_reasons.proofs.cut_reasons_in.Kinds as reasons-kinds
 use Rattle.newmm_plants_reasons.proofs.cut_reasons_in.Reads as reasons-contract
+use Rattle.newmm_plants_many.proofs.cut_many_in.Kinds as cut-many-kinds
+use Rattle.newmm_plants_many.proofs.cut_many_in.Reads as cut-many-contract
+use Rattle.newmm_plants_many.proofs.cut_reasons_many_in.Kinds as reasons-many-kinds
+use Rattle.newmm_plants_many.proofs.cut_reasons_many_in.Reads as reasons-many-contract
 use Rattle.word_list_plants.proofs.read_image_in.Kinds as read-kinds
 use Rattle.word_list_plants.proofs.read_image_in.Reads as read-contract
 use Rattle.word_list_plants_write.proofs.write_image_in.Kinds as write-kinds
@@ -39,7 +43,7 @@ use Rattle.theorems_plants.specs.Plants as plants
 use Rattle.theorems_plants.proofs.Undisturbed.{undisturbed}
 use Rattle.theorems_plants.proofs.Reaching.{reached}
 use Rattle.theorems_one_answer.specs.OneAnswer.{OneAnswer}
-use Rattle.theorems_one_answer.specs.PlantRuns.{limitA, limitB, startLeft, CallRun, added, removed, contained, prefixed, counted, cut-by, reasoned, read-in, written, plantOf, askOf, toldBy, stepOf, lentTo, leftBy, InTurn, nothing, next, PlantsRun, UndisturbedOfRuns, ReachedOfRuns}
+use Rattle.theorems_one_answer.specs.PlantRuns.{limitA, limitB, startLeft, CallRun, added, removed, contained, prefixed, counted, cut-by, reasoned, cut-texts, reasoned-texts, read-in, written, plantOf, askOf, toldBy, stepOf, lentTo, leftBy, InTurn, nothing, next, PlantsRun, UndisturbedOfRuns, ReachedOfRuns}
 use Rattle.theorems_one_answer.proofs.Shapes.{answer, both, answer-and-output, answer-and-two-rows}
 
 -- ---- one answer
@@ -91,6 +95,17 @@ cut-in-one κs a x y s t p q = answer-and-two-rows (p .0) (p .1 .0) (p .1 .1) (q
 pub cut-reasons-in-one : OneAnswer {A = CutAnswer × List ℕ × List ℕ} 4 reasons-kinds.ps reasons-kinds.r reasons-contract.Post (λ κs x s. let pairs = s .1 .1 .1 .0 .now in let scratch = s .1 .1 .1 .1 .0 .now in (x, pairs, scratch))
 cut-reasons-in-one κs a x y s t p q = answer-and-two-rows (p .0) (p .1 .0) (p .1 .1) (q .0) (q .1 .0) (q .1 .1)
 
+-- the answer, the answers of the texts, the output and the scratch
+pub cut-many-in-one : OneAnswer {A = (Answer × List ℕ × List ℕ) × List ℕ} 6 cut-many-kinds.ps cut-many-kinds.r cut-many-contract.Post
+    (λ κs x s. let answers = s .1 .1 .1 .1 .0 .now in let out = s .1 .1 .1 .1 .1 .0 .now in let scratch = s .1 .1 .1 .1 .1 .1 .0 .now in ((x, answers, out), scratch))
+cut-many-in-one κs a x y s t p q =
+    both (answer-and-two-rows (p .0) (p .1 .0) (p .1 .1 .0) (q .0) (q .1 .0) (q .1 .1 .0)) (answer (p .1 .1 .1) (q .1 .1 .1))
+
+pub cut-reasons-many-in-one : OneAnswer {A = (Answer × List ℕ × List ℕ) × List ℕ} 6 reasons-many-kinds.ps reasons-many-kinds.r reasons-many-contract.Post
+    (λ κs x s. let answers = s .1 .1 .1 .1 .0 .now in let pairs = s .1 .1 .1 .1 .1 .0 .now in let scratch = s .1 .1 .1 .1 .1 .1 .0 .now in ((x, answers, pairs), scratch))
+cut-reasons-many-in-one κs a x y s t p q =
+    both (answer-and-two-rows (p .0) (p .1 .0) (p .1 .1 .0) (q .0) (q .1 .0) (q .1 .1 .0)) (answer (p .1 .1 .1) (q .1 .1 .1))
+
 -- ---- runs
 
 -- a change as the contract says it, by the answer that was given
@@ -112,6 +127,8 @@ kept (prefixed r) =
 kept (counted r) = record { answered = ap plants.number (r .promise); left = refl }
 kept (cut-by r) = let p = r .promise in record { answered = λ i. plants.rows (p .0 i) (p .1 .0 i) (p .1 .1 i); left = refl }
 kept (reasoned r) = let p = r .promise in record { answered = λ i. plants.rows (p .0 i) (p .1 .0 i) (p .1 .1 i); left = refl }
+kept (cut-texts r) = let p = r .promise in record { answered = λ i. plants.texts (p .0 i) (p .1 .0 i) (p .1 .1 .0 i) (p .1 .1 .1 i); left = refl }
+kept (reasoned-texts r) = let p = r .promise in record { answered = λ i. plants.texts (p .0 i) (p .1 .0 i) (p .1 .1 .0 i) (p .1 .1 .1 i); left = refl }
 kept (read-in r) = record { answered = ap plants.number (r .promise .0); left = by-answer (r .arguments .1 .0) _ _ _ _ _ (r .promise .0) (r .promise .1) }
 kept (written r) =
     let a = r .arguments in

@@ -1,5 +1,5 @@
--- The libraries of the program that makes a release's list: the answer, the figures and the words, and the
--- table. Assumes nothing.
+-- The libraries of the program that makes a release's list: the answer, the figures and the words,
+-- and the table. Assumes nothing.
 use Prim.Native.Nat.{ℕ}
 use mathlib.Core.Bool.{Bool}
 use mathlib.Core.List.{List}

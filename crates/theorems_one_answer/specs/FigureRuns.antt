@@ -69,7 +69,8 @@ pub data Chain : List ℕ → List Text → List ℕ → Type 0 where
       → Chain (figuresBehind r) ts z
       → Chain a (refusedBefore (refusedNumber r) least most ∷ ts) z
 
--- From zeros they leave the figures of the run: up to 4,294,967,295 texts the sums, and the largest.
+-- From zeros they leave the figures of the run: up to 4,294,967,295 texts the sums, and the
+-- largest.
 abbrev pub ChainsAreRuns : Type 0
 ChainsAreRuns = (ts : List Text) (z : List ℕ) → Chain zeros ts z → z ≡ run (outcomes ts)
 

@@ -9,3 +9,4 @@ pub mod ReasonRuns
 pub mod FigureRuns
 pub mod PlantRuns
 pub mod PlantCutRuns
+pub mod PlantManyRuns

@@ -6,6 +6,7 @@ use mathlib.Core.List.{List, map}
 use mathlib.Core.Option.{some}
 use lib.ListN.{length, take}
 use Rattle.trie_pool.specs.Meaning.{Words, wordsIn, noTerm}
+use Rattle.trie_plants.specs.declared.Plant.{Plant}
 use Rattle.trie_plants.specs.Meaning.{plantMeaning}
 use Rattle.newmm_answers.specs.declared.CutAnswer.{CutAnswer}
 use Rattle.newmm_answers.specs.declared.CutAnswer.the-variants.{Ends}
@@ -59,36 +60,49 @@ SameEnds a b = SameCells cutAsked (λ r. r .answer) cutLeft (λ n. n) a b
 abbrev pub SamePairs : ReasonsRun → ReasonsRun → Type 0
 SamePairs a b = SameCells reasonsAsked (λ r. r .answer) pairsLeft (λ n. 2 * n) a b
 
--- Any two plants' pools in which two plants hold the same words.
-abbrev pub AnyPoolsOf : {Ran : Type 0} → (Ran → PlantCut) → (Ran → Ran → Type 0) → Type 0
-AnyPoolsOf {Ran} asked Same =
+-- Any two plants' pools in which two plants hold the same words. A run is by a plant, with a pool.
+abbrev pub AnyPoolsOf : {Ran : Type 0} → (Ran → Plant) → (Ran → List ℕ) → (Ran → Ran → Type 0) → Type 0
+AnyPoolsOf {Ran} by pool Same =
     (a b : Ran) (v w : Words)
-    → plantMeaning (asked a .plant) (asked a .given .pool) ≡ some v
-    → plantMeaning (asked b .plant) (asked b .given .pool) ≡ some w
+    → plantMeaning (by a) (pool a) ≡ some v
+    → plantMeaning (by b) (pool b) ≡ some w
     → ((x : List ℕ) → v x ≡ w x)
     → Same a b
 
 -- Two pools that runs left, in which the calls of two plants left the same words, with whatever
 -- classes.
-abbrev pub ReachedPoolsOf : {Ran : Type 0} → (Ran → PlantCut) → (Ran → Ran → Type 0) → Type 0
-ReachedPoolsOf {Ran} asked Same =
+abbrev pub ReachedPoolsOf : {Ran : Type 0} → (Ran → Plant) → (Ran → List ℕ) → (Ran → Ran → Type 0) → Type 0
+ReachedPoolsOf {Ran} by pool Same =
     (a b : Ran) (one two : List CallRun)
-    → PlantsRun one (asked a .given .pool)
-    → PlantsRun two (asked b .given .pool)
+    → PlantsRun one (pool a)
+    → PlantsRun two (pool b)
     → ((x : List ℕ)
-    → wordsIn (termsLeft (asked a .plant) (map stepOf one) noTerm) x
-    ≡ wordsIn (termsLeft (asked b .plant) (map stepOf two) noTerm) x)
+    → wordsIn (termsLeft (by a) (map stepOf one) noTerm) x
+    ≡ wordsIn (termsLeft (by b) (map stepOf two) noTerm) x)
     → Same a b
+
+-- whose a run is, and its pool
+abbrev pub cutBy : CutRun → Plant
+cutBy r = cutAsked r .plant
+
+abbrev pub cutPool : CutRun → List ℕ
+cutPool r = cutAsked r .given .pool
+
+abbrev pub reasonsBy : ReasonsRun → Plant
+reasonsBy r = reasonsAsked r .plant
+
+abbrev pub reasonsPool : ReasonsRun → List ℕ
+reasonsPool r = reasonsAsked r .given .pool
 
 -- DEMAND 3 of the plants' cut, and of their cut with reasons.
 abbrev pub PlantDemand3AnyOfRuns : Type 0
-PlantDemand3AnyOfRuns = AnyPoolsOf cutAsked SameEnds
+PlantDemand3AnyOfRuns = AnyPoolsOf cutBy cutPool SameEnds
 
 abbrev pub PlantDemand3OfRuns : Type 0
-PlantDemand3OfRuns = ReachedPoolsOf cutAsked SameEnds
+PlantDemand3OfRuns = ReachedPoolsOf cutBy cutPool SameEnds
 
 abbrev pub PlantDemand3AnyReasonsOfRuns : Type 0
-PlantDemand3AnyReasonsOfRuns = AnyPoolsOf reasonsAsked SamePairs
+PlantDemand3AnyReasonsOfRuns = AnyPoolsOf reasonsBy reasonsPool SamePairs
 
 abbrev pub PlantDemand3ReasonsOfRuns : Type 0
-PlantDemand3ReasonsOfRuns = ReachedPoolsOf reasonsAsked SamePairs
+PlantDemand3ReasonsOfRuns = ReachedPoolsOf reasonsBy reasonsPool SamePairs

@@ -1,7 +1,8 @@
 -- Two plants in one pool (02, ticket 11), over runs of the proved functions themselves:
 -- `trie_plants_change::start`, `add_in` and `remove_in`, `trie_plants_read::contain_in`,
 -- `prefix_lengths_in` and `amount_of_words_in`, `newmm_plants::cut_in`,
--- `newmm_plants_reasons::cut_reasons_in`, `word_list_plants::read_image_in` and
+-- `newmm_plants_reasons::cut_reasons_in`, `newmm_plants_many::cut_many_in` and
+-- `cut_reasons_many_in`, `word_list_plants::read_image_in` and
 -- `word_list_plants_write::write_image_in`.
 use Prim.Native.Nat.{ℕ}
 use mathlib.Core.Path.{_≡_}
@@ -27,6 +28,10 @@ use Rattle.newmm_plants.proofs.cut_in.Kinds as cut-kinds
 use Rattle.newmm_plants.proofs.cut_in.Reads as cut-contract
 use Rattle.newmm_plants_reasons.proofs.cut_reasons_in.Kinds as reasons-kinds
 use Rattle.newmm_plants_reasons.proofs.cut_reasons_in.Reads as reasons-contract
+use Rattle.newmm_plants_many.proofs.cut_many_in.Kinds as cut-many-kinds
+use Rattle.newmm_plants_many.proofs.cut_many_in.Reads as cut-many-contract
+use Rattle.newmm_plants_many.proofs.cut_reasons_many_in.Kinds as reasons-many-kinds
+use Rattle.newmm_plants_many.proofs.cut_reasons_many_in.Reads as reasons-many-contract
 use Rattle.word_list_plants.proofs.read_image_in.Kinds as read-kinds
 use Rattle.word_list_plants.proofs.read_image_in.Reads as read-contract
 use Rattle.word_list_plants_write.proofs.write_image_in.Kinds as write-kinds
@@ -36,10 +41,10 @@ use Rattle.trie_pool.specs.Meaning.{noTerm}
 use Rattle.trie_plants.specs.declared.Plant.{Plant}
 use Rattle.trie_plants.specs.Rules.{isPlants}
 use Rattle.trie_plants.specs.Meaning.{plantTerms}
-use Rattle.theorems_plants.specs.Plants.{Call, add, remove, contains, prefixes, count, cut, reasons, read, write}
-use Rattle.theorems_plants.specs.Plants.{Told, number, held, row, rows, Step, limitFor, askedBy, toldTo, termsLeft}
+use Rattle.theorems_plants.specs.Plants.{Call, add, remove, contains, prefixes, count, cut, reasons, cut-many, reasons-many, read, write}
+use Rattle.theorems_plants.specs.Plants.{Told, number, held, row, rows, texts, Step, limitFor, askedBy, toldTo, termsLeft}
 
--- Runs of the ten functions, as `Run` (specs/Runs.antt) is one of `newmm::cut`.
+-- Runs of the twelve functions, as `Run` (specs/Runs.antt) is one of `newmm::cut`.
 pub record StartRun : Type 0 where
   pub lifetimes : Lfts 1
   pub arguments : Dens lifetimes start-kinds.ps
@@ -96,6 +101,20 @@ pub record ReasonsRun : Type 0 where
   pub rows : AtExit (endedOf 4 reasons-kinds.ps reasons-kinds.r) lifetimes
   pub promise : reasons-contract.Post lifetimes arguments answer rows
 
+pub record CutManyRun : Type 0 where
+  pub lifetimes : Lfts 6
+  pub arguments : Dens lifetimes cut-many-kinds.ps
+  pub answer : resT cut-many-kinds.r lifetimes .Denot
+  pub rows : AtExit (endedOf 6 cut-many-kinds.ps cut-many-kinds.r) lifetimes
+  pub promise : cut-many-contract.Post lifetimes arguments answer rows
+
+pub record ReasonsManyRun : Type 0 where
+  pub lifetimes : Lfts 6
+  pub arguments : Dens lifetimes reasons-many-kinds.ps
+  pub answer : resT reasons-many-kinds.r lifetimes .Denot
+  pub rows : AtExit (endedOf 6 reasons-many-kinds.ps reasons-many-kinds.r) lifetimes
+  pub promise : reasons-many-contract.Post lifetimes arguments answer rows
+
 pub record ReadRun : Type 0 where
   pub lifetimes : Lfts 2
   pub arguments : Dens lifetimes read-kinds.ps
@@ -129,6 +148,8 @@ pub data CallRun : Type 0 where
   counted : AmountRun → CallRun
   cut-by : CutRun → CallRun
   reasoned : ReasonsRun → CallRun
+  cut-texts : CutManyRun → CallRun
+  reasoned-texts : ReasonsManyRun → CallRun
   read-in : ReadRun → CallRun
   written : WriteRun → CallRun
 
@@ -141,6 +162,8 @@ plantOf (prefixed r) = r .arguments .1 .0
 plantOf (counted r) = r .arguments .1 .0
 plantOf (cut-by r) = r .arguments .1 .1 .0
 plantOf (reasoned r) = r .arguments .1 .1 .0
+plantOf (cut-texts r) = r .arguments .1 .1 .1 .0
+plantOf (reasoned-texts r) = r .arguments .1 .1 .1 .0
 plantOf (read-in r) = r .arguments .1 .0
 plantOf (written r) = r .arguments .1 .0
 
@@ -157,6 +180,14 @@ askOf (cut-by r) =
 askOf (reasoned r) =
     let a = r .arguments in
     reasons (a .1 .1 .1 .1 .1 .0) (a .0 .now) (a .1 .1 .1 .0 .now) (a .1 .1 .1 .1 .0 .now)
+askOf (cut-texts r) =
+    let a = r .arguments in
+    cut-many (a .1 .1 .1 .1 .1 .1 .1 .0) (a .0 .now) (a .1 .0 .now)
+    (a .1 .1 .1 .1 .0 .now) (a .1 .1 .1 .1 .1 .0 .now) (a .1 .1 .1 .1 .1 .1 .0 .now)
+askOf (reasoned-texts r) =
+    let a = r .arguments in
+    reasons-many (a .1 .1 .1 .1 .1 .1 .1 .0) (a .0 .now) (a .1 .0 .now)
+    (a .1 .1 .1 .1 .0 .now) (a .1 .1 .1 .1 .1 .0 .now) (a .1 .1 .1 .1 .1 .1 .0 .now)
 askOf (read-in r) = read (r .arguments .1 .1 .0 .now)
 askOf (written r) = write (r .arguments .1 .1 .0 .now)
 
@@ -169,6 +200,12 @@ toldBy (prefixed r) = row (r .answer) (r .rows .1 .1 .1 .0 .now)
 toldBy (counted r) = number (r .answer)
 toldBy (cut-by r) = rows (r .answer) (r .rows .1 .1 .1 .0 .now) (r .rows .1 .1 .1 .1 .0 .now)
 toldBy (reasoned r) = rows (r .answer) (r .rows .1 .1 .1 .0 .now) (r .rows .1 .1 .1 .1 .0 .now)
+toldBy (cut-texts r) =
+    texts (r .answer) (r .rows .1 .1 .1 .1 .0 .now) (r .rows .1 .1 .1 .1 .1 .0 .now)
+    (r .rows .1 .1 .1 .1 .1 .1 .0 .now)
+toldBy (reasoned-texts r) =
+    texts (r .answer) (r .rows .1 .1 .1 .1 .0 .now) (r .rows .1 .1 .1 .1 .1 .0 .now)
+    (r .rows .1 .1 .1 .1 .1 .1 .0 .now)
 toldBy (read-in r) = number (r .answer)
 toldBy (written r) = row (r .answer) (r .rows .1 .1 .0 .now)
 
@@ -184,6 +221,8 @@ lentTo (prefixed r) = r .arguments .0 .now
 lentTo (counted r) = r .arguments .0 .now
 lentTo (cut-by r) = r .arguments .1 .0 .now
 lentTo (reasoned r) = r .arguments .1 .0 .now
+lentTo (cut-texts r) = r .arguments .1 .1 .0 .now
+lentTo (reasoned-texts r) = r .arguments .1 .1 .0 .now
 lentTo (read-in r) = r .arguments .0 .now
 lentTo (written r) = r .arguments .0 .now
 
@@ -195,6 +234,8 @@ leftBy (prefixed r) = r .arguments .0 .now
 leftBy (counted r) = r .arguments .0 .now
 leftBy (cut-by r) = r .arguments .1 .0 .now
 leftBy (reasoned r) = r .arguments .1 .0 .now
+leftBy (cut-texts r) = r .arguments .1 .1 .0 .now
+leftBy (reasoned-texts r) = r .arguments .1 .1 .0 .now
 leftBy (read-in r) = r .rows .0 .now
 leftBy (written r) = r .arguments .0 .now
 

@@ -1,5 +1,5 @@
--- The cut with reasons, over runs of the proved functions `newmm_reasons::cut_reasons` and `newmm::cut`
--- themselves.
+-- The cut with reasons, over runs of the proved functions `newmm_reasons::cut_reasons` and
+-- `newmm::cut` themselves.
 use Prim.Native.Nat.{ℕ, _*_, _≤_}
 use mathlib.Core.Path.{_≡_}
 use mathlib.Core.List.{List, [], _∷_}
@@ -51,8 +51,9 @@ firsts [] = []
 firsts (end ∷ []) = []
 firsts (end ∷ reason ∷ rest) = end ∷ firsts rest
 
--- THE SAME TOKENS: a run of the cut and a run with reasons, on the same text, in the same mode and by
--- the same words. If both answer, then with the same number, the same edge count and the same ends.
+-- THE SAME TOKENS: a run of the cut and a run with reasons, on the same text, in the same mode and
+-- by the same words. If both answer, then with the same number, the same edge count and the same
+-- ends.
 abbrev pub SameTokensOfRuns : Type 0
 SameTokensOfRuns =
     (a : Run) (b : ReasonsRun) (v w : Words)
@@ -66,8 +67,8 @@ SameTokensOfRuns =
     → b .answer ≡ Ends m edges′
     → (m ≡ n) × (edges′ ≡ edges) × (firsts (take (2 * m) (pairsLeft b)) ≡ take n (outLeft a))
 
--- DEMAND 3 FOR REASONS, of any two runs: for two pools that pass and hold the same words, and for two
--- that were reached from fresh ones.
+-- DEMAND 3 FOR REASONS, of any two runs: for two pools that pass and hold the same words, and for
+-- two that were reached from fresh ones.
 abbrev pub SameReasons : ReasonsRun → ReasonsRun → Type 0
 SameReasons a b =
     askedOf a .text ≡ askedOf b .text

@@ -24,7 +24,7 @@ use Rattle.trie_plants_answers.proofs.One.{became-passes, room-same}
 use Rattle.trie_plants_answers.proofs.One as one
 use Rattle.word_list_answers.specs.Answers.{imageTerms}
 use Rattle.word_list_plants.specs.Answers.{plantReadAnswer}
-use Rattle.theorems_plants.specs.Plants.{Call, add, remove, contains, prefixes, count, cut, reasons, read, write, toldOf, Left, refusedIn, refusal, RefusedKeeps, OtherKept, SameOwn}
+use Rattle.theorems_plants.specs.Plants.{Call, add, remove, contains, prefixes, count, cut, reasons, cut-many, reasons-many, read, write, toldOf, Left, refusedIn, refusal, RefusedKeeps, OtherKept, SameOwn}
 
 none-some : {P : Type 0} {r : Refusal} → none ≡ some r → P
 none-some e = absurd (let z : _≡_ {A = ℕ} 0 1 = cc in omega arith)
@@ -44,6 +44,8 @@ refused-left plant (prefixes text out) old new r e f = f
 refused-left plant count old new r e f = f
 refused-left plant (cut mode text out scratch) old new r e f = f
 refused-left plant (reasons mode text out scratch) old new r e f = f
+refused-left plant (cut-many mode joined ends answers out scratch) old new r e f = f
+refused-left plant (reasons-many mode joined ends answers out scratch) old new r e f = f
 refused-left plant (write out) old new r e f = f
 
 pub refused-keeps : RefusedKeeps
@@ -80,6 +82,8 @@ beside plant (prefixes text out) old new known f = beside-same plant old new kno
 beside plant count old new known f = beside-same plant old new known f
 beside plant (cut mode text out scratch) old new known f = beside-same plant old new known f
 beside plant (reasons mode text out scratch) old new known f = beside-same plant old new known f
+beside plant (cut-many mode joined ends answers out scratch) old new known f = beside-same plant old new known f
+beside plant (reasons-many mode joined ends answers out scratch) old new known f = beside-same plant old new known f
 beside plant (write out) old new known f = beside-same plant old new known f
 
 -- both limits

@@ -6,3 +6,4 @@ pub mod Reaching
 pub mod Refusing
 pub mod Orders
 pub mod Cuts
+pub mod ManyTexts

@@ -34,11 +34,13 @@ use Rattle.image_list.specs.Listed as listed
 use Rattle.image_list.proofs.Lists.{lists}
 use Rattle.image_list.proofs.One.{one-list}
 use Rattle.word_list_answers.specs.Answers.{imageCause, listOf, imageTerms}
+use Rattle.newmm_many_answers.specs.Singles.{cutSingly, reasonsSingly}
+use Rattle.newmm_many_answers.specs.Calls.{manyCall}
 use Rattle.newmm_answers.specs.Answers.{cutAnswer, outAfter, scratchAfter}
 use Rattle.newmm_reasons_answers.specs.Answers.{pairRoom, reasonsAnswer, pairsAfter}
 use Rattle.word_list_plants.specs.Answers.{plantReadAnswer}
 use Rattle.word_list_plants_write.specs.Answers.{plantImage}
-use Rattle.theorems_plants.specs.Plants.{Call, add, remove, contains, prefixes, count, cut, reasons, read, write, number, row, rows, toldOf, Left, SameOwn, ByOwn}
+use Rattle.theorems_plants.specs.Plants.{Call, add, remove, contains, prefixes, count, cut, reasons, cut-many, reasons-many, read, write, number, row, rows, toldTexts, toldOf, Left, SameOwn, ByOwn}
 use Rattle.theorems_plants.specs.Plants as told
 use Rattle.theorems_plants.proofs.Charges.{counted-with}
 
@@ -118,6 +120,10 @@ module _ (p q : Plant) (one two : List ℕ) (s : SameOwn p one q two) where
       λ i. rows (cutAnswer mode text (M i) (length scratch) (length out)) (outAfter mode text (M i) (length scratch) out) (scratchAfter text (M i) scratch)
   same-told (reasons mode text out scratch) =
       λ i. rows (reasonsAnswer mode text (M i) (length scratch) (pairRoom out)) (pairsAfter mode text (M i) (length scratch) out) (scratchAfter text (M i) scratch)
+  same-told (cut-many mode joined ends answers out scratch) =
+      λ i. toldTexts (cutSingly mode (M i)) (manyCall joined ends one answers out scratch mode)
+  same-told (reasons-many mode joined ends answers out scratch) =
+      λ i. toldTexts (reasonsSingly mode (M i)) (manyCall joined ends one answers out scratch mode)
   same-told (read image) = ap number (same-read image)
   same-told (write out) =
       λ i. row (answer (poolCauses (M i) ++ (outCause (length (I i)) (length out) ∷ [])) (length (I i)))
@@ -157,6 +163,8 @@ module _ (p q : Plant) (one two : List ℕ) (s : SameOwn p one q two) where
     same-left count f g = stayed f g
     same-left (cut mode text out scratch) f g = stayed f g
     same-left (reasons mode text out scratch) f g = stayed f g
+    same-left (cut-many mode joined ends answers out scratch) f g = stayed f g
+    same-left (reasons-many mode joined ends answers out scratch) f g = stayed f g
     same-left (write out) f g = stayed f g
 
 pub by-own : ByOwn

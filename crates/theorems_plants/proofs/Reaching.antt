@@ -26,7 +26,7 @@ use Rattle.trie_plants_answers.specs.Answers.{plantAddAnswer, plantRemoveAnswer
 use Rattle.trie_plants_answers.specs.Changes.{PlantAfter}
 use Rattle.word_list_answers.specs.Answers.{imageTerms}
 use Rattle.word_list_plants.specs.Answers.{plantReadAnswer}
-use Rattle.theorems_plants.specs.Plants.{Call, add, remove, contains, prefixes, count, cut, reasons, read, write, toldOf, Left, Kept, refusedIn, refusal, Step, Steps, nothing, next, samePlant, made, leftBy, termsLeft, Reached, PlainNotPlants}
+use Rattle.theorems_plants.specs.Plants.{Call, add, remove, contains, prefixes, count, cut, reasons, cut-many, reasons-many, read, write, toldOf, Left, Kept, refusedIn, refusal, Step, Steps, nothing, next, samePlant, made, leftBy, termsLeft, Reached, PlainNotPlants}
 use Rattle.theorems_plants.proofs.Frame.{beside, limits}
 use Rattle.theorems_plants.proofs.Undisturbed.{is-plant, is-other, begun-passes, begun-limit}
 
@@ -53,6 +53,8 @@ module _ (plant : Plant) (old new : List ℕ) (t : Terms) (known : plantTerms pl
   left-own count f = reads count (refusal (toldOf plant count old)) refl f
   left-own (cut mode text out scratch) f = reads (cut mode text out scratch) (refusal (toldOf plant (cut mode text out scratch) old)) refl f
   left-own (reasons mode text out scratch) f = reads (reasons mode text out scratch) (refusal (toldOf plant (reasons mode text out scratch) old)) refl f
+  left-own (cut-many mode joined ends answers out scratch) f = reads (cut-many mode joined ends answers out scratch) (refusal (toldOf plant (cut-many mode joined ends answers out scratch) old)) refl f
+  left-own (reasons-many mode joined ends answers out scratch) f = reads (reasons-many mode joined ends answers out scratch) (refusal (toldOf plant (reasons-many mode joined ends answers out scratch) old)) refl f
   left-own (write out) f = reads (write out) (refusal (toldOf plant (write out) old)) refl f
 
 -- ---- a run

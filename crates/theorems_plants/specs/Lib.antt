@@ -1,3 +1,4 @@
 pub mod Plants
 pub mod Charges
 pub mod Cuts
+pub mod ManyTexts

@@ -2,11 +2,12 @@
 -- Everything that the statements stand on is named here: what a plant asks, what it is told, what
 -- the contracts say of the call, and a run of calls of both plants. A comment that starts in
 -- capitals names a statement. Cells are told to no one here, nor how long a call took.
-use Prim.Native.Nat.{ℕ}
+use Prim.Native.Nat.{ℕ, _*_, _<_}
 use mathlib.Core.Path.{_≡_}
 use mathlib.Core.Bool.{Bool, true, false, cond}
 use mathlib.Core.List.{List, [], _∷_}
 use mathlib.Core.Option.{Option, none, some}
+use lib.ListN.{getD}
 use Rattle.refusal.specs.declared.Refusal.{Refusal}
 use Rattle.refusal.specs.declared.Refusal.the-variants.{NotADictionary}
 use Rattle.refusal.specs.declared.Answer.{Answer}
@@ -30,8 +31,11 @@ use Rattle.newmm_rules.specs.declared.Mode.{Mode}
 use Rattle.newmm_answers.specs.declared.CutAnswer.{CutAnswer}
 use Rattle.newmm_answers.specs.declared.CutAnswer.the-variants as cut-answer
 use Rattle.newmm_answers.specs.Calls as asked
+use Rattle.newmm_many_answers.specs.Turns.{Singly}
+use Rattle.newmm_many_answers.specs.Calls.{ManyCall, manyCall, manyAnswer, answersBy, outBy, scratchBy}
 use Rattle.newmm_plants.specs.Calls.{plantAnswerOf, plantOutOf, plantScratchOf}
 use Rattle.newmm_plants_reasons.specs.Calls.{plantReasonsAnswerOf, plantPairsOf}
+use Rattle.newmm_plants_many.specs.Calls.{plantCutsOne, plantReasonsOne}
 use Rattle.word_list_plants.specs.Answers.{plantReadAnswer}
 use Rattle.word_list_plants_write.specs.Answers.{plantImage, plantWriteAnswer}
 
@@ -46,6 +50,8 @@ pub data Call : Type 0 where
   count : Call
   cut : (mode : Mode) (text out scratch : List ℕ) → Call
   reasons : (mode : Mode) (text out scratch : List ℕ) → Call
+  cut-many : (mode : Mode) (joined ends answers out scratch : List ℕ) → Call
+  reasons-many : (mode : Mode) (joined ends answers out scratch : List ℕ) → Call
   read : (image : List ℕ) → Call
   write : (out : List ℕ) → Call
 
@@ -55,6 +61,11 @@ pub data Told : Type 0 where
   held : WordAnswer → Told
   row : Answer → (out : List ℕ) → Told
   rows : CutAnswer → (out scratch : List ℕ) → Told
+  texts : Answer → (answers out scratch : List ℕ) → Told
+
+-- what a call with many texts is told, by the single calls that it stands for
+abbrev pub toldTexts : Singly → ManyCall → Told
+toldTexts one c = texts (manyAnswer c) (answersBy one c) (outBy one c) (scratchBy one c)
 
 -- What the contract of the call says that the plant is told of this pool.
 abbrev pub toldOf : Plant → Call → List ℕ → Told
@@ -73,6 +84,12 @@ toldOf plant (reasons mode text out scratch) pool =
     rows (plantReasonsAnswerOf plant (asked.call text pool out scratch mode))
     (plantPairsOf plant (asked.call text pool out scratch mode))
     (plantScratchOf plant (asked.call text pool out scratch mode))
+toldOf plant (cut-many mode joined ends answers out scratch) pool =
+    toldTexts (plantCutsOne plant (manyCall joined ends pool answers out scratch mode))
+    (manyCall joined ends pool answers out scratch mode)
+toldOf plant (reasons-many mode joined ends answers out scratch) pool =
+    toldTexts (plantReasonsOne plant (manyCall joined ends pool answers out scratch mode))
+    (manyCall joined ends pool answers out scratch mode)
 toldOf plant (read image) pool = number (plantReadAnswer plant image pool)
 toldOf plant (write out) pool =
     row (plantWriteAnswer plant pool out) (output (plantWriteAnswer plant pool out) (plantImage plant pool) out)
@@ -89,6 +106,8 @@ Left plant (prefixes text out) old new = new ≡ old
 Left plant count old new = new ≡ old
 Left plant (cut mode text out scratch) old new = new ≡ old
 Left plant (reasons mode text out scratch) old new = new ≡ old
+Left plant (cut-many mode joined ends answers out scratch) old new = new ≡ old
+Left plant (reasons-many mode joined ends answers out scratch) old new = new ≡ old
 Left plant (write out) old new = new ≡ old
 
 -- A call of a plant that keeps its contract.
@@ -96,7 +115,7 @@ pub record Kept (plant : Plant) (call : Call) (old new : List ℕ) (told : Told)
   pub answered : told ≡ toldOf plant call old
   pub left : Left plant call old new
 
--- the refusal that a plant is told, if it is one
+-- the refusal that a plant is told, if it is one; of a call with many texts, that of the whole
 abbrev pub refusedIn : Answer → Option Refusal
 refusedIn (Accepted n) = none
 refusedIn (Refused r) = some r
@@ -114,6 +133,16 @@ refusal (number r) = refusedIn r
 refusal (held r) = refusedWord r
 refusal (row r out) = refusedIn r
 refusal (rows r out scratch) = refusedCut r
+refusal (texts r answers out scratch) = refusedIn r
+
+-- No text of an accepted call is told this number: the first of its four cells.
+abbrev pub NoText : ℕ → Told → Type 0
+NoText k (texts (Accepted n) answers out scratch) = (i : ℕ) → i < n → getD answers (4 * i) 0 ≡ k → ⊥
+NoText k (texts (Refused r) answers out scratch) = Unit {0}
+NoText k (number r) = Unit {0}
+NoText k (held r) = Unit {0}
+NoText k (row r out) = Unit {0}
+NoText k (rows r out scratch) = Unit {0}
 
 -- ---- one call
 
@@ -249,6 +278,8 @@ made (prefixes text out) t = t
 made count t = t
 made (cut mode text out scratch) t = t
 made (reasons mode text out scratch) t = t
+made (cut-many mode joined ends answers out scratch) t = t
+made (reasons-many mode joined ends answers out scratch) t = t
 made (write out) t = t
 
 abbrev pub leftBy : Call → Option Refusal → Terms → Terms
@@ -271,10 +302,10 @@ Reached =
     × ((plant : Plant) → limitOf plant pool ≡ limitFor plant limitA limitB)
     × ((plant : Plant) → plantTerms plant pool ≡ some (termsLeft plant steps noTerm))
 
--- so 4 is told to no one in a run
+-- so 4 is told to no one in a run, nor of any text
 abbrev pub NoneTold4 : List Step → Type 0
 NoneTold4 [] = Unit {0}
-NoneTold4 (s ∷ ss) = (refusal (s .told) ≡ some NotADictionary → ⊥) × NoneTold4 ss
+NoneTold4 (s ∷ ss) = (refusal (s .told) ≡ some NotADictionary → ⊥) × NoText 4 (s .told) × NoneTold4 ss
 
 abbrev pub Never4 : Type 0
 Never4 =
@@ -290,10 +321,18 @@ PlainNotPlants =
     → (isPlants pool ≡ true → (meaning pool ≡ none) × (terms pool ≡ none))
     × (isDictionary pool ≡ true → (plant : Plant) → (plantMeaning plant pool ≡ none) × (plantTerms plant pool ≡ none))
 
--- and accepts no plant call
+-- Nothing is accepted: the call is refused, or each of its many texts. An accepted text is told 0.
+abbrev pub NothingAccepted : Told → Type 0
+NothingAccepted (number r) = refusedIn r ≡ none → ⊥
+NothingAccepted (held r) = refusedWord r ≡ none → ⊥
+NothingAccepted (row r out) = refusedIn r ≡ none → ⊥
+NothingAccepted (rows r out scratch) = refusedCut r ≡ none → ⊥
+NothingAccepted (texts r answers out scratch) = NoText 0 (texts r answers out scratch)
+
+-- so of a plain pool no plant call is accepted
 abbrev pub PlainRefused : Type 0
 PlainRefused =
     (plant : Plant) (call : Call) (old new : List ℕ) (told : Told)
     → isDictionary old ≡ true
     → Kept plant call old new told
-    → (refusal told ≡ none → ⊥) × (new ≡ old)
+    → NothingAccepted told × (new ≡ old)

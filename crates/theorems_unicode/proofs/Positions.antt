@@ -151,8 +151,8 @@ positions-by (next q {bytes} {scalars} t u) =
     subst (λ (l : List ℕ). Positions (q ++ bytes) (scalarOf q ∷ scalars) (placesFrom 0 l)) (sizes-more q bytes t)
     (positions-more q bytes scalars (runAll bytes .sizes) t (omega (arith, z .0, size-most (q ++ bytes))) (positions-by u))
 
--- Positions have n+1 cells, start at 0, end at the number of bytes and step by 1 to 4, and the bytes
--- between two of them are the UTF-8 of the characters between them.
+-- Positions have n+1 cells, start at 0, end at the number of bytes and step by 1 to 4, and the
+-- bytes between two of them are the UTF-8 of the characters between them.
 pub positions-right : PositionsRight
 positions-right bytes w = positions-by (accepted bytes w)
 

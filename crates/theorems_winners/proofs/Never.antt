@@ -50,7 +50,8 @@ always-matches (either a b) text p t = go (always a) refl t (λ u. always-matche
     go true q u f g = first (match a text p) (match b text p) (f (as-T (always a) q))
     go false q u f g = second (match a text p) (match b text p) (g u)
 
--- the first pattern matches wherever the second does: each character that it needs is one that the second needs there, and then it matches everywhere
+-- the first pattern matches wherever the second does: each character that it needs is one that the
+-- second needs there, and then it matches everywhere
 abbrev shadows : Pattern → Pattern → Bool
 shadows (then cl r) (then dl s) = covered dl cl && shadows r s
 shadows (then cl r) end = false

@@ -1,5 +1,5 @@
--- Whose matches are ever made shorter. That no text has a match of one pattern, and within it one of
--- another, is a test on the two patterns. Assumes nothing.
+-- Whose matches are ever made shorter. That no text has a match of one pattern, and within it one
+-- of another, is a test on the two patterns. Assumes nothing.
 use Prim.Native.Nat.{ℕ, _+_, _-_, _≤_, _<_}
 use native.Mathlib.Omega.{arith}
 use mathlib.Core.Path.{_≡_, refl, sym, _∙_, ap}

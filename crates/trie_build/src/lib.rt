@@ -28,7 +28,8 @@ fn put_leaf(p: &mut [u32], next: &mut [usize; 257], x: u32, d: usize)
 }
 
 // Puts in a word that shares its first l characters with the word before it and is above it. The
-// next free node of level d is next[d]; the last nodes of the levels are the path of the word before.
+// next free node of level d is next[d]; the last nodes of the levels are the path of the word
+// before.
 pub fn append(p: &mut [u32], next: &mut [usize; 257], word: &[u32], l: usize, mark: u32)
     requires { ⌜ Puts (now p) (now next) (now word) l mark ⌝ }
     ensures { λ _. ⌜ Put (now (p .entry)) (now (next .entry)) (now (word .entry)) l mark

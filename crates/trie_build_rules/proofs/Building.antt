@@ -1,4 +1,5 @@
--- Words put in at final numbers, in rising order: one leaf more stands behind all of its level. Assumes nothing.
+-- Words put in at final numbers, in rising order: one leaf more stands behind all of its level.
+-- Assumes nothing.
 use mathlib.Core.Path.{_≡_, refl, sym, ap, subst, _∙_}
 use mathlib.Core.List.{List, [], _∷_}
 use Prim.Native.Nat.{ℕ, zero, suc, _+_, _-_, _*_, _≤_, _<_}

@@ -1,5 +1,5 @@
--- Words written from their end, and the path of a word through the last nodes of the levels. Assumes
--- nothing.
+-- Words written from their end, and the path of a word through the last nodes of the levels.
+-- Assumes nothing.
 use mathlib.Core.Path.{_≡_, refl, sym, ap, subst, _∙_}
 use mathlib.Core.List.{List, [], _∷_, _++_}
 use Prim.Native.Nat.{ℕ, zero, suc, _+_, _-_, _≤_, _<_}

@@ -1,4 +1,5 @@
--- Before the first word: the root alone, and every level empty where it is to start. Assumes nothing.
+-- Before the first word: the root alone, and every level empty where it is to start. Assumes
+-- nothing.
 use mathlib.Core.Path.{_≡_, refl, sym, ap, subst, _∙_}
 use mathlib.Core.Bool.{false}
 use mathlib.Core.List.{List, [], _∷_}

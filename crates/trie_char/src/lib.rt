@@ -1,5 +1,5 @@
-// Changing a dictionary, after trie_char.rs: a trie in a lent pool. No function asks anything of what
-// it is lent.
+// Changing a dictionary, after trie_char.rs: a trie in a lent pool. No function asks anything of
+// what it is lent.
 use char_string_trim::trimmed;
 use refusal::Answer;
 use refusal::Refusal;

@@ -1,4 +1,5 @@
--- The scalars of all blocks of children rise exactly if as many nodes fall as first children do. Assumes nothing.
+-- The scalars of all blocks of children rise exactly if as many nodes fall as first children do.
+-- Assumes nothing.
 use mathlib.Core.Path.{_≡_, refl, sym, ap, _∙_}
 use mathlib.Core.Bool.{Bool, true, false, cond}
 use Prim.Native.Nat.{ℕ, zero, suc, _+_, _-_, _≤_, _<_}

@@ -1,7 +1,7 @@
 // Whether the nodes of a plain pool stand in level order, each as it may, and the scalars of the
 // children of each rise. Two walks see to all of that, without a branch on a node's children: they
-// count the nodes that fall, that is, whose scalar isn't above that of the node before, and the first
-// children that fall. If these are as many, no other node falls.
+// count the nodes that fall, that is, whose scalar isn't above that of the node before, and the
+// first children that fall. If these are as many, no other node falls.
 use cells::wide;
 use trie_node::node_ok;
 use trie_pool::COUNT;

@@ -21,15 +21,15 @@ halfAt B = 4
 abbrev pub halfOf : Plant → List ℕ → List ℕ
 halfOf plant pool = drop (halfAt plant) (cellsOf pool)
 
--- The root's fourth cell of a half: the plant's limit and one, for the root. Each plant gets a limit
--- in nodes at the start.
+-- The root's fourth cell of a half: the plant's limit and one, for the root. Each plant gets a
+-- limit in nodes at the start.
 abbrev pub roomOf : Plant → List ℕ → ℕ
 roomOf plant pool = getD (halfOf plant pool) 3 0
 
 abbrev pub limitOf : Plant → List ℕ → ℕ
 limitOf plant pool = roomOf plant pool - 1
 
--- A plant is charged one for each node in use but the root: one for each distinct non-empty prefix of
--- its own words (crates/theorems_plants: charge-is).
+-- A plant is charged one for each node in use but the root: one for each distinct non-empty prefix
+-- of its own words (crates/theorems_plants: charge-is).
 abbrev pub chargeOf : Plant → List ℕ → ℕ
 chargeOf plant pool = used (halfOf plant pool) - 1

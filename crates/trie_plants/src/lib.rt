@@ -1,5 +1,5 @@
-// Two plants in one pool: each has a dictionary of its own in one half of the nodes, so they share no
-// cell. The rules of such a pool and the words of each plant stand in specs/.
+// Two plants in one pool: each has a dictionary of its own in one half of the nodes, so they share
+// no cell. The rules of such a pool and the words of each plant stand in specs/.
 use trie_pool::HALF;
 ghost use mathlib.Core.Path.{_≡_};
 ghost use Rattle.trie_plants.specs.Halves.{halfAt};

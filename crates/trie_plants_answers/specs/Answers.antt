@@ -20,7 +20,8 @@ use Rattle.trie_plants_answers.specs.Refusals.{plantAddCauses, startCaus
 abbrev pub startAnswer : ℕ → ℕ → List ℕ → Answer
 startAnswer limitA limitB pool = answer (startCauses limitA limitB pool) 0
 
--- the plant's own words, the same with their classes, and those that an accepted add or remove leaves
+-- the plant's own words, the same with their classes, and those that an accepted add or remove
+-- leaves
 abbrev pub ownWords : Plant → List ℕ → Words
 ownWords plant pool = held (plantMeaning plant pool)
 

@@ -21,8 +21,8 @@ pub record Apart (plant : Plant) (old new : List ℕ) : Type 0 where
       → getD (halfOf (otherOf plant) new) (nodeCells * i + r) 0
       ≡ getD (halfOf (otherOf plant) old) (nodeCells * i + r) 0
 
--- The pool in which the plant holds these words with these classes, and all else is as it was: there
--- is one such pool. Later cells and a part node are never written.
+-- The pool in which the plant holds these words with these classes, and all else is as it was:
+-- there is one such pool. Later cells and a part node are never written.
 pub record PlantBecame (plant : Plant) (old new : List ℕ) (held : Terms) : Type 0 where
   pub means : plantTerms plant new ≡ some held
   pub apart : Apart plant old new
@@ -34,8 +34,8 @@ abbrev pub PlantAfter : Plant → Answer → List ℕ → List ℕ → Terms →
 PlantAfter plant (Accepted n) old new held = PlantBecame plant old new held
 PlantAfter plant (Refused r) old new held = new ≡ old
 
--- The pool in which two plants with these limits hold no word, whatever the cells held before: there
--- is one such pool.
+-- The pool in which two plants with these limits hold no word, whatever the cells held before:
+-- there is one such pool.
 pub record PlantsBegin (limitA limitB : ℕ) (old new : List ℕ) : Type 0 where
   pub means : (plant : Plant) → plantTerms plant new ≡ some noTerm
   pub limit-a : limitOf A new ≡ limitA

@@ -1,4 +1,5 @@
--- Stopping at a larger scalar finds the child that the walk over all children finds. Assumes nothing.
+-- Stopping at a larger scalar finds the child that the walk over all children finds. Assumes
+-- nothing.
 use Prim.Native.Nat.{ℕ, zero, suc, _+_, _≤_, _<_}
 use native.Mathlib.Omega.{arith}
 use native.Mathlib.Decide.{decLt}

@@ -1,6 +1,6 @@
-// Says why the breaks are there: a program as sheet_lines, which answers a cut with one line a token,
-// its text, its end and why. A read or a write that fails stops it at once, and a line on standard
-// error tells which and why.
+// Says why the breaks are there: a program as sheet_lines, which answers a cut with one line a
+// token, its text, its end and why. A read or a write that fails stops it at once, and a line on
+// standard error tells which and why.
 use sheet_bytes::front;
 use sheet_io::Got;
 use sheet_io::read_some;

@@ -1,5 +1,5 @@
--- 02, ticket 2: what a line of `why_lines` asks, what is written for it, and what becomes of the rows
--- that are lent.
+-- 02, ticket 2: what a line of `why_lines` asks, what is written for it, and what becomes of the
+-- rows that are lent.
 use Prim.Native.Nat.{ℕ, _/_}
 use mathlib.Core.Path.{_≡_}
 use mathlib.Core.Bool.{Bool, false, cond}
@@ -58,8 +58,9 @@ pub record RowsAfter (what : Asked)
   pub pairs-are : pairs₁ ≡ pairsAfter what text pool (roomIn scalars positions) (length scratch) pairs
   pub scratch-is : scratch₁ ≡ lines.scratchAfter what text pool (roomIn scalars positions) scratch
 
--- What is written for a line, by the rows of the call: the reply is that of `sheet_lines`, and a cut's
--- tokens are told with the text, its positions and the pairs. `cells` is the length of scratch.
+-- What is written for a line, by the rows of the call: the reply is that of `sheet_lines`, and a
+-- cut's tokens are told with the text, its positions and the pairs. `cells` is the length of
+-- scratch.
 unfoldable pub explainedBy : Asked → (text pool scalars positions pairs : List ℕ) → ℕ → List ℕ
 explainedBy what text pool scalars positions pairs cells =
     whyText (lines.replyTo what text pool (roomIn scalars positions) cells (length pairs / 2)) text

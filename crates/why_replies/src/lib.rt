@@ -143,9 +143,9 @@ fn reply_to(
 }
 
 // Writes the reply to a line, of which the bytes behind the first are the text, to the front of
-// `out`, as far as there is room: for a cut one line a token, with its text, its end and why. Answers
-// how many bytes that is. The rows become what those of a line of the line program become; the pairs
-// of a cut stand at the front of theirs.
+// `out`, as far as there is room: for a cut one line a token, with its text, its end and why.
+// Answers how many bytes that is. The rows become what those of a line of the line program become;
+// the pairs of a cut stand at the front of theirs.
 pub fn explain_line(
     line: &[u8],
     pool: &mut [u32],

@@ -1,5 +1,5 @@
--- 02, ticket 2, for the people who ask: one line a token, with the token's text, its end, and why in
--- plain words.
+-- 02, ticket 2, for the people who ask: one line a token, with the token's text, its end, and why
+-- in plain words.
 use Prim.Native.Nat.{ℕ, _*_, _-_}
 use mathlib.Core.Bool.{cond}
 use mathlib.Core.List.{List, [], _∷_, _++_}

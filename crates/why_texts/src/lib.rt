@@ -128,9 +128,9 @@ fn write_cut(out: &mut [u8], text: &[u8], positions: &[u32], pairs: &[u32], n: u
     write_tokens(out, text, positions, first_pairs(pairs, n))
 }
 
-// Writes the reply to a line with this text to the front of `out`, as far as there is room: of a cut
-// a line for each token, whose ends and reasons stand as pairs at the front of their row; any other
-// as `write_reply`. Answers how many bytes that is.
+// Writes the reply to a line with this text to the front of `out`, as far as there is room: of a
+// cut a line for each token, whose ends and reasons stand as pairs at the front of their row; any
+// other as `write_reply`. Answers how many bytes that is.
 pub fn write_why(
     reply: Reply,
     text: &[u8],

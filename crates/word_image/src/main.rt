@@ -1,7 +1,7 @@
 // The program that makes an image of a word list. The list stands on standard input, a word to a
-// line, in any order, with a tab and its class in decimal behind a word that has one. The image goes
-// to standard output. A refusal, or a read or a write that fails, is told in a line on standard
-// error, and no image is written then.
+// line, in any order, with a tab and its class in decimal behind a word that has one. The image
+// goes to standard output. A refusal, or a read or a write that fails, is told in a line on
+// standard error, and no image is written then.
 use libc::STDERR_FILENO;
 use refusal::Answer;
 use refusal::Refusal;
@@ -149,8 +149,8 @@ fn read_all(
     Line::Kept(kept, lines)
 }
 
-// Adds the words of the lines that end in the bytes, the first of which starts with the `kept` bytes
-// of `line` and stands behind `before` lines.
+// Adds the words of the lines that end in the bytes, the first of which starts with the `kept`
+// bytes of `line` and stands behind `before` lines.
 fn feed_all(
     bytes: &[u8],
     line: &mut [u8; LINE],

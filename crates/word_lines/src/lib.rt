@@ -113,8 +113,9 @@ fn add_term(
     add_class(pool, &scalars[..n], class)
 }
 
-// Adds the word of a line with its class, 0 where there is no tab, and leaves the word's scalars and
-// their positions at the front of their rows. A line without a class behind its tab changes nothing.
+// Adds the word of a line with its class, 0 where there is no tab, and leaves the word's scalars
+// and their positions at the front of their rows. A line without a class behind its tab changes
+// nothing.
 pub fn take_line(line: &[u8], pool: &mut [u32], scalars: &mut [u32], positions: &mut [u32]) -> Taken
     ensures { λ r. ⌜ r ≡ taken (now (line .entry)) (now (pool .entry))
         (roomIn (now (scalars .entry)) (now (positions .entry))) ⌝ }

@@ -1,5 +1,5 @@
--- What reading an image answers, by the test of the pool, the survey of the image and the nodes that
--- it needs; and the pool that it leaves. Assumes nothing.
+-- What reading an image answers, by the test of the pool, the survey of the image and the nodes
+-- that it needs; and the pool that it leaves. Assumes nothing.
 use Prim.Native.Nat.{ℕ, suc, _+_, _-_, _*_, _/_, _≤_, _<_, min}
 use native.Mathlib.Omega.{arith}
 use mathlib.Core.Path.{_≡_, refl, sym, ap, subst, _∙_}

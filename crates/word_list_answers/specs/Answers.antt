@@ -35,8 +35,8 @@ listOf image = listIn (readOf image)
 abbrev pub nodesOf : List ℕ → ℕ
 nodesOf image = suc (charge (listOf image))
 
--- 9: anything in the image not as said; the offset of the first record that breaks a rule, or of the
--- missing one, or of the first byte after kind 0.
+-- 9: anything in the image not as said; the offset of the first record that breaks a rule, or of
+-- the missing one, or of the first byte after kind 0.
 abbrev pub imageCause : List ℕ → Cause
 imageCause image = record { refusal = BadImage (brokenAt (readOf image)); holds = isBroken (readOf image) }
 

@@ -1,5 +1,5 @@
--- What reading an image into a plant's half answers, by the test of the pool, the survey of the image
--- and the plant's limit; and the pool that it leaves. Assumes nothing.
+-- What reading an image into a plant's half answers, by the test of the pool, the survey of the
+-- image and the plant's limit; and the pool that it leaves. Assumes nothing.
 use Prim.Native.Nat.{ℕ, _+_, _-_, _*_, _/_, _≤_, _<_, min}
 use native.Mathlib.Omega.{arith}
 use mathlib.Core.Path.{_≡_, refl, sym, ap, _∙_}

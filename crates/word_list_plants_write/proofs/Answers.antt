@@ -1,5 +1,5 @@
--- What writing a plant's image answers, by the test of the pool and the bytes that are needed. Assumes
--- nothing.
+-- What writing a plant's image answers, by the test of the pool and the bytes that are needed.
+-- Assumes nothing.
 use Prim.Native.Nat.{ℕ, _-_, _*_, _/_, _≤_, _<_, min}
 use native.Mathlib.Omega.{arith}
 use mathlib.Core.Path.{_≡_, sym, ap, _∙_}

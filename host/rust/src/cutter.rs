@@ -1,7 +1,9 @@
 use crate::{
     decode,
     error::{accepted, Error},
-    ffi, scalars, Decoded, Dictionary,
+    ffi,
+    ffi::many::Texts,
+    scalars, Decoded, Dictionary,
 };
 use std::{fmt, mem};
 
@@ -94,6 +96,22 @@ pub enum Verdict {
     Wrong(usize),
 }
 
+/// What a call writes for a token: so many cells, which tell its end and its reason.
+struct Written<R> {
+    cells: usize,
+    token: fn(&[u32]) -> (u32, R),
+}
+
+const ENDS: Written<()> = Written { cells: 1, token: |end| (end[0], ()) };
+const PAIRS: Written<Reason> = Written { cells: 2, token: |pair| (pair[0], Reason::told(pair[1])) };
+
+impl<R> Written<R> {
+    /// The tokens of a text, by the cells that were written for them.
+    fn tokens<'t>(&self, text: &'t str, decoded: &Decoded, cells: &[u32]) -> Vec<Token<'t, R>> {
+        tokens(text, decoded, cells.chunks_exact(self.cells).map(self.token))
+    }
+}
+
 /// The characters of texts that are joined for one call, unless a single text has more.
 const JOINED: usize = 1 << 22;
 
@@ -145,7 +163,7 @@ impl Cutter {
         let cells = decoded.scalars();
         self.ends.resize(self.ends.len().max(cells.len()), 0);
         let (count, edges) = call(cells, &mut self.ends, scratch_for(&mut self.scratch, cells.len()))?;
-        Ok(Cut { tokens: tokens(text, &decoded, plainly(&self.ends[..count])), edges })
+        Ok(Cut { tokens: ENDS.tokens(text, &decoded, &self.ends[..count]), edges })
     }
 
     /// Cuts a text as [`Cutter::cut`] does, and says why each token ends where it does. Refused with 2.
@@ -169,8 +187,7 @@ impl Cutter {
         let cells = decoded.scalars();
         self.ends.resize(self.ends.len().max(2 * cells.len()), 0);
         let (count, edges) = call(cells, &mut self.ends, scratch_for(&mut self.scratch, cells.len()))?;
-        let told = self.ends[..2 * count].chunks_exact(2).map(|pair| (pair[0], Reason::told(pair[1])));
-        Ok(Cut { tokens: tokens(text, decoded, told), edges })
+        Ok(Cut { tokens: PAIRS.tokens(text, decoded, &self.ends[..2 * count]), edges })
     }
 
     /// Cuts many texts by the words of a dictionary: for each what [`Cutter::cut`] gives. The dictionary is checked once for
@@ -181,52 +198,88 @@ impl Cutter {
         lines: impl IntoIterator<Item = &'t str>,
         mode: Mode,
     ) -> Vec<Result<Cut<'t>, Error>> {
+        self.lines_ended(lines, |rows| ffi::many::cut_many(mode, dictionary.pool(), rows))
+    }
+
+    /// The same with the reason of each token: for each text what [`Cutter::explain`] gives.
+    pub fn explain_lines<'t>(
+        &mut self,
+        dictionary: &Dictionary,
+        lines: impl IntoIterator<Item = &'t str>,
+        mode: Mode,
+    ) -> Vec<Result<Cut<'t, Reason>, Error>> {
+        self.lines_told(lines, |rows| ffi::many::reasons_many(mode, dictionary.pool(), rows))
+    }
+
+    /// What a call with many texts writes and tells of where their tokens end.
+    pub(crate) fn lines_ended<'t>(
+        &mut self,
+        lines: impl IntoIterator<Item = &'t str>,
+        call: impl Fn(Texts) -> Result<usize, Error>,
+    ) -> Vec<Result<Cut<'t>, Error>> {
+        self.by_lines(lines, &ENDS, &call)
+    }
+
+    /// What a call with many texts writes and tells of their tokens, in pairs.
+    pub(crate) fn lines_told<'t>(
+        &mut self,
+        lines: impl IntoIterator<Item = &'t str>,
+        call: impl Fn(Texts) -> Result<usize, Error>,
+    ) -> Vec<Result<Cut<'t, Reason>, Error>> {
+        self.by_lines(lines, &PAIRS, &call)
+    }
+
+    fn by_lines<'t, R>(
+        &mut self,
+        lines: impl IntoIterator<Item = &'t str>,
+        written: &Written<R>,
+        call: &impl Fn(Texts) -> Result<usize, Error>,
+    ) -> Vec<Result<Cut<'t, R>, Error>> {
         let (mut cuts, mut joined) = (Vec::new(), Joined::default());
         for line in lines {
             match decode(line.as_bytes()) {
                 Ok(decoded) => {
                     if joined.cells.len() + decoded.scalars().len() > JOINED {
-                        self.cut_joined(dictionary, mem::take(&mut joined), mode, &mut cuts);
+                        self.by_joined(mem::take(&mut joined), written, call, &mut cuts);
                     }
                     joined.push(line, decoded);
                 }
                 Err(refused) => {
-                    self.cut_joined(dictionary, mem::take(&mut joined), mode, &mut cuts);
+                    self.by_joined(mem::take(&mut joined), written, call, &mut cuts);
                     cuts.push(Err(refused));
                 }
             }
         }
-        self.cut_joined(dictionary, joined, mode, &mut cuts);
+        self.by_joined(joined, written, call, &mut cuts);
         cuts
     }
 
-    fn cut_joined<'t>(
+    fn by_joined<'t, R>(
         &mut self,
-        dictionary: &Dictionary,
         joined: Joined<'t>,
-        mode: Mode,
-        cuts: &mut Vec<Result<Cut<'t>, Error>>,
+        written: &Written<R>,
+        call: &impl Fn(Texts) -> Result<usize, Error>,
+        cuts: &mut Vec<Result<Cut<'t, R>, Error>>,
     ) {
         if joined.lines.is_empty() {
             return;
         }
-        self.ends.resize(self.ends.len().max(joined.cells.len()), 0);
+        self.ends.resize(self.ends.len().max(written.cells * joined.cells.len()), 0);
         let mut answers = vec![0; ANSWER_CELLS * joined.lines.len()];
-        let rows = ffi::Texts {
+        let rows = Texts {
             texts: &joined.cells,
             text_ends: &joined.ends,
-            pool: dictionary.pool(),
             answers: &mut answers,
             out: &mut self.ends,
             scratch: scratch_for(&mut self.scratch, joined.longest),
         };
-        ffi::cut_many(mode, rows).expect("rows that suffice");
+        call(rows).expect("rows that suffice");
         let mut used = 0;
         for ((line, decoded), told) in joined.lines.iter().zip(answers.chunks_exact(ANSWER_CELLS)) {
-            let (count, edges) = (told[1] as usize, told[2] as usize);
-            let tokens = tokens(line, decoded, plainly(&self.ends[used..used + count]));
+            let (cells, edges) = (written.cells * told[1] as usize, told[2] as usize);
+            let tokens = written.tokens(line, decoded, &self.ends[used..used + cells]);
             cuts.push(accepted(told[0], told[3] as usize, ()).map(|()| Cut { tokens, edges }));
-            used += count;
+            used += cells;
         }
     }
 
@@ -269,11 +322,6 @@ fn scratch_for(scratch: &mut Vec<u32>, characters: usize) -> &mut [u32] {
     let needed = 9 * characters + 128;
     scratch.resize(scratch.len().max(needed), 0);
     &mut scratch[..needed]
-}
-
-/// Ends without reasons.
-fn plainly(ends: &[u32]) -> impl Iterator<Item = (u32, ())> + '_ {
-    ends.iter().map(|&end| (end, ()))
 }
 
 /// The parts of a text between ends in characters, which rise to its length, each with its reason.

@@ -3,6 +3,8 @@
 use crate::error::{accepted, Error};
 use crate::Mode;
 
+pub mod many;
+
 extern "C" {
     fn fetlockice_decode(
         bytes: *const u8,
@@ -186,54 +188,6 @@ extern "C" {
         scratch_len: usize,
         count: &mut usize,
         edges: &mut usize,
-        detail: &mut usize,
-    ) -> u32;
-    fn fetlockice_cut_many_plain(
-        texts: *const u32,
-        texts_len: usize,
-        text_ends: *const u32,
-        text_count: usize,
-        pool: *const u32,
-        pool_len: usize,
-        answers: *mut u32,
-        answers_len: usize,
-        out: *mut u32,
-        out_len: usize,
-        scratch: *mut u32,
-        scratch_len: usize,
-        count: &mut usize,
-        detail: &mut usize,
-    ) -> u32;
-    fn fetlockice_cut_many_safe(
-        texts: *const u32,
-        texts_len: usize,
-        text_ends: *const u32,
-        text_count: usize,
-        pool: *const u32,
-        pool_len: usize,
-        answers: *mut u32,
-        answers_len: usize,
-        out: *mut u32,
-        out_len: usize,
-        scratch: *mut u32,
-        scratch_len: usize,
-        count: &mut usize,
-        detail: &mut usize,
-    ) -> u32;
-    fn fetlockice_cut_many_sheet(
-        texts: *const u32,
-        texts_len: usize,
-        text_ends: *const u32,
-        text_count: usize,
-        pool: *const u32,
-        pool_len: usize,
-        answers: *mut u32,
-        answers_len: usize,
-        out: *mut u32,
-        out_len: usize,
-        scratch: *mut u32,
-        scratch_len: usize,
-        count: &mut usize,
         detail: &mut usize,
     ) -> u32;
     fn fetlockice_feed_plain(
@@ -758,45 +712,6 @@ pub fn check_claim(text: &[u32], pool: &[u32], claim: &[u32], scratch: &mut [u32
         )
     };
     accepted(number, detail, (right == 1, token))
-}
-
-/// The rows that a cut of many texts is lent.
-pub struct Texts<'a> {
-    pub texts: &'a [u32],
-    pub text_ends: &'a [u32],
-    pub pool: &'a [u32],
-    pub answers: &'a mut [u32],
-    pub out: &'a mut [u32],
-    pub scratch: &'a mut [u32],
-}
-
-/// The number of texts.
-pub fn cut_many(mode: Mode, rows: Texts) -> Result<usize, Error> {
-    let (mut count, mut detail) = (0, 0);
-    let call = match mode {
-        Mode::Plain => fetlockice_cut_many_plain,
-        Mode::Safe => fetlockice_cut_many_safe,
-        Mode::Sheet => fetlockice_cut_many_sheet,
-    };
-    let number = unsafe {
-        call(
-            rows.texts.as_ptr(),
-            rows.texts.len(),
-            rows.text_ends.as_ptr(),
-            rows.text_ends.len(),
-            rows.pool.as_ptr(),
-            rows.pool.len(),
-            rows.answers.as_mut_ptr(),
-            rows.answers.len(),
-            rows.out.as_mut_ptr(),
-            rows.out.len(),
-            rows.scratch.as_mut_ptr(),
-            rows.scratch.len(),
-            &mut count,
-            &mut detail,
-        )
-    };
-    accepted(number, detail, count)
 }
 
 /// The cells that the map takes.

@@ -27,6 +27,8 @@
 //! let cuts = Cutter::new().cut_lines(&words, ["กขคง", "", "งกข"], Mode::Safe);
 //! let counts: Vec<usize> = cuts.iter().map(|cut| cut.as_ref().map_or(0, |cut| cut.tokens.len())).collect();
 //! assert_eq!(counts, [2, 0, 2]);
+//! let whys = Cutter::new().explain_lines(&words, ["กขคง", "12."], Mode::Plain);
+//! assert_eq!(whys[1].as_ref().map(|why| why.tokens[0].reason), Ok(Reason::NonThai));
 //!
 //! // figures over all texts of a release
 //! let (mut cutter, mut figures) = (Cutter::new(), Figures::new());
@@ -42,6 +44,7 @@
 //! plants.add_class(Plant::B, "กขคง", 7)?;
 //! assert_eq!((plants.len(Plant::A), plants.class_of(Plant::B, "กขคง")?), (1, Some(7)));
 //! assert_eq!(plants.cut(Plant::B, &mut cutter, "กขคง", Mode::Plain)?.tokens.len(), 1);
+//! assert_eq!(plants.cut_lines(Plant::B, &mut cutter, ["กขคง", "กข"], Mode::Plain).len(), 2);
 //! # Ok::<(), fetlockice::Error>(())
 //! ```
 mod cutter;

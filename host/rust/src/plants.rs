@@ -106,6 +106,29 @@ impl Plants {
         })
     }
 
+    /// Cuts many texts by the words of a plant: for each what [`Plants::cut`] gives. The pool is checked once for many texts
+    /// together, as in [`Cutter::cut_lines`].
+    pub fn cut_lines<'t>(
+        &self,
+        plant: Plant,
+        cutter: &mut Cutter,
+        lines: impl IntoIterator<Item = &'t str>,
+        mode: Mode,
+    ) -> Vec<Result<Cut<'t>, Error>> {
+        cutter.lines_ended(lines, |rows| ffi::many::plant_cut_many(mode, &self.pool, plant.is_b(), rows))
+    }
+
+    /// The same with the reason of each token: for each text what [`Plants::explain`] gives.
+    pub fn explain_lines<'t>(
+        &self,
+        plant: Plant,
+        cutter: &mut Cutter,
+        lines: impl IntoIterator<Item = &'t str>,
+        mode: Mode,
+    ) -> Vec<Result<Cut<'t, Reason>, Error>> {
+        cutter.lines_told(lines, |rows| ffi::many::plant_reasons_many(mode, &self.pool, plant.is_b(), rows))
+    }
+
     /// Replaces the words of a plant and their classes by those of an image; how many they are. Refused with 9, and with 8
     /// where their charge passes the plant's limit.
     pub fn read_image(&mut self, plant: Plant, image: &[u8]) -> Result<usize, Error> {

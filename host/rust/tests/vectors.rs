@@ -1,8 +1,7 @@
 //! The answers of this crate against those that the test programs of crates/ are held to: an independent model's and the
 //! Rust's. Lines that a `str`, a growing pool or rows of one's own can't bring about are left out.
-use fetlockice::{clusters, clusters_with_winners, decode, Cut, Cutter, Dictionary, Error, Mode, Verdict};
+use fetlockice::{clusters, clusters_with_winners, decode, Cut, Cutter, Dictionary, Error, Verdict};
 use lines::{cells, detail, hold, hold_tokens, lines, mode, roomy, text, told, told_reasons, words};
-use std::collections::BTreeMap;
 
 mod lines;
 
@@ -193,31 +192,6 @@ fn reasons() {
         let (words, text) = (words(&line[2])?, text(&line[3])?);
         Some(told(cutter.explain(&words, &text, mode(&line[1])), |cut| told_reasons(&text, &cut, ":")))
     });
-}
-
-/// The texts of all lines with the same words in one call, a text that is too long and an empty one among them.
-#[test]
-fn cuts_of_many_lines() {
-    let mut groups: BTreeMap<(String, String), Vec<(String, String)>> = BTreeMap::new();
-    for (line, expected) in lines("test_cut", "cut") {
-        if let (Some(()), Some(()), Some(text)) = (roomy(&line[4]), roomy(&line[5]), text(&line[3])) {
-            groups.entry((line[1].clone(), line[2].clone())).or_default().push((text, expected));
-        }
-    }
-    let (mut cutter, long, mut held) = (Cutter::new(), "ก".repeat(65_536), 0);
-    for ((how, field), mut texts) in groups {
-        let Some(words) = words(&field) else { continue };
-        texts.insert(texts.len() / 2, (long.clone(), "! 2 65536".into()));
-        texts.push((String::new(), "ok - 0".into()));
-        let cuts = cutter.cut_lines(&words, texts.iter().map(|(text, _)| text.as_str()), mode(&how));
-        assert_eq!(cuts.len(), texts.len());
-        for ((text, expected), cut) in texts.iter().zip(cuts) {
-            assert_eq!(&told_cut(text, cut), expected, "{how} {field}");
-            held += 1;
-        }
-    }
-    assert!(held >= 3000, "{held} texts");
-    assert!(cutter.cut_lines(&Dictionary::new(), [], Mode::Plain).is_empty());
 }
 
 fn verdict(found: Verdict) -> String {

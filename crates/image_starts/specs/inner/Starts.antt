@@ -5,7 +5,8 @@ use mathlib.Core.List.{List}
 use lib.ListN.{length, getD}
 use Rattle.refusal.specs.Limits.{maxNodes}
 
--- the first node of level d: the root is level 0 alone, and each level stands behind the one before it
+-- the first node of level d: the root is level 0 alone, and each level stands behind the one before
+-- it
 unfoldable pub startOf : List ℕ → ℕ → ℕ
 startOf counts zero = 0
 startOf counts (suc zero) = 1

@@ -21,8 +21,8 @@ pub record Rows (row positions : List ℕ) : Type 0 where
   pub scalars : length row ≡ 255
   pub places : length positions ≡ 256
 
--- The bytes are UTF-8 of n characters, 1 to 255, with none at an edge that is trimmed; the row starts
--- with them.
+-- The bytes are UTF-8 of n characters, 1 to 255, with none at an edge that is trimmed; the row
+-- starts with them.
 pub record Trimmed (bytes row : List ℕ) (n : ℕ) : Type 0 where
   pub some : 1 ≤ n
   pub short : n ≤ maxWord

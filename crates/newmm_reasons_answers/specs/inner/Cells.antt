@@ -27,8 +27,8 @@ abbrev pub unpacked : List ℕ → List ℕ
 unpacked [] = []
 unpacked (c ∷ cs) = c / 8 ∷ c % 8 ∷ unpacked cs
 
--- The cells of a part that starts at `start`, of a text in parts, and of a text in a mode, each with
--- the edges that the cut records.
+-- The cells of a part that starts at `start`, of a text in parts, and of a text in a mode, each
+-- with the edges that the cut records.
 abbrev pub cellsPart : Words → ℕ → List ℕ → List ℕ
 cellsPart words start part = cellsOf (toldPart words start part)
 

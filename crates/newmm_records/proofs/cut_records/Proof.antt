@@ -1,6 +1,7 @@
--- `newmm_records::cut_records` meets its contract: a walk of its MIR, by hand. Scratch is lent again to `tell`, for a
--- lifetime that is made for the call, and comes back with the told cells; then both rows are given to `fill` for good.
--- All that the proof knows of `tell`, `ends_told` and `fill` is that each meets its contract. Assumes nothing.
+-- `newmm_records::cut_records` meets its contract: a walk of its MIR, by hand. Scratch is lent
+-- again to `tell`, for a lifetime that is made for the call, and comes back with the told cells;
+-- then both rows are given to `fill` for good. All that the proof knows of `tell`, `ends_told` and
+-- `fill` is that each meets its contract. Assumes nothing.
 use mathlib.Core.Path.{_≡_, refl, _∙_}
 use Prim.Native.Nat.{ℕ, _≤_}
 use mathlib.Core.List.{[], _∷_, List, _++_}

@@ -1,5 +1,5 @@
--- `newmm_records::fill` meets its contract: a walk of its MIR, by hand, with a loop. Both rows are opened and closed in each turn.
--- Assumes nothing.
+-- `newmm_records::fill` meets its contract: a walk of its MIR, by hand, with a loop. Both rows are
+-- opened and closed in each turn. Assumes nothing.
 use mathlib.Core.Path.{_≡_, refl, sym, _∙_, ap, subst}
 use Prim.Native.Nat.{ℕ, zero, suc, _+_, _<_, _≤_, _^_, _*_, _/_, _%_}
 use native.Mathlib.Omega.{arith}

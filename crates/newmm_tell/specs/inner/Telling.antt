@@ -13,8 +13,8 @@ use Rattle.newmm_answers.specs.Answers.{plainCut}
 abbrev pub positions : List ℕ → ℕ
 positions part = length part + 1
 
--- the ends of a part's plain cut at the front of the row, and the flags of its cluster ends in their
--- strip
+-- the ends of a part's plain cut at the front of the row, and the flags of its cluster ends in
+-- their strip
 pub record CutPart (part pool row : List ℕ) (k : ℕ) : Type 0 where
   pub root-is : Readable pool 0
   pub room : 7 * positions part ≤ length row

@@ -38,8 +38,8 @@ pub record Blank (p : List ℕ) (i : ℕ) : Type 0 where
   pub count : countAt p i ≡ 0
   pub mark : markAt p i ≡ 0
 
--- The words held so far stand in the trie, whose levels start as s says and are filled up to next. A
--- node has a child or ends a word, but the node cur, which may be a leaf that ends none.
+-- The words held so far stand in the trie, whose levels start as s says and are filled up to next.
+-- A node has a child or ends a word, but the node cur, which may be a leaf that ends none.
 pub record Grown (p : List ℕ) (s next : ℕ → ℕ) (held : Terms) (cur : ℕ) : Type 0 where
   pub laid : Laid p s next
   pub top : next 256 ≡ s 256

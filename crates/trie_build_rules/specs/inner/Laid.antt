@@ -5,8 +5,8 @@ use mathlib.Core.List.{List}
 use Rattle.trie_pool.specs.Cells.{scalarAt, firstAt, countAt, markAt}
 use Rattle.trie_pool.specs.inner.Sound.{Rising}
 
--- Nodes by levels: those of level d stand from s d on, next d is the first that is free. Children of
--- a level follow each other on the next one.
+-- Nodes by levels: those of level d stand from s d on, next d is the first that is free. Children
+-- of a level follow each other on the next one.
 pub record Laid (p : List ℕ) (s next : ℕ → ℕ) : Type 0 where
   pub root : next 0 ≡ 1
   pub zero′ : s 0 ≡ 0
