@@ -56,7 +56,9 @@ def rust(lines):
 
 
 def program(kind):
-    return os.path.join(ROOT, "target", "bin", standing()[kind])
+    """Where `rt run` leaves the program for a kind."""
+    name = standing()[kind]
+    return os.path.join(ROOT, "crates", name, "out", name)
 
 
 def both_matchers(lines):

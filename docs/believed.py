@@ -1,8 +1,8 @@
 """Lists the definitions that have to be believed, in docs/ASSESSMENT.md: python3 docs/believed.py [--check]
 
 They are those that the contracts of the public operations and the statements of theorems_*/specs rest on: the words of a
-contract, the words of their definitions, and so on. Public are the functions of ASSESSMENT's table of public operations
-and those that crates/fetlockice exports. A file of specs/inner/ must not be among them. With --check nothing is written:
+contract, the words of their definitions, and so on. Public are the functions of ASSESSMENT's table of public operations,
+and those that crates/fetlockice_c exports, each of which has the contract of one of these. A file of specs/inner/ must not be among them. With --check nothing is written:
 it fails where the list is not what would be written. Words of the kit and types that the code declares are left out.
 """
 import glob
@@ -14,7 +14,7 @@ ROOT = os.path.dirname(os.path.dirname(os.path.abspath(__file__)))
 PAGE = os.path.join(ROOT, "docs", "ASSESSMENT.md")
 MARKS = "<!-- written by docs/believed.py -->", "<!-- end of what docs/believed.py writes -->"
 
-USE = re.compile(r"(?m)^(?:ghost )?use Rattle·(\w+?)(?:·specs)?\.specs\.([\w.]+?)\.\{([^}]*)\}")
+USE = re.compile(r"(?m)^(?:ghost )?use Rattle\.(\w+)\.specs\.([\w.]+)\.\{([^}]*)\}")
 START = re.compile(r"(?:(?:abbrev|unfoldable|opaque|pub|data|record) )+(\S+)|(\S+) : ")
 WORD = re.compile(r"[^\s(){},;.\[\]⌜⌝]+")
 
@@ -25,10 +25,10 @@ def read(*path):
 
 
 def names_used(text):
-    """What each word that a file takes from a spec file stands for: (crate, file, name)."""
+    """What each word that a file takes from a spec file of the repository stands for: (crate, file, name)."""
     found = {}
     for crate, module, names in USE.findall(text):
-        if module.split(".")[0] != "declared":
+        if module.split(".")[0] != "declared" and os.path.isdir(os.path.join(ROOT, "crates", crate)):
             for name in names.split(","):
                 name, _, alias = name.strip().partition(" as ")
                 found[alias or name] = (crate, module, name)
@@ -91,13 +91,17 @@ def section(page, title):
 
 
 def public(page):
-    """The public functions: those of the table, and those that hosts call."""
+    """The public functions of the table."""
     for line in section(page, "The public operations").splitlines():
         if line.startswith("| `"):
             yield from re.findall(r"`(\w+)::(\w+)`", line.split(" | ")[0])
-    for path in sorted(glob.glob(os.path.join(ROOT, "crates", "fetlockice", "src", "*.rt"))):
+
+
+def exported():
+    """The functions that C calls."""
+    for path in sorted(glob.glob(os.path.join(ROOT, "crates", "fetlockice_c", "src", "*.rt"))):
         for name in re.findall(r'(?m)^pub extern "C" fn (\w+)\(', read(path)):
-            yield "fetlockice", name
+            yield "fetlockice_c", name
 
 
 def contract(crate, function):
@@ -128,8 +132,8 @@ def counts(specs, found):
 def part(page):
     """The list, and what is wrong."""
     specs, functions = Specs(), list(dict.fromkeys(public(page)))
-    contracts = specs.rest_on(set().union(*(contract(*function) for function in functions)))
-    everything = specs.rest_on(set().union(*(contract(*function) for function in functions), statements()))
+    named = set().union(*(contract(*function) for function in [*functions, *exported()]))
+    contracts, everything = specs.rest_on(named), specs.rest_on(named.union(statements()))
     wrong = ["%s/specs/%s" % (crate, module) for crate, module in sorted(everything) if module.startswith("inner.")]
     lines = [
         "The contracts of the %d public functions rest on definitions in %d files, %d lines; with the statements of theorems_*/specs "

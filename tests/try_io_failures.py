@@ -2,10 +2,10 @@
 
     python3 tests/try_io_failures.py [PROGRAM]
 
-PROGRAM is target/bin/sheet_lines where none is given. A read or a write that fails stops the program at once, with
-one line on standard error that says which; a call that would have to wait is tried again, so that no byte is lost. The
-kit gives a program no exit status of its own: it is 0 here, and that is looked at too. Ends with status 1 where a case
-fails.
+PROGRAM is crates/sheet_lines/out/sheet_lines, which `rt run` leaves there, where none is given. A read or a write that
+fails stops the program at once, with one line on standard error that says which; a call that would have to wait is tried
+again, so that no byte is lost. The program's exit status is 0 even so, and that is looked at too. Ends with status 1 where
+a case fails.
 """
 import fcntl
 import os
@@ -76,31 +76,19 @@ def closed_output(program):
     stopped("a write to a closed output", run, WRITING)
 
 
-def nobody_reads(program):
-    """A pipe that nobody reads ends the process by its signal, as the system does by default."""
-    started = subprocess.Popen(
-        [program], stdin=subprocess.PIPE, stdout=subprocess.PIPE, stderr=subprocess.PIPE,
-        preexec_fn=lambda: signal.signal(signal.SIGPIPE, signal.SIG_DFL),
-    )
-    started.stdout.close()
-    started.stdin.write(b"=ab\n")
-    started.stdin.close()
-    started.wait(timeout=LIMIT)
-    say("a pipe that nobody reads", started.returncode == -signal.SIGPIPE, "status %d" % started.returncode)
-
-
-def nobody_reads_and_no_signal(program):
+def nobody_reads(program, name, how):
+    """A pipe that nobody reads is a write that fails, too: the program ignores the signal SIGPIPE."""
     started = subprocess.Popen(
         [program], stdin=subprocess.PIPE, stdout=subprocess.PIPE, stderr=subprocess.PIPE, restore_signals=False,
-        preexec_fn=lambda: signal.signal(signal.SIGPIPE, signal.SIG_IGN),
+        preexec_fn=lambda: signal.signal(signal.SIGPIPE, how),
     )
     started.stdout.close()
     started.stdin.write(b"=ab\n")
     started.stdin.close()
     told = started.stderr.read()
     started.wait(timeout=LIMIT)
-    good = told.startswith(WRITING) and told.count(b"\n") == 1
-    say("a pipe that nobody reads, without the signal", good, repr(told[:200]))
+    good = told.startswith(WRITING) and told.count(b"\n") == 1 and started.returncode == 0
+    say(name, good, "status %d, %r" % (started.returncode, told[:200]))
 
 
 def a_folder(program):
@@ -157,13 +145,13 @@ def empty_pipe(program):
 
 
 def main():
-    program = os.path.abspath(sys.argv[1] if len(sys.argv) > 1 else os.path.join(ROOT, "target", "bin", "sheet_lines"))
+    program = os.path.abspath(sys.argv[1] if len(sys.argv) > 1 else os.path.join(ROOT, "crates", "sheet_lines", "out", "sheet_lines"))
     full_device(program)
     full_device_at_the_end(program)
     stops_at_once(program)
     closed_output(program)
-    nobody_reads(program)
-    nobody_reads_and_no_signal(program)
+    nobody_reads(program, "a pipe that nobody reads", signal.SIG_DFL)
+    nobody_reads(program, "a pipe that nobody reads, without the signal", signal.SIG_IGN)
     a_folder(program)
     closed_input(program)
     full_pipe(program)

@@ -44,7 +44,7 @@ def groups():
             found.append((line[2:], {}))
         elif line and not line.startswith("#"):
             name, below = line.split(":")
-            found[-1][1][name] = below.split()
+            found[-1][1][name.split()[0]] = below.split()
     own = {name for _, crates in found for name in crates}
     return [(group, {name: [x for x in below if x in own] for name, below in crates.items()}) for group, crates in found]
 

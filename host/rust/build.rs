@@ -8,7 +8,16 @@ fn main() {
     assert!(made.success(), "host/native-lib could not make the library");
     println!("cargo:rustc-link-search=native={}", root.join("target/host").display());
     println!("cargo:rustc-link-lib=static=fetlockice");
-    for path in ["crates", "crates.txt", "host/native-lib"] {
+    for path in ["crates.txt", "host/native-lib"] {
         println!("cargo:rerun-if-changed={}", root.join(path).display());
+    }
+    // a crate's out/ has what its checks keep
+    for entry in root.join("crates").read_dir().expect("the crates") {
+        for part in ["src", "specs", "proofs"] {
+            let part = entry.as_ref().expect("a crate").path().join(part);
+            if part.exists() {
+                println!("cargo:rerun-if-changed={}", part.display());
+            }
+        }
     }
 }

@@ -1,4 +1,6 @@
 // The search for words at every place of a text, with one check of the pool: for bench/run.
+#![tactic(auto)]
+
 ghost use Rattle.bench_prefix_search.specs.Places.{Searched};
 
 use trie_check::{capacity, is_dictionary};

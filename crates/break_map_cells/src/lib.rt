@@ -4,6 +4,8 @@
 //   lowest         where the lowest bit of them is: trailing zeros
 //   first_from     the first break from a position on
 //   count_up_to    the breaks up to and including a position: ones counted
+#![tactic(auto)]
+
 ghost use Rattle.std.specs.Prelude.{◌≡◌, ℕ, ◌*◌, ◌-◌, ◌/◌, ◌%◌, ◌^◌, ◌≤◌, ◌<◌, ◌+◌, length, get_or, set, replicate};
 ghost use Rattle.std.specs.Int.Bits.{bit_or};
 ghost use Rattle.std.specs.Int.Count.{ones, count_trailing_zeros};

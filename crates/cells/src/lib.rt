@@ -3,6 +3,8 @@
 //   shift                     adds a number to the first cells
 //   clear_from, clear_first   sets the cells from a place on to 0, or those before it
 //   copy                      the first cells of one row at the front of another
+#![tactic(auto)]
+
 ghost use Rattle.std.specs.Prelude.{◌≡◌, ◌++◌, map, ℕ, ◌+◌, ◌-◌, ◌≤◌, ◌<◌, length, get_or, take, drop, replicate};
 
 // A cell as a number.

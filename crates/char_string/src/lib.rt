@@ -1,16 +1,18 @@
 // Sub-texts, after `CharString::substring`: parts of the caller's text, and views as a text with a
 // start and an end.
+#![tactic(auto)]
+
 ghost use Rattle.std.specs.Prelude.{◌≡◌, length};
 ghost use Rattle.char_string.specs.Parts.{right_pair, fitted, part_of, cell_at, char_at, sub_view};
 
 // A part of a text: from start up to, and without, end.
-#[derive(Drop)]
+#[derive(Clone, Copy)]
 pub struct Span {
     pub start: usize,
     pub end: usize,
 }
 
-#[derive(Drop)]
+#[derive(Clone, Copy)]
 pub enum CharAt {
     Scalar(u32),
     Nothing,

@@ -1,8 +1,10 @@
 // The last space of a text, after `rfind_space_char_index` of char_string.rs.
+#![tactic(auto)]
+
 ghost use Rattle.std.specs.Prelude.{◌≡◌};
 ghost use Rattle.char_string_last_space.specs.Spaces.{last_space};
 
-#[derive(Drop)]
+#[derive(Clone, Copy)]
 pub enum Found {
     At(usize),
     Nothing,

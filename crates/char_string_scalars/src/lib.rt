@@ -1,4 +1,6 @@
 // Which cells are Unicode scalar values, and which rows of cells are texts.
+#![tactic(auto)]
+
 ghost use Rattle.std.specs.Prelude.{◌≡◌, ℕ, ◌≤◌, get_or};
 ghost use Rattle.char_string_scalars.specs.Scalars.{is_scalar, first_non_scalar, checked};
 

@@ -1,4 +1,6 @@
 // Trimming: a word without the white space at its edges.
+#![tactic(auto)]
+
 ghost use Rattle.std.specs.Prelude.{◌≡◌};
 ghost use Rattle.lists.specs.Scans.{behind_last};
 ghost use Rattle.char_string.specs.Parts.{cell_at};

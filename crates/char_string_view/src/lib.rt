@@ -1,12 +1,14 @@
 // A view over the caller's scalars with a start and an end, after `CharString`. A view whose
 // numbers don't fit is read as empty: what a view shows is `shown`, and every answer is about that.
+#![tactic(auto)]
+
 ghost use Rattle.std.specs.Prelude.{◌≡◌, length};
 ghost use Rattle.char_string.specs.Parts.{part_of, fitted, cell_at, char_at, sub_view};
 ghost use Rattle.char_string_view.specs.Views.{view_of, shown, shown_at, sub_view_of};
 
 use char_string::CharAt;
 
-#[derive(Drop)]
+#[derive(Clone, Copy)]
 pub struct CharView<'a> {
     pub text: &'a [u32],
     pub start: usize,

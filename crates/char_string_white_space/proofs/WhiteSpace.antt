@@ -101,6 +101,7 @@ stays_between x p q =
 -- ---- the 25
 
 all_of : (xs : List ℕ) → leading is_trimmed xs ≡ length xs → (x : ℕ) → In x xs → is_trimmed x ≡ true
+all_of [] e x x4 = elim x4 [ ]
 all_of (y ∷ xs) e x (Memᴰ.head q) = ap is_trimmed q ∙ (leading_all is_trimmed y xs e).0
 all_of (y ∷ xs) e x (Memᴰ.tail m) = all_of xs (leading_all is_trimmed y xs e).1 x m
 

@@ -1,4 +1,6 @@
 // Which characters trimming strips: Unicode's White_Space.
+#![tactic(auto)]
+
 ghost use Rattle.std.specs.Prelude.{◌≡◌};
 ghost use Rattle.char_string_white_space.specs.Trimmed.{is_trimmed};
 

@@ -4,8 +4,7 @@ ghost use Rattle.host_claims.specs.Calls.{told_claim, ClaimTold};
 
 // Checks ends that are claimed for the plain cut of a text: 1, or 0 and the first token that is
 // wrong. Refusals 2 to 5.
-#[unsafe(no_mangle)]
-pub extern "C" fn fetlockice_check_claim(
+pub fn fetlockice_check_claim(
     text: &[u32],
     pool: &[u32],
     claimed: &[u32],

@@ -6,8 +6,7 @@ ghost use Rattle.host_cuts.specs.Calls.{CutTold};
 
 // Cuts a text plainly: the ends of its tokens, in characters, at the front of out; accepted with
 // their number and that of the edges. Refusals 2 to 6.
-#[unsafe(no_mangle)]
-pub extern "C" fn fetlockice_cut_plain(
+pub fn fetlockice_cut_plain(
     text: &[u32],
     pool: &[u32],
     out: &mut [u32],
@@ -25,8 +24,7 @@ pub extern "C" fn fetlockice_cut_plain(
 }
 
 // Cuts a text in safe mode; the rest as in the plain cut.
-#[unsafe(no_mangle)]
-pub extern "C" fn fetlockice_cut_safe(
+pub fn fetlockice_cut_safe(
     text: &[u32],
     pool: &[u32],
     out: &mut [u32],
@@ -44,8 +42,7 @@ pub extern "C" fn fetlockice_cut_safe(
 }
 
 // Cuts a text by the profile "sheet"; the rest as in the plain cut.
-#[unsafe(no_mangle)]
-pub extern "C" fn fetlockice_cut_sheet(
+pub fn fetlockice_cut_sheet(
     text: &[u32],
     pool: &[u32],
     out: &mut [u32],

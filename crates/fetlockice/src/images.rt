@@ -4,8 +4,7 @@ ghost use Rattle.host_images.specs.Calls.{ReadImageTold, WriteImageTold};
 
 // Replaces the words of a dictionary and their classes by those of an image; accepted with their
 // number. Refusals 4, 9, 8.
-#[unsafe(no_mangle)]
-pub extern "C" fn fetlockice_read_image(
+pub fn fetlockice_read_image(
     pool: &mut [u32],
     image: &[u8],
     count: &mut usize,
@@ -19,8 +18,7 @@ pub extern "C" fn fetlockice_read_image(
 
 // Writes the words of a dictionary and their classes as an image to the front of out; accepted with
 // its bytes. Refusals 4, 6.
-#[unsafe(no_mangle)]
-pub extern "C" fn fetlockice_write_image(
+pub fn fetlockice_write_image(
     pool: &[u32],
     out: &mut [u8],
     count: &mut usize,

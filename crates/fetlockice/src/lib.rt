@@ -1,8 +1,11 @@
-// The functions that hosts, written in C or Rust, link: each hands its call on to the function of
-// the same name in a host_ crate, and has that function's contract. No struct crosses.
+// The functions for hosts, written in C or Rust, which link them from fetlockice_c: each hands its
+// call on to the function of the same name in a host_ crate, and has that function's contract. No
+// struct crosses.
+#![tactic(auto)]
+
 mod claims;
 mod cuts;
-mod figures;
+mod feeds;
 mod images;
 mod many;
 mod maps;
@@ -14,7 +17,7 @@ mod words;
 
 pub use claims::fetlockice_check_claim;
 pub use cuts::{fetlockice_cut_plain, fetlockice_cut_safe, fetlockice_cut_sheet};
-pub use figures::{
+pub use feeds::{
     fetlockice_feed_plain, fetlockice_feed_refused, fetlockice_feed_safe, fetlockice_feed_sheet,
     fetlockice_join_figures,
 };

@@ -8,8 +8,7 @@ ghost use Rattle.host_many.specs.Calls.{ManyTold, ManyReasonsTold};
 // text_ends. Four cells of answers for each text: number, count, edges, detail. The ends of all
 // texts one behind the other in out, each in its own text's characters. Accepted with the number of
 // texts. Refusals of the whole call: 10, then 6.
-#[unsafe(no_mangle)]
-pub extern "C" fn fetlockice_cut_many_plain(
+pub fn fetlockice_cut_many_plain(
     texts: &[u32],
     text_ends: &[u32],
     pool: &[u32],
@@ -28,8 +27,7 @@ pub extern "C" fn fetlockice_cut_many_plain(
 }
 
 // Cuts many texts in safe mode; the rest as in the plain cut of many texts.
-#[unsafe(no_mangle)]
-pub extern "C" fn fetlockice_cut_many_safe(
+pub fn fetlockice_cut_many_safe(
     texts: &[u32],
     text_ends: &[u32],
     pool: &[u32],
@@ -48,8 +46,7 @@ pub extern "C" fn fetlockice_cut_many_safe(
 }
 
 // Cuts many texts by the profile "sheet"; the rest as in the plain cut of many texts.
-#[unsafe(no_mangle)]
-pub extern "C" fn fetlockice_cut_many_sheet(
+pub fn fetlockice_cut_many_sheet(
     texts: &[u32],
     text_ends: &[u32],
     pool: &[u32],
@@ -72,8 +69,7 @@ pub extern "C" fn fetlockice_cut_many_sheet(
 // count is that of the text's tokens; for each of them two cells of pairs, its end in its own
 // text's characters and its reason, those of all texts one behind the other. Accepted with the
 // number of texts. Refusals of the whole call: 10, then 6. 6 of a text counts pairs.
-#[unsafe(no_mangle)]
-pub extern "C" fn fetlockice_reasons_many_plain(
+pub fn fetlockice_reasons_many_plain(
     texts: &[u32],
     text_ends: &[u32],
     pool: &[u32],
@@ -94,8 +90,7 @@ pub extern "C" fn fetlockice_reasons_many_plain(
 }
 
 // The same in safe mode. A reason is about the part.
-#[unsafe(no_mangle)]
-pub extern "C" fn fetlockice_reasons_many_safe(
+pub fn fetlockice_reasons_many_safe(
     texts: &[u32],
     text_ends: &[u32],
     pool: &[u32],
@@ -116,8 +111,7 @@ pub extern "C" fn fetlockice_reasons_many_safe(
 }
 
 // The same by the profile "sheet".
-#[unsafe(no_mangle)]
-pub extern "C" fn fetlockice_reasons_many_sheet(
+pub fn fetlockice_reasons_many_sheet(
     texts: &[u32],
     text_ends: &[u32],
     pool: &[u32],

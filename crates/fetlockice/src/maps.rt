@@ -4,8 +4,7 @@ ghost use Rattle.host_maps.specs.Calls.{told_next, MapTold, CountTold, NextTold}
 
 // Writes the map of the ends of a text of n characters; accepted with the cells that it takes.
 // Refusals 2, 6, 10.
-#[unsafe(no_mangle)]
-pub extern "C" fn fetlockice_break_map(
+pub fn fetlockice_break_map(
     n: usize,
     ends: &[u32],
     map: &mut [u64],
@@ -19,8 +18,7 @@ pub extern "C" fn fetlockice_break_map(
 }
 
 // The number of breaks up to and including a position. Refusals 2, 6, 10, 11.
-#[unsafe(no_mangle)]
-pub extern "C" fn fetlockice_breaks_up_to(
+pub fn fetlockice_breaks_up_to(
     n: usize,
     map: &[u64],
     position: usize,
@@ -33,8 +31,7 @@ pub extern "C" fn fetlockice_breaks_up_to(
 }
 
 // The first break above a position: 1 and where it is, or 0. Refusals 2, 6, 10, 11.
-#[unsafe(no_mangle)]
-pub extern "C" fn fetlockice_next_break(
+pub fn fetlockice_next_break(
     n: usize,
     map: &[u64],
     position: usize,

@@ -10,8 +10,7 @@ ghost use Rattle.host_plants_images.specs.Calls.{PlantReadImageTold, PlantWriteI
 
 // Makes two dictionaries without words, each with a limit in nodes, whatever the cells held before.
 // Refusals 8, 12.
-#[unsafe(no_mangle)]
-pub extern "C" fn fetlockice_plants_start(
+pub fn fetlockice_plants_start(
     pool: &mut [u32],
     limit_a: usize,
     limit_b: usize,
@@ -26,8 +25,7 @@ pub extern "C" fn fetlockice_plants_start(
 
 // Adds the trimmed word with its class to a plant's own; accepted with 1 if its words or their
 // classes changed, else 0. Refusals 2, 3, 4, 7, 8.
-#[unsafe(no_mangle)]
-pub extern "C" fn fetlockice_plant_add(
+pub fn fetlockice_plant_add(
     pool: &mut [u32],
     plant_b: bool,
     word: &[u32],
@@ -43,8 +41,7 @@ pub extern "C" fn fetlockice_plant_add(
 
 // Removes the trimmed word from a plant's own; accepted with 1 if its words changed, else 0.
 // Refusals 2, 3, 4, 7.
-#[unsafe(no_mangle)]
-pub extern "C" fn fetlockice_plant_remove(
+pub fn fetlockice_plant_remove(
     pool: &mut [u32],
     plant_b: bool,
     word: &[u32],
@@ -59,8 +56,7 @@ pub extern "C" fn fetlockice_plant_remove(
 
 // Accepted with 1 if the plant holds the word as it is, else 0; and the word's class: 0 with a no
 // and with a refusal. Refusals 2, 3, 4.
-#[unsafe(no_mangle)]
-pub extern "C" fn fetlockice_plant_contains(
+pub fn fetlockice_plant_contains(
     pool: &[u32],
     plant_b: bool,
     word: &[u32],
@@ -76,8 +72,7 @@ pub extern "C" fn fetlockice_plant_contains(
 
 // The lengths of the plant's words that a text starts with, rising, at the front of out; accepted
 // with their number. Refusals 2, 3, 4, 6.
-#[unsafe(no_mangle)]
-pub extern "C" fn fetlockice_plant_prefix_lengths(
+pub fn fetlockice_plant_prefix_lengths(
     pool: &[u32],
     plant_b: bool,
     text: &[u32],
@@ -92,8 +87,7 @@ pub extern "C" fn fetlockice_plant_prefix_lengths(
 }
 
 // Accepted with the number of the plant's words. Refusal 4.
-#[unsafe(no_mangle)]
-pub extern "C" fn fetlockice_plant_word_count(
+pub fn fetlockice_plant_word_count(
     pool: &[u32],
     plant_b: bool,
     count: &mut usize,
@@ -107,8 +101,7 @@ pub extern "C" fn fetlockice_plant_word_count(
 
 // Cuts a text plainly by the words of a plant: the ends of its tokens, in characters, at the front
 // of out; accepted with their number and that of the edges. Refusals 2 to 6.
-#[unsafe(no_mangle)]
-pub extern "C" fn fetlockice_plant_cut_plain(
+pub fn fetlockice_plant_cut_plain(
     text: &[u32],
     pool: &[u32],
     plant_b: bool,
@@ -127,8 +120,7 @@ pub extern "C" fn fetlockice_plant_cut_plain(
 }
 
 // The same in safe mode.
-#[unsafe(no_mangle)]
-pub extern "C" fn fetlockice_plant_cut_safe(
+pub fn fetlockice_plant_cut_safe(
     text: &[u32],
     pool: &[u32],
     plant_b: bool,
@@ -147,8 +139,7 @@ pub extern "C" fn fetlockice_plant_cut_safe(
 }
 
 // The same by the profile "sheet".
-#[unsafe(no_mangle)]
-pub extern "C" fn fetlockice_plant_cut_sheet(
+pub fn fetlockice_plant_cut_sheet(
     text: &[u32],
     pool: &[u32],
     plant_b: bool,
@@ -169,8 +160,7 @@ pub extern "C" fn fetlockice_plant_cut_sheet(
 // Cuts a text plainly by the words of a plant, with reasons: for each token a pair of cells at the
 // front of pairs, its end in characters and its reason; accepted with the number of pairs and that
 // of the edges. Refusals 2 to 6; 6 counts pairs.
-#[unsafe(no_mangle)]
-pub extern "C" fn fetlockice_plant_reasons_plain(
+pub fn fetlockice_plant_reasons_plain(
     text: &[u32],
     pool: &[u32],
     plant_b: bool,
@@ -189,8 +179,7 @@ pub extern "C" fn fetlockice_plant_reasons_plain(
 }
 
 // The same in safe mode. A reason is about the part.
-#[unsafe(no_mangle)]
-pub extern "C" fn fetlockice_plant_reasons_safe(
+pub fn fetlockice_plant_reasons_safe(
     text: &[u32],
     pool: &[u32],
     plant_b: bool,
@@ -209,8 +198,7 @@ pub extern "C" fn fetlockice_plant_reasons_safe(
 }
 
 // The same by the profile "sheet".
-#[unsafe(no_mangle)]
-pub extern "C" fn fetlockice_plant_reasons_sheet(
+pub fn fetlockice_plant_reasons_sheet(
     text: &[u32],
     pool: &[u32],
     plant_b: bool,
@@ -230,8 +218,7 @@ pub extern "C" fn fetlockice_plant_reasons_sheet(
 
 // Replaces the words of a plant and their classes by those of an image; accepted with their number.
 // Refusals 4, 9, 8.
-#[unsafe(no_mangle)]
-pub extern "C" fn fetlockice_plant_read_image(
+pub fn fetlockice_plant_read_image(
     pool: &mut [u32],
     plant_b: bool,
     image: &[u8],
@@ -246,8 +233,7 @@ pub extern "C" fn fetlockice_plant_read_image(
 
 // Writes the words of a plant and their classes as an image to the front of out; accepted with its
 // bytes. Refusals 4, 6.
-#[unsafe(no_mangle)]
-pub extern "C" fn fetlockice_plant_write_image(
+pub fn fetlockice_plant_write_image(
     pool: &[u32],
     plant_b: bool,
     out: &mut [u8],

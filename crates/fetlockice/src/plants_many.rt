@@ -10,8 +10,7 @@ ghost use Rattle.host_plants_many.specs.Calls.{PlantManyTold, PlantManyReasonsTo
 // texts, and end there at text_ends. Four cells of answers for each text: number, count, edges,
 // detail. The ends of all texts one behind the other in out, each in its own text's characters.
 // Accepted with the number of texts. Refusals of the whole call: 10, then 6.
-#[unsafe(no_mangle)]
-pub extern "C" fn fetlockice_plant_cut_many_plain(
+pub fn fetlockice_plant_cut_many_plain(
     texts: &[u32],
     text_ends: &[u32],
     pool: &[u32],
@@ -34,8 +33,7 @@ pub extern "C" fn fetlockice_plant_cut_many_plain(
 }
 
 // The same in safe mode.
-#[unsafe(no_mangle)]
-pub extern "C" fn fetlockice_plant_cut_many_safe(
+pub fn fetlockice_plant_cut_many_safe(
     texts: &[u32],
     text_ends: &[u32],
     pool: &[u32],
@@ -58,8 +56,7 @@ pub extern "C" fn fetlockice_plant_cut_many_safe(
 }
 
 // The same by the profile "sheet".
-#[unsafe(no_mangle)]
-pub extern "C" fn fetlockice_plant_cut_many_sheet(
+pub fn fetlockice_plant_cut_many_sheet(
     texts: &[u32],
     text_ends: &[u32],
     pool: &[u32],
@@ -85,8 +82,7 @@ pub extern "C" fn fetlockice_plant_cut_many_sheet(
 // cut of many texts, but a text's count is that of its tokens, and for each of them two cells of
 // pairs are written, its end and its reason. Refusals of the whole call: 10, then 6. 6 of a text
 // counts pairs.
-#[unsafe(no_mangle)]
-pub extern "C" fn fetlockice_plant_reasons_many_plain(
+pub fn fetlockice_plant_reasons_many_plain(
     texts: &[u32],
     text_ends: &[u32],
     pool: &[u32],
@@ -109,8 +105,7 @@ pub extern "C" fn fetlockice_plant_reasons_many_plain(
 }
 
 // The same in safe mode. A reason is about the part.
-#[unsafe(no_mangle)]
-pub extern "C" fn fetlockice_plant_reasons_many_safe(
+pub fn fetlockice_plant_reasons_many_safe(
     texts: &[u32],
     text_ends: &[u32],
     pool: &[u32],
@@ -133,8 +128,7 @@ pub extern "C" fn fetlockice_plant_reasons_many_safe(
 }
 
 // The same by the profile "sheet".
-#[unsafe(no_mangle)]
-pub extern "C" fn fetlockice_plant_reasons_many_sheet(
+pub fn fetlockice_plant_reasons_many_sheet(
     texts: &[u32],
     text_ends: &[u32],
     pool: &[u32],

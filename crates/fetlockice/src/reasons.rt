@@ -7,8 +7,7 @@ ghost use Rattle.host_reasons.specs.Calls.{ReasonsTold};
 // Cuts a text plainly, with reasons: for each token a pair of cells at the front of pairs, its end
 // in characters and its reason; accepted with the number of pairs and that of the edges. Refusals 2
 // to 6; 6 counts pairs.
-#[unsafe(no_mangle)]
-pub extern "C" fn fetlockice_reasons_plain(
+pub fn fetlockice_reasons_plain(
     text: &[u32],
     pool: &[u32],
     pairs: &mut [u32],
@@ -26,8 +25,7 @@ pub extern "C" fn fetlockice_reasons_plain(
 }
 
 // The same in safe mode. A reason is about the part.
-#[unsafe(no_mangle)]
-pub extern "C" fn fetlockice_reasons_safe(
+pub fn fetlockice_reasons_safe(
     text: &[u32],
     pool: &[u32],
     pairs: &mut [u32],
@@ -45,8 +43,7 @@ pub extern "C" fn fetlockice_reasons_safe(
 }
 
 // The same by the profile "sheet".
-#[unsafe(no_mangle)]
-pub extern "C" fn fetlockice_reasons_sheet(
+pub fn fetlockice_reasons_sheet(
     text: &[u32],
     pool: &[u32],
     pairs: &mut [u32],

@@ -5,8 +5,7 @@ ghost use Rattle.host_winners.specs.Calls.{WinnersTold};
 
 // The scalars of UTF-8 bytes, at the front of out, and the byte position of each and of the end, at
 // the front of positions; accepted with the number of scalars. Refusals 1, 2, 6.
-#[unsafe(no_mangle)]
-pub extern "C" fn fetlockice_decode(
+pub fn fetlockice_decode(
     bytes: &[u8],
     out: &mut [u32],
     positions: &mut [u32],
@@ -21,8 +20,7 @@ pub extern "C" fn fetlockice_decode(
 
 // An end in bytes, of a text of n characters with that position row: found 1 and its place, or 0
 // and 0 where the end has none. Never refused.
-#[unsafe(no_mangle)]
-pub extern "C" fn fetlockice_end_in_bytes(
+pub fn fetlockice_end_in_bytes(
     positions: &[u32],
     n: usize,
     end: usize,
@@ -37,8 +35,7 @@ pub extern "C" fn fetlockice_end_in_bytes(
 
 // The ends of a text's clusters, in characters, at the front of out; accepted with their number.
 // Refusals 2, 3, 6.
-#[unsafe(no_mangle)]
-pub extern "C" fn fetlockice_clusters(
+pub fn fetlockice_clusters(
     text: &[u32],
     out: &mut [u32],
     count: &mut usize,
@@ -52,8 +49,7 @@ pub extern "C" fn fetlockice_clusters(
 
 // The ends of a text's clusters, in characters, at the front of ends, and the numbers of the
 // alternatives that won them at the front of winners; accepted with their number. Refusals 2, 3, 6.
-#[unsafe(no_mangle)]
-pub extern "C" fn fetlockice_winners(
+pub fn fetlockice_winners(
     text: &[u32],
     ends: &mut [u32],
     winners: &mut [u32],

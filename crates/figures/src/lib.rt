@@ -1,4 +1,6 @@
 // Release figures: fed one text at a time, and two batches in one.
+#![tactic(auto)]
+
 ghost use Rattle.std.specs.Prelude.{◌≡◌};
 ghost use Rattle.newmm_answers.specs.Calls.{call};
 ghost use Rattle.figures.specs.Calls.{Feeds, FeedsRefused, Joins};

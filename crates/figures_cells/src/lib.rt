@@ -2,6 +2,8 @@
 //   of_cut, of_refused   the figures of one text
 //   is_full              whether a figure of two batches would pass its limit
 //   join_cells           two batches in one
+#![tactic(auto)]
+
 ghost use Rattle.std.specs.Prelude.{◌≡◌, false, ◌≤◌, length, take, ltb};
 ghost use Rattle.figures_rules.specs.Figures.{figure_count, join_cell, joined, limit, full};
 ghost use Rattle.figures_rules.specs.Outcomes.{of_cut, of_refused, Reasons};

@@ -1,5 +1,6 @@
 // Release figures: what they are, how two batches of them are joined, and what a run of texts
 // gives. The definitions that the contracts and the theorems cite stand in specs/.
+#![tactic(auto)]
 
 // How many figures there are, and where each of them stands. Tokens by reason 1 to 5 stand in the
 // cells behind the tokens, texts refused with 1 to 6 in the last six.

@@ -1,4 +1,6 @@
 // Checking a claim, as hosts are told it.
+#![tactic(auto)]
+
 ghost use Rattle.std.specs.Prelude.{◌≡◌};
 ghost use Rattle.newmm_claim.specs.Answers.{claim};
 ghost use Rattle.host_claims.specs.Calls.{told_claim, tells_claim, ClaimTold};

@@ -1,4 +1,6 @@
 // Word list images, as hosts are told of them.
+#![tactic(auto)]
+
 ghost use Rattle.host_telling.specs.Told.{told};
 ghost use Rattle.host_images.specs.Calls.{ReadImageTold, WriteImageTold};
 

@@ -1,4 +1,6 @@
 // Maps of breaks, as hosts are told of them.
+#![tactic(auto)]
+
 ghost use Rattle.std.specs.Prelude.{◌≡◌};
 ghost use Rattle.host_telling.specs.Told.{told};
 ghost use Rattle.host_maps.specs.Calls.{told_next, tells_next, MapTold, CountTold, NextTold};

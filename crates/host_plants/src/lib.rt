@@ -1,4 +1,6 @@
 // The dictionaries of two plants in one pool, as hosts are told them.
+#![tactic(auto)]
+
 ghost use Rattle.std.specs.Prelude.{◌≡◌};
 ghost use Rattle.host_telling.specs.Told.{told};
 ghost use Rattle.host_plants.specs.Calls.{plant_of, StartTold, PlantAddTold, PlantRemoveTold};

@@ -1,4 +1,6 @@
 // Word list images of a plant, as hosts are told of them.
+#![tactic(auto)]
+
 ghost use Rattle.host_telling.specs.Told.{told};
 ghost use Rattle.host_plants.specs.Calls.{plant_of};
 ghost use Rattle.host_plants_images.specs.Calls.{PlantReadImageTold, PlantWriteImageTold};

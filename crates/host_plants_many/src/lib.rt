@@ -1,5 +1,7 @@
 // Cutting many texts in one call by the words of a plant, as hosts are told it: a function for each
 // mode, and for each with reasons.
+#![tactic(auto)]
+
 mod cuts;
 mod reasons;
 

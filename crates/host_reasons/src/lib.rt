@@ -1,4 +1,6 @@
 // Cutting with reasons, as hosts are told it: a function for each mode.
+#![tactic(auto)]
+
 ghost use Rattle.newmm_rules.specs.declared.Mode.TheVariants.{Plain, Safe, Sheet};
 ghost use Rattle.newmm_answers.specs.Calls.{call};
 ghost use Rattle.host_telling.specs.Told.{told_cut};

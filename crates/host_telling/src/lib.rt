@@ -1,5 +1,7 @@
 // An answer as a host is told it: the refusal's number as the result, the other numbers behind
 // references.
+#![tactic(auto)]
+
 ghost use Rattle.std.specs.Prelude.{◌≡◌};
 ghost use Rattle.host_telling.specs.Told.{told, told_cut, tells, tells_cut};
 

@@ -1,4 +1,6 @@
 // Bytes, scalars and clusters, as hosts are told them.
+#![tactic(auto)]
+
 ghost use Rattle.host_telling.specs.Told.{told};
 ghost use Rattle.host_texts.specs.Calls.{DecodeTold, told_end, EndTold, ClustersTold};
 

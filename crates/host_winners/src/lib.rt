@@ -1,4 +1,6 @@
 // Clusters and the alternatives that won them, as hosts are told them.
+#![tactic(auto)]
+
 ghost use Rattle.host_telling.specs.Told.{told};
 ghost use Rattle.host_winners.specs.Calls.{WinnersTold};
 

@@ -1,4 +1,6 @@
 // The dictionary, as hosts are told it.
+#![tactic(auto)]
+
 ghost use Rattle.std.specs.Prelude.{◌≡◌};
 ghost use Rattle.host_telling.specs.Told.{told};
 ghost use Rattle.host_words.specs.Calls.{FreshTold, AddTold, RemoveTold, held_answer, ContainsTold};

@@ -1,5 +1,7 @@
 // Makes a dictionary that of an image that is as said. It stands in one half of a pool's nodes, and
 // what is beside it stays.
+#![tactic(auto)]
+
 ghost use Rattle.std.specs.Prelude.{◌≡◌};
 ghost use Rattle.trie_pool.specs.Cells.{used};
 ghost use Rattle.trie_leaf.specs.inner.Planting.{Beside};

@@ -1,4 +1,6 @@
 // Bytes at a place of a row: numbers, little-endian, a scalar in UTF-8, the bytes of another row.
+#![tactic(auto)]
+
 ghost use Rattle.std.specs.Prelude.{◌≡◌, ◌+◌, ◌%◌, ◌≤◌, ◌<◌, length};
 ghost use Rattle.utf8_sequences.specs.Utf8.{bytes_of};
 ghost use Rattle.image_rules.specs.Records.{le};

@@ -1,4 +1,6 @@
 // Puts the words of an image that is as said into a pool.
+#![tactic(auto)]
+
 ghost use Rattle.std.specs.Prelude.{◌≡◌};
 ghost use Rattle.trie_pool.specs.Cells.{used};
 ghost use Rattle.trie_leaf.specs.inner.Planting.{Beside};

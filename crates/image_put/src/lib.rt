@@ -1,4 +1,6 @@
 // A record of an image at a place of a row.
+#![tactic(auto)]
+
 ghost use Rattle.std.specs.Prelude.{◌≡◌, ◌++◌, ◌+◌, ◌≤◌, length};
 ghost use Rattle.image_rules.specs.Records.{le, record_of, last_record};
 ghost use Rattle.image_bytes.specs.inner.Laying.{laid_at};

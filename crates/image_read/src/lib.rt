@@ -1,4 +1,6 @@
 // One pass over a word list image: whether it is as said, and how many nodes its words need.
+#![tactic(auto)]
+
 ghost use Rattle.std.specs.Prelude.{ℕ, ◌≤◌, ◌<◌, length, get_or};
 ghost use Rattle.image_read.specs.inner.Surveys.{Ready, Raises, Surveys};
 
@@ -7,7 +9,7 @@ use image_word::{Taken, take_word};
 
 // The number of words and of nodes beside the root; or the offset of the first record that breaks a
 // rule.
-#[derive(Drop)]
+#[derive(Clone, Copy)]
 pub enum Surveyed {
     Right { words: usize, nodes: usize },
     Broken(usize),

@@ -1,10 +1,12 @@
 // The record at a place of a word list image.
+#![tactic(auto)]
+
 ghost use Rattle.std.specs.Prelude.{◌≡◌, ◌+◌, ◌≤◌, length, take, drop};
 ghost use Rattle.image_rules.specs.Records.{value};
 ghost use Rattle.image_record.specs.inner.Records.{Says};
 
 // Kind 1, its class and where its word's bytes stand; kind 0 and its number; or neither.
-#[derive(Drop)]
+#[derive(Clone, Copy)]
 pub enum Record {
     Word {
         class: usize,

@@ -1,1 +1,2 @@
 // Word list images: the definitions, what an image says, and what words an image holds.
+#![tactic(auto)]

@@ -1,4 +1,6 @@
 // The bytes that the image of a dictionary takes.
+#![tactic(auto)]
+
 ghost use Rattle.std.specs.Prelude.{◌≡◌, List, [], ℕ, ◌+◌, ◌*◌, ◌≤◌, length};
 ghost use Rattle.utf8_sequences.specs.Utf8.{encode};
 ghost use Rattle.trie_pool.specs.Cells.{mark_at, used};

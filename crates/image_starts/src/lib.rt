@@ -1,4 +1,6 @@
 // Where the levels of a trie start, by how many nodes each has.
+#![tactic(auto)]
+
 ghost use Rattle.image_starts.specs.inner.Starts.{Counts, Begins};
 
 // Turns the numbers of nodes of the levels into their first free nodes, the root alone standing.

@@ -1,4 +1,6 @@
 // The word of a record, held against the word before it.
+#![tactic(auto)]
+
 ghost use Rattle.std.specs.Prelude.{◌≡◌, ◌≤◌, length, take};
 ghost use Rattle.image_rules.specs.Order.{below, common};
 ghost use Rattle.image_word.specs.inner.Words.{Rows, Decodes, Takes};
@@ -10,7 +12,7 @@ use utf8::decode;
 
 // A word that may stand where it does, its length and how many characters it shares with the word
 // before it; or no such word.
-#[derive(Drop)]
+#[derive(Clone, Copy)]
 pub enum Taken {
     Word { size: usize, shared: usize },
     Nothing,

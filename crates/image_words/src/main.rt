@@ -2,11 +2,13 @@
 // standard output in their order, a word to a line, with a tab and its class in decimal behind a
 // word of another class than 0. A refusal, or a read or a write that fails, is told in a line on
 // standard error; no word is written where the image is refused.
+#![tactic(auto)]
+
 use image_record::{Record, record_at};
-use libc::STDERR_FILENO;
 use refusal::{Answer, Refusal};
 use sheet_bytes::front;
 use sheet_io::{Got, read_some, write_whole};
+use std::io::{Read, Write};
 use word_lines::write_line;
 use word_list::read_image;
 
@@ -19,32 +21,40 @@ const POOL: usize = 262144;
 // A word of 255 characters, a tab, five digits and a line feed.
 const LINE: usize = 1027;
 
-fn main() {
+fn main(rt: HostRuntime) {
     let mut image = [0u8; IMAGE];
     let mut pool = [0u32; POOL];
-    let got = read_all(&mut image);
+    let mut input = rt.stdin();
+    let mut output = rt.stdout();
+    let told = rt.stderr();
+    let got = read_all(&told, &mut input, &mut image);
     let Got::Bytes(n) = got else {
         return;
     };
     if IMAGE <= n {
-        io::write_all(STDERR_FILENO, b"image_words: the image is too long\n");
+        let _ = println!(told; "image_words: the image is too long");
         return;
     }
     trie_char::fresh(&mut pool);
     let answer = read_image(&mut pool, front(&image, n));
     match answer {
         Answer::Accepted(_) => {
-            list(front(&image, n));
+            list(&told, &mut output, front(&image, n));
         }
-        Answer::Refused(r) => tell_refusal(r),
+        Answer::Refused(r) => tell_refusal(&told, r),
     }
 }
 
 // Reads to the end of the input, or until the row is full.
-fn read_all(image: &mut [u8]) -> Got {
+fn read_all<P: Print, R: Read>(told: &P, input: &mut R, image: &mut [u8]) -> Got {
     let mut n = 0;
     while n < image.len() {
-        let got = read_some(&mut image[n..], b"image_words: reading standard input");
+        let got = read_some(
+            told,
+            input,
+            &mut image[n..],
+            b"image_words: reading standard input",
+        );
         let Got::Bytes(k) = got else {
             return Got::Failed;
         };
@@ -60,7 +70,7 @@ fn read_all(image: &mut [u8]) -> Got {
 }
 
 // Writes the words of an image that is right; false where a write fails.
-fn list(image: &[u8]) -> bool {
+fn list<P: Print, W: Write>(told: &P, output: &mut W, image: &[u8]) -> bool {
     let mut line = [0u8; LINE];
     let mut at = 0;
     while at < image.len() {
@@ -69,7 +79,12 @@ fn list(image: &[u8]) -> bool {
             return true;
         };
         let n = write_line(&image[from..to], class, &mut line);
-        if !write_whole(front(&line, n), b"image_words: writing standard output") {
+        if !write_whole(
+            told,
+            output,
+            front(&line, n),
+            b"image_words: writing standard output",
+        ) {
             return false;
         }
         at = to;
@@ -77,10 +92,8 @@ fn list(image: &[u8]) -> bool {
     true
 }
 
-fn tell_refusal(r: Refusal) {
-    io::write_all(STDERR_FILENO, b"image_words: refusal ");
-    io::print_decimal(STDERR_FILENO, refusal::number(r) as u64);
-    io::write_all(STDERR_FILENO, b", detail ");
-    io::print_decimal(STDERR_FILENO, refusal::detail(r) as u64);
-    io::write_all(STDERR_FILENO, b"\n");
+fn tell_refusal<P: Print>(told: &P, r: Refusal) {
+    let number = refusal::number(r);
+    let detail = refusal::detail(r);
+    let _ = println!(told; "image_words: refusal {number}, detail {detail}");
 }

@@ -1,4 +1,6 @@
 // Writes the image of a dictionary.
+#![tactic(auto)]
+
 ghost use Rattle.std.specs.Prelude.{◌≡◌, List, [], ℕ, ◌+◌, ◌≤◌, length, take};
 ghost use Rattle.utf8_sequences.specs.Utf8.{encode};
 ghost use Rattle.trie_pool.specs.Cells.{used};

@@ -1,1 +1,2 @@
 // Laws on lists that the other crates' proofs cite: see proofs/.
+#![tactic(auto)]

@@ -1,4 +1,6 @@
 // Cutting a text into words, after newmm.rs: the call that a host makes.
+#![tactic(auto)]
+
 ghost use Rattle.std.specs.Prelude.{length};
 ghost use Rattle.newmm_answers.specs.Calls.{call, Cuts};
 ghost use Rattle.newmm_answers.specs.inner.Passing.{in_view, Sees, Blank, CutsBy};

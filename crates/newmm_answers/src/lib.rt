@@ -1,5 +1,7 @@
 // What the public cut answers: the definitions that its contract and the demands cite stand in
 // specs/.
+#![tactic(auto)]
+
 ghost use Rattle.std.specs.Prelude.{◌≡◌, ◌≤◌, length};
 ghost use Rattle.refusal.specs.Answers.{answer};
 ghost use Rattle.trie_pool.specs.Meaning.{meaning};
@@ -10,7 +12,7 @@ use trie_check::check;
 
 // What a cut answers: the number of ends and the number of edges recorded in the whole call, or why
 // it was refused.
-#[derive(Drop)]
+#[derive(Clone, Copy)]
 pub enum CutAnswer {
     Ends(usize, usize),
     Refused(Refusal),

@@ -54,8 +54,8 @@ led G H a goal has (edge {x = x} {z = z} r m) = let h = has x z m in by_edge (le
 -- where a member of a list stands
 in_cell : {y : ℕ} (l : List ℕ) → In y l → (j : ℕ) × (j < length l) × (get_or l j 0 ≡ y)
 in_cell [] m = absurd (Memᴰ.not-nil m)
-in_cell (x ∷ l) m =
-    ⊎_elim (λ e. (0, omega arith, sym e)) (λ k. let i = in_cell l k in (suc i.0, (let o = i.1 in omega arith), i.2)) (Memᴰ.cases_cons m)
+in_cell {y} (x ∷ l) m =
+    ⊎_elim (λ e. (0, omega arith, sym e)) (λ (k : In y l). let i : (j : ℕ) × (j < length l) × (get_or l j 0 ≡ y) = in_cell l k in (suc i.0, (let o = i.1 in omega arith), i.2)) (Memᴰ.cases_cons m)
 
 module _ {row : List ℕ} {m start goal : ℕ} (s : Start row m start goal) where
   edge_spans : (v y : ℕ) → start ≤ v → v < goal → In y (graph_in row m v) → (v < y) × (y ≤ goal)

@@ -42,13 +42,16 @@ one_way {f} {b = b} (step {v = v} {x = x} {es = es} l e d t) (step {v = u} {es =
     let n : length es ≡ length fs = omega (arith, ap length d, ap length c, length-append es (x ∷ []), length-append fs (x ∷ [])) in
     d ∙ ap (λ (l : List ℕ). l ++ (x ∷ [])) (one_way t (subst (λ (y : ℕ). Trace f b y fs) (sym w) s) n) ∙ sym c
 
-pub one_home : {f : ℕ → ℕ} {a x : ℕ} {es ds : List ℕ} → Trace f a x es → Trace f a x ds → length es ≡ length ds
-one_home home home = refl
-one_home home (step l e d t) = absurd (omega (arith, short t))
-one_home (step l e d t) home = absurd (omega (arith, short t))
-one_home {f} {a} (step {v = v} {x = x} {es = es} l e d t) (step {v = u} {es = fs} k q c s) =
+one_home_at : {f : ℕ → ℕ} {a b x : ℕ} {es ds : List ℕ} → Trace f a x es → Trace f b x ds → a ≡ b → length es ≡ length ds
+one_home_at home home q = refl
+one_home_at home (step l e d t) q = absurd (omega (arith, short t))
+one_home_at (step l e d t) home q = absurd (omega (arith, short t))
+one_home_at {f} {a} {b} (step {v = v} {x = x} {es = es} l e d t) (step {v = u} {es = fs} k q c s) n =
     let w : v ≡ u = omega arith in
-    omega (arith, one_home t (subst (λ (y : ℕ). Trace f a y fs) (sym w) s), ap length d, ap length c, length-append es (x ∷ []), length-append fs (x ∷ []))
+    omega (arith, one_home_at t (subst (λ (y : ℕ). Trace f b y fs) (sym w) s) n, ap length d, ap length c, length-append es (x ∷ []), length-append fs (x ∷ []))
+
+pub one_home : {f : ℕ → ℕ} {a x : ℕ} {es ds : List ℕ} → Trace f a x es → Trace f a x ds → length es ≡ length ds
+one_home t u = one_home_at t u refl
 
 -- ---- counting them
 

@@ -1,6 +1,8 @@
 // The strips of the scratch, and the breadth-first search of plain cutting in them. An edge between
 // the start and the goal is read once, and cells of other places are not touched, so nothing has to
 // be cleared between two searches.
+#![tactic(auto)]
+
 ghost use Rattle.std.specs.Prelude.{◌≡◌, ◌<◌, ◌≤◌, ◌+◌};
 ghost use Rattle.newmm_bfs.specs.inner.Strips.{Sized, tail_after, row_after, Start, Kept, Path};
 ghost use Rattle.newmm_bfs.specs.inner.Ways.{Traced, TracedBy, Reaches, LengthIs, PutIs};

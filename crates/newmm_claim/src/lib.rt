@@ -1,4 +1,6 @@
 // Checking a claim: ends that someone else gives for the plain cut of a text.
+#![tactic(auto)]
+
 ghost use Rattle.std.specs.Prelude.{◌≡◌, length};
 ghost use Rattle.trie_pool.specs.Meaning.{meaning};
 ghost use Rattle.newmm_answers.specs.inner.Passing.{Passes};
@@ -19,7 +21,7 @@ use trie_pool::NODE;
 
 // What the check of a claim answers: it is right; the first token that is not, counted from 0; or
 // why the call was refused.
-#[derive(Drop)]
+#[derive(Clone, Copy)]
 pub enum ClaimAnswer {
     Right,
     Wrong(usize),

@@ -1,5 +1,7 @@
 // Step 1 of plain cutting: the words at a place become edges and candidates, in strips of the
 // scratch.
+#![tactic(auto)]
+
 ghost use Rattle.std.specs.Prelude.{◌≡◌};
 ghost use Rattle.newmm_bfs.specs.inner.Strips.{Sized};
 ghost use Rattle.newmm_edges.specs.inner.Recording.{row_after, progress_after, Room, Here, Alone, RecordsAll};
@@ -11,7 +13,7 @@ use newmm_word_step::{Step, word_limit, word_step};
 
 // The numbers of a cutting call: the edges since the last clearing, the candidates left, and the
 // edges recorded in the whole call.
-#[derive(Drop)]
+#[derive(Clone, Copy)]
 pub struct Progress {
     pub edges: usize,
     pub left: usize,

@@ -1,5 +1,7 @@
 // Cutting many texts in one call, with one check of the pool: for each text what a single call
 // would answer and leave.
+#![tactic(auto)]
+
 ghost use Rattle.std.specs.Prelude.{◌≡◌, true, ◌≤◌, length};
 ghost use Rattle.trie_pool.specs.Meaning.{meaning};
 ghost use Rattle.trie_pool.specs.inner.Sound.{Readable};

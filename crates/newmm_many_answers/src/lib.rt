@@ -1,5 +1,7 @@
 // What a call with many texts answers: the definitions that the contracts and the theorems cite
 // stand in specs/. The test of the whole call, and the four cells of an answer.
+#![tactic(auto)]
+
 ghost use Rattle.std.specs.Prelude.{◌≡◌, ◌∷◌, ◌++◌, ◌*◌, ◌≤◌, length, drop};
 ghost use Rattle.refusal.specs.Answers.{answer};
 ghost use Rattle.newmm_many_answers.specs.Texts.{first_wrong};
@@ -16,7 +18,7 @@ use refusal::{Answer, Refusal, detail, number};
 pub const ANSWER: usize = 4;
 
 // What a call with many texts writes for a token: its end, or a pair of its end and its reason.
-#[derive(Drop)]
+#[derive(Clone, Copy)]
 pub enum Wanted {
     Ends,
     Pairs,

@@ -1,5 +1,7 @@
 // One of many texts: what a single call would answer and leave, by a view of a pool of which it is
 // known whether it can be read.
+#![tactic(auto)]
+
 ghost use Rattle.std.specs.Prelude.{◌≡◌, true, length, replicate};
 ghost use Rattle.refusal.specs.Answers.{answer};
 ghost use Rattle.trie_pool.specs.inner.Sound.{Readable};
@@ -20,7 +22,7 @@ use newmm_told::tell_ready;
 use refusal::{Answer, Refusal};
 
 // A text's answer, and whether scratch is known to be all 0 behind it.
-#[derive(Drop)]
+#[derive(Clone, Copy)]
 pub struct Turn {
     pub told: CutAnswer,
     pub blank: bool,

@@ -1,5 +1,7 @@
 // NON_THAI_PATTERN, as an ordered matcher at the start of a part of a text. Each character is read
 // once.
+#![tactic(auto)]
+
 ghost use Rattle.std.specs.Prelude.{◌≡◌, ◌+◌, ◌≤◌, Bool, ltb};
 ghost use Rattle.lists.specs.Scans.{within, leading};
 ghost use Rattle.newmm_rules.specs.NonThai.{is_letter, is_point, is_blank, group_of, number, line_end, non_thai};

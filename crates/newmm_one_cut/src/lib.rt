@@ -1,4 +1,6 @@
 // Plain cutting, after newmm.rs: the loop over candidates.
+#![tactic(auto)]
+
 ghost use Rattle.std.specs.Prelude.{◌≡◌, ◌<◌, set};
 ghost use Rattle.newmm_rules.specs.NonDictionary.{token_end};
 ghost use Rattle.newmm_bfs.specs.inner.Strips.{Sized, Path, candidate_cell};
@@ -13,14 +15,14 @@ use newmm_skip::token_end;
 use tcc::mark_ends;
 
 // The number of ends, and the number of edges recorded in the whole call.
-#[derive(Drop)]
+#[derive(Clone, Copy)]
 pub struct Ends {
     pub ends: usize,
     pub edges: usize,
 }
 
 // Where a path leads, and the number of ends then.
-#[derive(Drop)]
+#[derive(Clone, Copy)]
 struct Reached {
     goal: usize,
     ends: usize,

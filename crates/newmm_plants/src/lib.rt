@@ -1,4 +1,6 @@
 // Cutting a text by the words of one plant of a plants' pool.
+#![tactic(auto)]
+
 ghost use Rattle.std.specs.Prelude.{◌≡◌, length};
 ghost use Rattle.refusal.specs.Answers.{answer};
 ghost use Rattle.trie_plants.specs.Meaning.{plant_meaning};

@@ -1,5 +1,7 @@
 // Cutting many texts in one call by the words of one plant, with one check of the pool: for each
 // text what a single call would answer and leave.
+#![tactic(auto)]
+
 ghost use Rattle.std.specs.Prelude.{◌≡◌, min};
 ghost use Rattle.trie_plants.specs.Halves.{half_at};
 ghost use Rattle.trie_plants.specs.Meaning.{plant_meaning};

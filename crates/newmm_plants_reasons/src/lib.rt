@@ -1,5 +1,7 @@
 // Cutting a text by the words of one plant, with the reason of each break: pairs of cells, a
 // token's end and its reason.
+#![tactic(auto)]
+
 ghost use Rattle.trie_plants.specs.Meaning.{plant_meaning};
 ghost use Rattle.newmm_answers.specs.Calls.{call};
 ghost use Rattle.newmm_reasons_answers.specs.inner.Cells.{Tells};

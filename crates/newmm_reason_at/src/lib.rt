@@ -1,4 +1,6 @@
 // The reason of a token, from what stands at its start and at its end.
+#![tactic(auto)]
+
 ghost use Rattle.std.specs.Prelude.{◌≡◌, []};
 ghost use Rattle.newmm_rules.specs.Words.{word_ends};
 ghost use Rattle.newmm_rules.specs.NonDictionary.{starts_word};

@@ -1,4 +1,5 @@
 // Why a token ends where it does: the rule stands in specs/, what follows from it in proofs/.
+#![tactic(auto)]
 
 // The reasons, in the order of 02.
 pub const DICTIONARY_WORD: u32 = 1;

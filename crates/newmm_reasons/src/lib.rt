@@ -1,5 +1,7 @@
 // Cutting a text into words with the reason of each break: pairs of cells, a token's end and its
 // reason.
+#![tactic(auto)]
+
 ghost use Rattle.std.specs.Prelude.{◌≡◌, ◌++◌, ◌*◌, ◌≤◌, length, take, drop};
 ghost use Rattle.newmm_answers.specs.Calls.{call};
 ghost use Rattle.newmm_reasons_answers.specs.Calls.{Reasons};

@@ -1,5 +1,6 @@
 // What the cut with reasons answers: the definitions that its contracts and the theorems cite stand
 // in specs/.
+#![tactic(auto)]
 
 // What is told of a token is one cell of scratch: its end so many times, and its reason.
 pub const REASONS: u32 = 8;

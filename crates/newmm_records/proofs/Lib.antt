@@ -1,3 +1,2 @@
 pub mod Filled
-pub mod Again
 pub mod Calls

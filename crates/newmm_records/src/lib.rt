@@ -1,4 +1,6 @@
 // Cutting a text into words with one record for each token, in a lent row of records.
+#![tactic(auto)]
+
 ghost use Rattle.std.specs.Prelude.{◌≡◌, ◌++◌, ◌≤◌, length, replicate, drop};
 ghost use Rattle.newmm_records.specs.Calls.{records_call, Records};
 ghost use Rattle.newmm_records.specs.inner.Cells.{records as records_in};
@@ -11,7 +13,7 @@ use newmm_told::tell;
 
 // A token's end and its reason. Two cells without padding.
 #[repr(C)]
-#[derive(Drop)]
+#[derive(Clone, Copy)]
 pub struct Record {
     pub end: u32,
     pub reason: u32,

@@ -40,7 +40,7 @@ module _ (x y : ℕ) where
       go ih false h (inr k) = ih k
 
 -- edges recorded later take no way away
-pub reach_more : {a z : ℕ} (es ds : List Edge) → Reach (graph_of es) a z → Reach (graph_of (es ++ ds)) a z
+pub reach_more : (es ds : List Edge) → {a z : ℕ} → Reach (graph_of es) a z → Reach (graph_of (es ++ ds)) a z
 reach_more es ds here = here
 reach_more es ds (edge {x = x} {z = z} r m) = edge (reach_more es ds r) (in_graph x z (es ++ ds) (Memᴰ.append_left ds (edge_recorded x z es m)))
 

@@ -151,14 +151,14 @@ module _ {g : Given} {s : State} {b : ℕ} {cs : List ℕ} (at_b : At g s b cs) 
     up stay = omega arith
     up (word {a = a} {e = e} m r) = let i = (word_spans g a e m).0 in let j = up r in omega arith
 
-    along_edges : {a : ℕ} {es : List ℕ} → In a after.known → after.committed ≤ a → WordChain g a es c → Chain (graph_of after.edges) a es c
-    along_edges k low stay = search'.stay
-    along_edges k low (word {a = a} {e = e} m r) =
+    along_edges : {a : ℕ} {es : List ℕ} → WordChain g a es c → In a after.known → after.committed ≤ a → Chain (graph_of after.edges) a es c
+    along_edges stay k low = search'.stay
+    along_edges (word {a = a} {e = e} m r) k low =
         let i = (word_spans g a e m).0 in
         let j = up r in
         let n : a < suc b = below (omega arith) (dec_lt a (suc b)) in
         let d = full_after.full few a k low n e m in
-        search'.along (in_graph a e after.edges d) (along_edges (p.placing.handled.edges a e d).known (omega arith) r)
+        search'.along (in_graph a e after.edges d) (along_edges r (p.placing.handled.edges a e d).known (omega arith))
       where
         below : a < c → Dec (a < suc b) → a < suc b
         below h (yes l) = l
@@ -171,7 +171,7 @@ module _ {g : Given} {s : State} {b : ℕ} {cs : List ℕ} (at_b : At g s b cs) 
     shortest es w =
         let q = p.committed in
         path_shortest (graph_of after.edges) s.committed c fewest_here es
-        (subst (λ (z : ℕ). Chain (graph_of after.edges) z es c) q (along_edges full_after.home (omega arith) (subst (λ (z : ℕ). WordChain g z es c) (sym q) w)))
+        (subst (λ (z : ℕ). Chain (graph_of after.edges) z es c) q (along_edges (subst (λ (z : ℕ). WordChain g z es c) (sym q) w) full_after.home (omega arith)))
 
 -- ---- over the turns
 

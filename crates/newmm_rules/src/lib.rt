@@ -1,5 +1,6 @@
 // The rules of cutting, after newmm.rs: they stand in specs/ in 01's order, what follows from them
 // in proofs/.
+#![tactic(auto)]
 
 // A place stops recording behind the edge that makes them more.
 pub const MAX_GRAPH_SIZE: usize = 50;
@@ -11,7 +12,7 @@ pub const TEXT_SCAN_END: usize = 140;
 
 // How a text is cut: as a whole, in parts as the Rust has them, or by the profile "sheet", in parts
 // that end right behind a space.
-#[derive(Drop)]
+#[derive(Clone, Copy)]
 pub enum Mode {
     Plain,
     Safe,

@@ -29,9 +29,9 @@ use Rattle.newmm_segment.specs.inner.Written.{Rising, Ready, Written, shifted_cu
 pub lent : {text pool row : List ℕ} → Ready text pool row → (part : List ℕ) → length part ≤ length text → Lent part pool row
 lent r part h = record { short = omega (arith, r.short); root_is = r.root_is; room = omega (arith, r.room); blank = λ k h. r.blank k }
 
-pub written : {text pool row row' : List ℕ} {r : Ends} → Done (given_by text pool) row row' r → Written (plain_cut (holds pool) text) row row' r
+pub written : {text row row' : List ℕ} {r : Ends} (pool : List ℕ) → Done (given_by text pool) row row' r → Written (plain_cut (holds pool) text) row row' r
 unfolding plain_cut
-written d = record { ends = d.ends; edges = d.edges; is = d.is }
+written pool d = record { ends = d.ends; edges = d.edges; is = d.is }
 
 -- ---- ends that climb
 

@@ -1,4 +1,6 @@
 // Cutting in parts, after `segment_single` of newmm.rs.
+#![tactic(auto)]
+
 ghost use Rattle.std.specs.Prelude.{◌≡◌, ◌++◌, ℕ, ◌+◌, ◌≤◌, length, take, drop, replicate};
 ghost use Rattle.trie_pool.specs.Words.{holds};
 ghost use Rattle.newmm_rules.specs.Limits.{text_scan_begin, text_scan_end};
@@ -20,7 +22,7 @@ pub const UNSHIFTED: usize = 1;
 pub const BEHIND_SPACE: usize = 101;
 
 // Where a part ends, `at` behind `from`, and the edges that were recorded to find that.
-#[derive(Drop)]
+#[derive(Clone, Copy)]
 pub struct PartEnd {
     pub from: usize,
     pub at: usize,
@@ -29,7 +31,7 @@ pub struct PartEnd {
 
 // A part: how many characters it has, the number of its ends, and the edges recorded in it and in
 // its sample.
-#[derive(Drop)]
+#[derive(Clone, Copy)]
 pub struct Part {
     pub size: usize,
     pub ends: usize,

@@ -174,7 +174,7 @@ pub record Inner (text pool : List ℕ) (b p limit e node : ℕ) : Type 0 where
   pub plain : ltb 0 (non_thai_at (given_by text pool) p) ≡ false
   pub trying : Trying text pool p limit e node
 
-module _ {text pool : List ℕ} {b p : ℕ} (s : Skipping (given_by text pool) b p) (inside : p < length text) where
+module _ {text : List ℕ} (pool : List ℕ) {b p : ℕ} (s : Skipping (given_by text pool) b p) (inside : p < length text) where
   pub on_plain : (flags : List ℕ) → flags ≡ end_flags text → get_or flags p 0 ≡ 0 → Skipping (given_by text pool) b (p + 1)
   on_plain flags f z = skip_on s inside (stops_not_end (given_by text pool) p (end_no text f (omega arith) z))
 

@@ -1,4 +1,6 @@
 // The non-dictionary rule of plain cutting.
+#![tactic(auto)]
+
 ghost use Rattle.std.specs.Prelude.{◌≡◌, ◌<◌, length};
 ghost use Rattle.newmm_rules.specs.NonDictionary.{is_short, skip_end, token_end};
 ghost use Rattle.newmm_word_step.specs.inner.Walks.{given_by};

@@ -1,6 +1,8 @@
 // Telling the reasons of a cut, part by part: each part is cut plainly, and then its tokens are
 // told, while the part and its start are at hand. What is told of a token is one cell: eight times
 // its end, and its reason.
+#![tactic(auto)]
+
 ghost use Rattle.std.specs.Prelude.{◌≡◌, ◌++◌, ℕ, ◌+◌, ◌≤◌, length, drop};
 ghost use Rattle.trie_pool.specs.Words.{holds};
 ghost use Rattle.newmm_rules.specs.Limits.{text_scan_begin, text_scan_end};

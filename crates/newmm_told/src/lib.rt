@@ -1,4 +1,6 @@
 // What is told of a text, in scratch: with the refusals of a cut, and one cell a token.
+#![tactic(auto)]
+
 ghost use Rattle.std.specs.Prelude.{length};
 ghost use Rattle.trie_pool.specs.Meaning.{meaning};
 ghost use Rattle.newmm_answers.specs.inner.Passing.{in_view, Sees, Blank};

@@ -1,4 +1,6 @@
 // The words that start at a place of a text and end at a cluster end, one character at a time.
+#![tactic(auto)]
+
 ghost use Rattle.std.specs.Prelude.{◌≡◌, ℕ, ◌≤◌, ◌+◌, ◌-◌, min};
 ghost use Rattle.newmm_rules.specs.Limits.{max_word};
 ghost use Rattle.newmm_word_step.specs.inner.Walks.{Asks, Steps};
@@ -7,7 +9,7 @@ use trie_child::{Kid, find_child};
 use trie_pool::MAX_WORD;
 use trie_search::ends_word;
 
-#[derive(Drop)]
+#[derive(Clone, Copy)]
 pub enum Step {
     Nothing,
     Word(usize),

@@ -1,4 +1,6 @@
 // What the words at a place of a text say of a token that starts there, in one walk.
+#![tactic(auto)]
+
 ghost use Rattle.newmm_word_step.specs.inner.Places.{Place};
 ghost use Rattle.newmm_word_step.specs.inner.Walks.{given_by};
 ghost use Rattle.newmm_words_at.specs.inner.Finding.{FoundIs};
@@ -7,7 +9,7 @@ use newmm_word_step::{Step, word_limit, word_step};
 
 // Of the words that start at a place and end at a cluster end: one ends where the token does; they
 // end elsewhere; there is none.
-#[derive(Drop)]
+#[derive(Clone, Copy)]
 pub enum Found {
     Here,
     Elsewhere,

@@ -1,4 +1,6 @@
 // The numbered answers that every operation gives.
+#![tactic(auto)]
+
 ghost use Rattle.std.specs.Prelude.{◌≡◌};
 ghost use Rattle.refusal.specs.Numbers.{number_of, detail_of};
 
@@ -6,7 +8,7 @@ ghost use Rattle.refusal.specs.Numbers.{number_of, detail_of};
 pub const MAX_SCALARS: usize = 65535;
 
 // Why a call was refused, with the detail that the host is told.
-#[derive(Drop)]
+#[derive(Clone, Copy)]
 pub enum Refusal {
     // 1: the bytes aren't well-formed UTF-8. The length of the longest well-formed prefix.
     IllFormed(usize),
@@ -37,7 +39,7 @@ pub enum Refusal {
 }
 
 // What an operation answers whose accepted answer is one number.
-#[derive(Drop)]
+#[derive(Clone, Copy)]
 pub enum Answer {
     Accepted(usize),
     Refused(Refusal),

@@ -2,12 +2,14 @@
 // of the lines before them, and at the end writes the figures, one name and number a line. A read
 // or a write that fails stops it at once, and so do figures that are full; a line on standard error
 // tells it.
+#![tactic(auto)]
+
 use figures_cells::Figures;
-use libc::STDERR_FILENO;
 use release_lines::count_line;
 use release_table::write_figures;
 use sheet_bytes::{front, keep, line_end};
 use sheet_io::{Got, read_some, write_whole};
+use std::io::{Read, Write};
 
 // The rows are as long as those of why_lines.
 const LINE: usize = 1025;
@@ -26,13 +28,13 @@ const SCRATCH: usize = 9335;
 const LIST: usize = 592;
 
 // What became of the input: how many bytes of a line that goes on are kept, or it can't be counted.
-#[derive(Drop)]
+#[derive(Clone, Copy)]
 enum Line {
     Kept(usize),
     Failed,
 }
 
-fn main() {
+fn main(rt: HostRuntime) {
     let mut line = [0u8; LINE];
     let mut figures: Figures = [0u64; 16];
     let mut pool = [0u32; POOL];
@@ -41,7 +43,12 @@ fn main() {
     let mut pairs = [0u32; PAIRS];
     let mut scratch = [0u32; SCRATCH];
     trie_char::fresh(&mut pool);
+    let mut input = rt.stdin();
+    let mut output = rt.stdout();
+    let told = rt.stderr();
     let read = read_all(
+        &told,
+        &mut input,
         &mut line,
         &mut figures,
         &mut pool,
@@ -54,6 +61,8 @@ fn main() {
         return;
     };
     end_run(
+        &told,
+        &mut output,
         &line,
         kept,
         &mut figures,
@@ -66,7 +75,9 @@ fn main() {
 }
 
 // Counts a last line without a line feed, and writes the list.
-fn end_run(
+fn end_run<P: Print, W: Write>(
+    told: &P,
+    output: &mut W,
     line: &[u8; LINE],
     kept: usize,
     figures: &mut Figures,
@@ -77,6 +88,7 @@ fn end_run(
     scratch: &mut [u32; SCRATCH],
 ) {
     if count(
+        told,
         front(line, kept),
         figures,
         pool,
@@ -85,18 +97,24 @@ fn end_run(
         pairs,
         scratch,
     ) {
-        write_list(figures);
+        write_list(told, output, figures);
     }
 }
 
-fn write_list(figures: &Figures) {
+fn write_list<P: Print, W: Write>(told: &P, output: &mut W, figures: &Figures) {
     let mut out = [0u8; LIST];
     let n = write_figures(figures, &mut out);
-    write_whole(front(&out, n), b"release_figures: writing standard output");
+    write_whole(
+        told,
+        output,
+        front(&out, n),
+        b"release_figures: writing standard output",
+    );
 }
 
 // Counts a line, and answers whether the figures had room for it.
-fn count(
+fn count<P: Print>(
+    told: &P,
     line: &[u8],
     figures: &mut Figures,
     pool: &mut [u32; POOL],
@@ -106,7 +124,7 @@ fn count(
     scratch: &mut [u32; SCRATCH],
 ) -> bool {
     if count_line(line, figures, pool, scalars, positions, pairs, scratch) {
-        io::write_all(STDERR_FILENO, b"release_figures: the figures are full\n");
+        let _ = println!(told; "release_figures: the figures are full");
         return false;
     }
     true
@@ -114,7 +132,9 @@ fn count(
 
 // A proved loop has to end, and nothing says that the input does: it has more turns than any run
 // uses up.
-fn read_all(
+fn read_all<P: Print, R: Read>(
+    told: &P,
+    input: &mut R,
     line: &mut [u8; LINE],
     figures: &mut Figures,
     pool: &mut [u32; POOL],
@@ -123,11 +143,16 @@ fn read_all(
     pairs: &mut [u32; PAIRS],
     scratch: &mut [u32; SCRATCH],
 ) -> Line {
-    let mut buffer = io::large_buffer();
+    let mut buffer = [0u8; 65536];
     let mut kept = 0;
     let mut turns = u64::MAX;
     while turns > 0 {
-        let got = read_some(&mut buffer, b"release_figures: reading standard input");
+        let got = read_some(
+            told,
+            input,
+            &mut buffer,
+            b"release_figures: reading standard input",
+        );
         let Got::Bytes(n) = got else {
             return Line::Failed;
         };
@@ -135,6 +160,7 @@ fn read_all(
             return Line::Kept(kept);
         }
         let fed = feed_all(
+            told,
             front(&buffer, n),
             line,
             kept,
@@ -156,7 +182,8 @@ fn read_all(
 
 // Counts the lines that end in the bytes, the first of which starts with the `kept` bytes of
 // `line`.
-fn feed_all(
+fn feed_all<P: Print>(
+    told: &P,
     bytes: &[u8],
     line: &mut [u8; LINE],
     kept: usize,
@@ -177,6 +204,7 @@ fn feed_all(
             return Line::Kept(n);
         }
         if !count(
+            told,
             front(line, n),
             figures,
             pool,

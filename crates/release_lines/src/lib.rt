@@ -1,4 +1,6 @@
 // A release's lines: count_line changes the words, or counts the text.
+#![tactic(auto)]
+
 ghost use Rattle.std.specs.Prelude.{◌≡◌};
 ghost use Rattle.utf8.specs.Decoding.{scalars_of, room_in, decoded as decoded_of};
 ghost use Rattle.newmm_answers.specs.Calls.{call};

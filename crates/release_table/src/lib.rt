@@ -1,4 +1,6 @@
 // A release's list: write_figures writes the figures, one name and number a line.
+#![tactic(auto)]
+
 ghost use Rattle.std.specs.Prelude.{◌≡◌, length};
 ghost use Rattle.sheet_bytes.specs.Lines.{kept, laid};
 ghost use Rattle.sheet_texts.specs.Texts.{written, amount};

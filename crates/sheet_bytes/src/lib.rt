@@ -2,6 +2,8 @@
 //   line_end  where the first line feed stands
 //   keep      adds bytes to those at the front of a row
 //   front     the first bytes of a row
+#![tactic(auto)]
+
 ghost use Rattle.std.specs.Prelude.{◌≡◌, length, take};
 ghost use Rattle.sheet_bytes.specs.Lines.{line_end, kept, laid};
 

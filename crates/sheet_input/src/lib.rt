@@ -1,6 +1,8 @@
 // Input of any length, part by part, with rows of any length.
 //   feed    takes bytes up to the first line feed, and writes that line's reply
 //   finish  writes the reply of a last line without a line feed
+#![tactic(auto)]
+
 ghost use Rattle.std.specs.Prelude.{◌≡◌, cond, eqb, length, take};
 ghost use Rattle.utf8.specs.Decoding.{room_in};
 ghost use Rattle.sheet_bytes.specs.Lines.{line_end, laid};
@@ -14,7 +16,7 @@ use sheet_texts::write_reply;
 
 // What became of bytes that were fed: how many were taken, how many of the line that goes on are
 // kept, and how many bytes of reply were written.
-#[derive(Drop)]
+#[derive(Clone, Copy)]
 pub struct Fed {
     pub taken: usize,
     pub kept: usize,

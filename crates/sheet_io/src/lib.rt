@@ -1,36 +1,51 @@
-// Standard input and output of a line program: `read_some` and `write_whole`. A call that was
-// interrupted, or that would have had to wait, is tried again; one that fails for another reason is
-// told on standard error. A proved loop has to end: each has more turns than any run uses up.
-use libc::{EAGAIN, EINTR, STDERR_FILENO, STDIN_FILENO, STDOUT_FILENO};
+// Standard input and output of a line program: `read_some` and `write_whole`, at any reader and any
+// writer. A call that was interrupted, or that would have had to wait, is tried again; one that
+// fails for another reason is told on standard error. A proved loop has to end: each has more turns
+// than any run uses up.
+#![tactic(auto)]
+
+ghost use Rattle.std.specs.Prelude.{◌≡◌, true, ℕ, ◌≤◌, length, take};
+ghost use Rattle.std.specs.Io.KnownBytes.{Appends};
+ghost use Rattle.sheet_io.specs.Reading.{ReadOnce};
+
+use std::io::{Error, ErrorKind, Read, Write};
+use std::thread;
 
 // What a read found: so many bytes at the front of the buffer, none at the end of the input, or it
 // failed.
-#[derive(Drop)]
+#[derive(Clone, Copy)]
 pub enum Got {
     Bytes(usize),
     Failed,
 }
 
-// Reads once. Where that fails, `what` is told with the reason.
-pub fn read_some(buffer: &mut [u8], what: &[u8]) -> Got {
+// Reads once. Where that fails, `told` is written `what` and the reason.
+pub fn read_some<P: Print, R: Read>(told: &P, input: &mut R, buffer: &mut [u8], what: &[u8]) -> Got
+    ensures { ReadOnce (R.remaining input.old) (R.remaining input.new) result buffer.new }
+{
     let mut turns = u64::MAX;
     while turns > 0 {
-        let got = libc::read(STDIN_FILENO, buffer);
-        if got >= 0 {
-            return Got::Bytes(io::count(got, buffer));
-        }
-        if !again() {
-            os::fail(what);
-            return Got::Failed;
+        match input.read(buffer) {
+            Ok(n) => return Got::Bytes(n),
+            Err(error) => {
+                if !again(&error) {
+                    tell(told, what, &error);
+                    return Got::Failed;
+                }
+            }
         }
         turns -= 1;
     }
     Got::Failed
 }
 
-// Writes all of a text and answers true, or stops at the first write that fails, of which `what` is
-// told, and answers false.
-pub fn write_whole(text: &[u8], what: &[u8]) -> bool {
+// Writes all of a text and answers true, or stops at the first write that fails, writes `what` and
+// the reason to `told`, and answers false.
+pub fn write_whole<P: Print, W: Write>(told: &P, output: &mut W, text: &[u8], what: &[u8]) -> bool
+    ensures whole { result ≡ true → Appends (W.contents output.old) (W.contents output.new) text.now }
+    ensures front { (n : ℕ) × (n ≤ length text.now)
+        × Appends (W.contents output.old) (W.contents output.new) (take n text.now) }
+{
     let mut at = 0;
     let mut turns = u64::MAX;
     while turns > 0 {
@@ -38,33 +53,38 @@ pub fn write_whole(text: &[u8], what: &[u8]) -> bool {
             return true;
         }
         let rest = &text[at..];
-        let put = libc::write(STDOUT_FILENO, rest);
-        if put == 0 {
-            io::write_all(STDERR_FILENO, what);
-            io::write_all(STDERR_FILENO, b": nothing was taken\n");
-            return false;
-        }
-        if put < 0 {
-            if !again() {
-                os::fail(what);
+        match output.write(rest) {
+            Ok(0) => {
+                let _ = told.write_all(what);
+                let _ = println!(told; ": nothing was taken");
                 return false;
             }
+            Ok(put) => at += put,
+            Err(error) => {
+                if !again(&error) {
+                    tell(told, what, &error);
+                    return false;
+                }
+            }
         }
-        at += io::count(put, rest);
         turns -= 1;
     }
     false
 }
 
 // Whether the call that has just failed is to be tried again.
-fn again() -> bool {
-    let error = os::errno();
-    if error == EINTR {
-        return true;
+fn again(error: &Error) -> bool {
+    match error.kind() {
+        ErrorKind::Interrupted => true,
+        ErrorKind::WouldBlock => {
+            thread::yield_now();
+            true
+        }
+        _ => false,
     }
-    if error == EAGAIN {
-        libc::sched_yield();
-        return true;
-    }
-    false
+}
+
+fn tell<P: Print>(told: &P, what: &[u8], error: &Error) {
+    let _ = told.write_all(what);
+    let _ = println!(told; ": {error}");
 }

@@ -1,18 +1,21 @@
 // The line program: adds and removes words, and cuts texts by them, a reply for each line of
 // standard input. A read or a write that fails stops it at once, and a line on standard error tells
 // which and why.
+#![tactic(auto)]
+
 use sheet_bytes::front;
 use sheet_io::{Got, read_some, write_whole};
 use sheet_steps::{LINE, POOL, POSITIONS, REPLY, SCRATCH, TEXT, last, step};
+use std::io::{Read, Write};
 
 // What became of the input: how many bytes of a line that goes on are kept, or a call failed.
-#[derive(Drop)]
+#[derive(Clone, Copy)]
 enum Line {
     Kept(usize),
     Failed,
 }
 
-fn main() {
+fn main(rt: HostRuntime) {
     let mut line = [0u8; LINE];
     let mut pool = [0u32; POOL];
     let mut scalars = [0u32; TEXT];
@@ -21,7 +24,13 @@ fn main() {
     let mut scratch = [0u32; SCRATCH];
     let mut out = [0u8; REPLY];
     trie_char::fresh(&mut pool);
+    let mut input = rt.stdin();
+    let mut output = rt.stdout();
+    let told = rt.stderr();
     let read = read_all(
+        &told,
+        &mut input,
+        &mut output,
         &mut line,
         &mut pool,
         &mut scalars,
@@ -34,6 +43,8 @@ fn main() {
         return;
     };
     end_run(
+        &told,
+        &mut output,
         &line,
         kept,
         &mut pool,
@@ -46,7 +57,9 @@ fn main() {
 }
 
 // Writes the reply of a last line without a line feed.
-fn end_run(
+fn end_run<P: Print, W: Write>(
+    told: &P,
+    output: &mut W,
     line: &[u8; LINE],
     kept: usize,
     pool: &mut [u32; POOL],
@@ -57,12 +70,20 @@ fn end_run(
     out: &mut [u8; REPLY],
 ) {
     let n = last(line, kept, pool, scalars, positions, ends, scratch, out);
-    write_whole(front(out, n), b"sheet_lines: writing standard output");
+    write_whole(
+        told,
+        output,
+        front(out, n),
+        b"sheet_lines: writing standard output",
+    );
 }
 
 // A proved loop has to end, and nothing says that the input does: it has more turns than any run
 // uses up.
-fn read_all(
+fn read_all<P: Print, R: Read, W: Write>(
+    told: &P,
+    input: &mut R,
+    output: &mut W,
     line: &mut [u8; LINE],
     pool: &mut [u32; POOL],
     scalars: &mut [u32; TEXT],
@@ -71,11 +92,16 @@ fn read_all(
     scratch: &mut [u32; SCRATCH],
     out: &mut [u8; REPLY],
 ) -> Line {
-    let mut buffer = io::large_buffer();
+    let mut buffer = [0u8; 65536];
     let mut kept = 0;
     let mut turns = u64::MAX;
     while turns > 0 {
-        let got = read_some(&mut buffer, b"sheet_lines: reading standard input");
+        let got = read_some(
+            told,
+            input,
+            &mut buffer,
+            b"sheet_lines: reading standard input",
+        );
         let Got::Bytes(n) = got else {
             return Line::Failed;
         };
@@ -83,6 +109,8 @@ fn read_all(
             return Line::Kept(kept);
         }
         let fed = feed_all(
+            told,
+            output,
             front(&buffer, n),
             line,
             kept,
@@ -103,7 +131,9 @@ fn read_all(
 }
 
 // Feeds all of the bytes, and writes the replies of the lines that end in them.
-fn feed_all(
+fn feed_all<P: Print, W: Write>(
+    told: &P,
+    output: &mut W,
     bytes: &[u8],
     line: &mut [u8; LINE],
     kept: usize,
@@ -129,6 +159,8 @@ fn feed_all(
             out,
         );
         if !write_whole(
+            told,
+            output,
             front(out, fed.written),
             b"sheet_lines: writing standard output",
         ) {

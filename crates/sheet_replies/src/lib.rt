@@ -1,4 +1,6 @@
 // What a line asks, and the reply to it: `answer_line`.
+#![tactic(auto)]
+
 ghost use Rattle.std.specs.Prelude.{◌≡◌, length};
 ghost use Rattle.refusal.specs.Answers.{answer, output};
 ghost use Rattle.utf8.specs.Decoding.{scalars_of, room_in, decoded};
@@ -21,7 +23,7 @@ use sheet_texts::Reply;
 pub const MAX_LINE: usize = 1024;
 
 // What a line asks.
-#[derive(Drop)]
+#[derive(Clone, Copy)]
 pub enum Asked {
     // An empty or longer line, or another first byte.
     Nothing,

@@ -1,5 +1,7 @@
 // The calls of a run, `step` and `last`: input of any length, part by part, with rows that hold
 // every line and every reply.
+#![tactic(auto)]
+
 ghost use Rattle.std.specs.Prelude.{◌≡◌, cond, eqb, length, take};
 ghost use Rattle.utf8.specs.Decoding.{room_in};
 ghost use Rattle.sheet_bytes.specs.Lines.{line_end, laid};

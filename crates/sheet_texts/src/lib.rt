@@ -1,4 +1,6 @@
 // A reply, and its line of text: `write_reply`.
+#![tactic(auto)]
+
 ghost use Rattle.std.specs.Prelude.{◌≡◌, [], length, take};
 ghost use Rattle.sheet_bytes.specs.Lines.{kept, laid};
 ghost use Rattle.sheet_texts.specs.Texts.{decimal, spaced, text_of_reply, line_of, written, amount};
@@ -8,7 +10,7 @@ use refusal::Refusal;
 use sheet_bytes::keep;
 
 // What is told for a line.
-#[derive(Drop)]
+#[derive(Clone, Copy)]
 pub enum Reply {
     // The line asks nothing.
     Unknown,

@@ -1,4 +1,6 @@
 // Thai character clusters, after tcc_tokenizer.rs: where the clusters of a text end.
+#![tactic(auto)]
+
 ghost use Rattle.std.specs.Prelude.{◌≡◌, ◌++◌, ◌≤◌, ◌<◌, ◌+◌, length, drop, replicate};
 ghost use Rattle.refusal.specs.Answers.{output};
 ghost use Rattle.refusal.specs.Limits.{max_text};

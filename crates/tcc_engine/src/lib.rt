@@ -1,5 +1,7 @@
 // The engine of the second matcher: tries the alternatives of tables that it is lent one after the
 // other, item by item.
+#![tactic(auto)]
+
 ghost use Rattle.std.specs.Prelude.{◌≡◌, ◌/◌, ◌%◌, ◌≤◌, ◌<◌, length, drop};
 ghost use Rattle.lists.specs.Scans.{within};
 ghost use Rattle.tcc_rules.specs.Patterns.{holds_at, match, pattern};
@@ -27,21 +29,21 @@ pub const ALTERNATIVES: usize = 29;
 pub const AHEAD: usize = 27;
 
 // No match, or a match up to a position.
-#[derive(Drop)]
+#[derive(Clone, Copy)]
 pub enum Matched {
     Nowhere,
     Upto(usize),
 }
 
 // No alternative matches, or the first that does: its number, and where its match ends.
-#[derive(Drop)]
+#[derive(Clone, Copy)]
 pub enum Found {
     Nothing,
     By { number: u32, end: usize },
 }
 
 // A cluster: the number of the alternative that won, 0 for none, and where the cluster ends.
-#[derive(Drop)]
+#[derive(Clone, Copy)]
 pub struct Won {
     pub number: u32,
     pub end: usize,

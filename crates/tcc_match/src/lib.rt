@@ -1,4 +1,6 @@
 // The matcher of Thai character clusters: it goes by the first characters of a cluster.
+#![tactic(auto)]
+
 mod after_consonant;
 mod after_e;
 mod after_vowel;

@@ -1,5 +1,7 @@
 // A second matcher of Thai character clusters, slow and plain: it keeps the alternatives as tables
 // and tries them in order. It gives the ends that `tcc` gives, and tells which alternative won.
+#![tactic(auto)]
+
 mod tables;
 
 ghost use Rattle.std.specs.Prelude.{◌≡◌, ◌++◌, ◌≤◌, length, drop};

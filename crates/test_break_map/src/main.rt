@@ -3,6 +3,8 @@
 //
 // A map is written to a row full of leftovers. Where a call changes a cell that it must keep, a `?`
 // is written.
+#![tactic(auto)]
+
 ghost use Rattle.std.specs.Prelude.{◌≤◌, length};
 
 use break_map::{break_map, breaks_up_to, next_break};
@@ -24,39 +26,39 @@ const HALVES: usize = 2200;
 
 const HALF: u64 = 4294967296;
 
-fn main() {
+fn main(rt: HostRuntime) {
     let mut input = [0u8; INPUT];
     let mut ends = [0u32; ENDS];
     let mut map = [0u64; CELLS];
     let mut halves = [0u32; HALVES];
-    let n = read_input(&mut input);
-    replay(&input[..n], &mut ends, &mut map, &mut halves);
+    let n = read_input(&rt, &mut rt.stdin(), &mut input);
+    replay(&rt, &input[..n], &mut ends, &mut map, &mut halves);
 }
 
-fn replay(input: &[u8], ends: &mut [u32], map: &mut [u64], halves: &mut [u32]) {
+fn replay(rt: &impl Print, input: &[u8], ends: &mut [u32], map: &mut [u64], halves: &mut [u32]) {
     let mut at = 0;
     while at < input.len() {
-        answer(part_at(input, at, b'\n'), ends, map, halves);
-        print(b"\n");
+        answer(rt, part_at(input, at, b'\n'), ends, map, halves);
+        print(rt, b"\n");
         at = behind(input, at, b'\n');
     }
 }
 
-fn answer(line: &[u8], ends: &mut [u32], map: &mut [u64], halves: &mut [u32]) {
+fn answer(rt: &impl Print, line: &[u8], ends: &mut [u32], map: &mut [u64], halves: &mut [u32]) {
     let op = field(line, 0);
     if is(op, b"map") {
-        write(line, ends, map, halves);
+        write(rt, line, ends, map, halves);
         return;
     }
     if is(op, b"rank") {
-        count(line, map, halves);
+        count(rt, line, map, halves);
         return;
     }
     if is(op, b"next") {
-        find(line, map, halves);
+        find(rt, line, map, halves);
         return;
     }
-    print(b"?");
+    print(rt, b"?");
 }
 
 // What an earlier call may have left in a cell.
@@ -76,11 +78,11 @@ fn smear(row: &mut [u64]) {
 }
 
 // Writes a `?` where a cell from `start` on isn't what `smear` put there.
-fn expect_leftovers(row: &[u64], start: usize) {
+fn expect_leftovers(rt: &impl Print, row: &[u64], start: usize) {
     let mut k = start;
     while k < row.len() {
         if row[k] != leftover(k) {
-            print(b"?");
+            print(rt, b"?");
             return;
         }
         k += 1;
@@ -101,33 +103,33 @@ fn joined(low: u32, high: u32) -> u64 {
 }
 
 // Writes the first k cells.
-fn print_map(map: &[u64], k: usize, halves: &mut [u32]) {
+fn print_map(rt: &impl Print, map: &[u64], k: usize, halves: &mut [u32]) {
     let mut i = 0;
     while i < k {
         if map.len() <= i {
-            print(b"?");
+            print(rt, b"?");
             return;
         }
         if halves.len() <= 2 * i + 1 {
-            print(b"?");
+            print(rt, b"?");
             return;
         }
         halves[2 * i] = lower(map[i]);
         halves[2 * i + 1] = upper(map[i]);
         i += 1;
     }
-    print_cells(first(halves, 2 * i));
+    print_cells(rt, first(halves, 2 * i));
 }
 
 // Reads a map to the front of the row; how many cells it has.
-fn read_map(text: &[u8], map: &mut [u64], halves: &mut [u32]) -> usize
+fn read_map(rt: &impl Print, text: &[u8], map: &mut [u64], halves: &mut [u32]) -> usize
     ensures { result ≤ length map.old }
 {
-    let n = read_cells(text, halves);
+    let n = read_cells(rt, text, halves);
     let mut i = 0;
     while 2 * i + 1 < n {
         if map.len() <= i {
-            print(b"?");
+            print(rt, b"?");
             return i;
         }
         map[i] = joined(halves[2 * i], halves[2 * i + 1]);
@@ -137,60 +139,60 @@ fn read_map(text: &[u8], map: &mut [u64], halves: &mut [u32]) -> usize
 }
 
 // map n, ends as cells, cells of the row => ok the cells written
-fn write(line: &[u8], ends: &mut [u32], map: &mut [u64], halves: &mut [u32]) {
-    let n = number(field(line, 1));
-    let k = read_cells(field(line, 2), ends);
-    let cells = lent(field(line, 3), map.len());
-    write_row(n, first(ends, k), &mut map[0..cells], halves);
+fn write(rt: &impl Print, line: &[u8], ends: &mut [u32], map: &mut [u64], halves: &mut [u32]) {
+    let n = number(rt, field(line, 1));
+    let k = read_cells(rt, field(line, 2), ends);
+    let cells = lent(rt, field(line, 3), map.len());
+    write_row(rt, n, first(ends, k), &mut map[0..cells], halves);
 }
 
-fn write_row(n: usize, ends: &[u32], row: &mut [u64], halves: &mut [u32]) {
+fn write_row(rt: &impl Print, n: usize, ends: &[u32], row: &mut [u64], halves: &mut [u32]) {
     smear(row);
     let answer = break_map(n, ends, row);
     match answer {
         Answer::Accepted(k) => {
-            expect_leftovers(row, k);
-            print(b"ok ");
-            print_map(row, k, halves);
+            expect_leftovers(rt, row, k);
+            print(rt, b"ok ");
+            print_map(rt, row, k, halves);
         }
         Answer::Refused(r) => {
-            expect_leftovers(row, 0);
-            print_refusal(r);
+            expect_leftovers(rt, row, 0);
+            print_refusal(rt, r);
         }
     }
 }
 
 // rank n, the row's cells, position => ok breaks
-fn count(line: &[u8], map: &mut [u64], halves: &mut [u32]) {
-    let cells = read_map(field(line, 2), map, halves);
+fn count(rt: &impl Print, line: &[u8], map: &mut [u64], halves: &mut [u32]) {
+    let cells = read_map(rt, field(line, 2), map, halves);
     let answer = breaks_up_to(
-        number(field(line, 1)),
+        number(rt, field(line, 1)),
         &map[0..cells],
-        number(field(line, 3)),
+        number(rt, field(line, 3)),
     );
     match answer {
         Answer::Accepted(k) => {
-            print(b"ok ");
-            print_number(k);
+            print(rt, b"ok ");
+            print_number(rt, k);
         }
-        Answer::Refused(r) => print_refusal(r),
+        Answer::Refused(r) => print_refusal(rt, r),
     }
 }
 
 // next n, the row's cells, position => ok position, or ok none
-fn find(line: &[u8], map: &mut [u64], halves: &mut [u32]) {
-    let cells = read_map(field(line, 2), map, halves);
+fn find(rt: &impl Print, line: &[u8], map: &mut [u64], halves: &mut [u32]) {
+    let cells = read_map(rt, field(line, 2), map, halves);
     let answer = next_break(
-        number(field(line, 1)),
+        number(rt, field(line, 1)),
         &map[0..cells],
-        number(field(line, 3)),
+        number(rt, field(line, 3)),
     );
     match answer {
         NextBreak::At(p) => {
-            print(b"ok ");
-            print_number(p);
+            print(rt, b"ok ");
+            print_number(rt, p);
         }
-        NextBreak::Nothing => print(b"ok none"),
-        NextBreak::Refused(r) => print_refusal(r),
+        NextBreak::Nothing => print(rt, b"ok none"),
+        NextBreak::Refused(r) => print_refusal(rt, r),
     }
 }

@@ -3,6 +3,8 @@
 //
 // The rows of a decoding are lent full of leftovers. Where it leaves a cell otherwise than
 // documents 01 and 02 say, a `?` is written.
+#![tactic(auto)]
+
 mod places;
 mod views;
 
@@ -20,183 +22,204 @@ const BYTES: usize = 300000;
 
 const CELLS: usize = 65540;
 
-fn main() {
+fn main(rt: HostRuntime) {
     let mut input = [0u8; INPUT];
     let mut bytes = [0u8; BYTES];
     let mut cells = [0u32; CELLS];
     let mut positions = [0u32; CELLS];
-    let n = read_input(&mut input);
-    replay(&input[..n], &mut bytes, &mut cells, &mut positions);
+    let n = read_input(&rt, &mut rt.stdin(), &mut input);
+    replay(&rt, &input[..n], &mut bytes, &mut cells, &mut positions);
 }
 
-fn replay(input: &[u8], bytes: &mut [u8], cells: &mut [u32], positions: &mut [u32]) {
+fn replay(
+    rt: &impl Print,
+    input: &[u8],
+    bytes: &mut [u8],
+    cells: &mut [u32],
+    positions: &mut [u32],
+) {
     let mut at = 0;
     while at < input.len() {
-        answer(part_at(input, at, b'\n'), bytes, cells, positions);
-        print(b"\n");
+        answer(rt, part_at(input, at, b'\n'), bytes, cells, positions);
+        print(rt, b"\n");
         at = behind(input, at, b'\n');
     }
 }
 
-fn answer(line: &[u8], bytes: &mut [u8], cells: &mut [u32], positions: &mut [u32]) {
+fn answer(
+    rt: &impl Print,
+    line: &[u8],
+    bytes: &mut [u8],
+    cells: &mut [u32],
+    positions: &mut [u32],
+) {
     let op = field(line, 0);
     if is(op, b"decode") {
-        places::decode(line, bytes, cells, positions);
+        places::decode(rt, line, bytes, cells, positions);
         return;
     }
     if is(op, b"endbytes") {
-        places::ends_in_bytes(line, bytes, cells, positions);
+        places::ends_in_bytes(rt, line, bytes, cells, positions);
         return;
     }
     if is(op, b"end_in_bytes") {
-        places::end_in_row(line, positions);
+        places::end_in_row(rt, line, positions);
         return;
     }
     if is(op, b"trim") {
-        trim(line, cells);
+        trim(rt, line, cells);
         return;
     }
     if is(op, b"rspace") {
-        rspace(line, cells);
+        rspace(rt, line, cells);
         return;
     }
     if is(op, b"scalars") {
-        scalars(line, cells);
+        scalars(rt, line, cells);
         return;
     }
     if is(op, b"text") {
-        text(line, cells);
+        text(rt, line, cells);
         return;
     }
     if is(op, b"part") {
-        part(line, cells);
+        part(rt, line, cells);
         return;
     }
     if is(op, b"view") {
-        view(line, cells);
+        view(rt, line, cells);
         return;
     }
     if is(op, b"view_part") {
-        views::view_part(line, cells);
+        views::view_part(rt, line, cells);
         return;
     }
     if is(op, b"sub_view") {
-        views::sub_view(line, cells);
+        views::sub_view(rt, line, cells);
         return;
     }
     if is(op, b"word") {
-        word(line, cells);
+        word(rt, line, cells);
         return;
     }
-    print(b"?");
+    print(rt, b"?");
 }
 
 // trim scalars => ok start end
-fn trim(line: &[u8], cells: &mut [u32]) {
-    let n = read_cells(field(line, 1), cells);
+fn trim(rt: &impl Print, line: &[u8], cells: &mut [u32]) {
+    let n = read_cells(rt, field(line, 1), cells);
     let s = char_string_trim::trim(&cells[..n]);
-    print(b"ok ");
-    print_number(s.start);
-    print(b" ");
-    print_number(s.end);
+    print(rt, b"ok ");
+    print_number(rt, s.start);
+    print(rt, b" ");
+    print_number(rt, s.end);
 }
 
 // rspace scalars => ok index, or ok none
-fn rspace(line: &[u8], cells: &mut [u32]) {
-    let n = read_cells(field(line, 1), cells);
-    print(b"ok ");
+fn rspace(rt: &impl Print, line: &[u8], cells: &mut [u32]) {
+    let n = read_cells(rt, field(line, 1), cells);
+    print(rt, b"ok ");
     match char_string_last_space::rfind_space_char_index(&cells[..n]) {
-        Found::At(i) => print_number(i),
-        Found::Nothing => print(b"none"),
+        Found::At(i) => print_number(rt, i),
+        Found::Nothing => print(rt, b"none"),
     }
 }
 
 // scalars cells => ok index of the first cell that is no scalar value, or ok none
-fn scalars(line: &[u8], cells: &mut [u32]) {
-    let n = read_cells(field(line, 1), cells);
+fn scalars(rt: &impl Print, line: &[u8], cells: &mut [u32]) {
+    let n = read_cells(rt, field(line, 1), cells);
     let bad = char_string_scalars::first_non_scalar(&cells[..n]);
-    print(b"ok ");
+    print(rt, b"ok ");
     if bad < n {
-        print_number(bad);
+        print_number(rt, bad);
     } else {
-        print(b"none");
+        print(rt, b"none");
     }
 }
 
 // text cells => ok n
-fn text(line: &[u8], cells: &mut [u32]) {
-    let n = read_cells(field(line, 1), cells);
+fn text(rt: &impl Print, line: &[u8], cells: &mut [u32]) {
+    let n = read_cells(rt, field(line, 1), cells);
     match char_string_scalars::check_text(&cells[..n]) {
         Answer::Accepted(count) => {
-            print(b"ok ");
-            print_number(count);
+            print(rt, b"ok ");
+            print_number(rt, count);
         }
-        Answer::Refused(r) => print_refusal(r),
+        Answer::Refused(r) => print_refusal(rt, r),
     }
 }
 
 // word scalars => ok the trimmed scalars
-fn word(line: &[u8], cells: &mut [u32]) {
-    let n = read_cells(field(line, 1), cells);
-    print(b"ok ");
-    print_cells(char_string_trim::trimmed(&cells[..n]));
+fn word(rt: &impl Print, line: &[u8], cells: &mut [u32]) {
+    let n = read_cells(rt, field(line, 1), cells);
+    print(rt, b"ok ");
+    print_cells(rt, char_string_trim::trimmed(&cells[..n]));
 }
 
 // view n, start, end, index, from, to => ok length, character at index or none, start and end of
 //   the sub-view
-fn view(line: &[u8], cells: &mut [u32]) {
+fn view(rt: &impl Print, line: &[u8], cells: &mut [u32]) {
     count_up(cells);
-    let n = lent(field(line, 1), cells.len());
-    let start = number(field(line, 2));
-    let end = number(field(line, 3));
-    print_view(line, &cells[0..n], start, end);
+    let n = lent(rt, field(line, 1), cells.len());
+    let start = number(rt, field(line, 2));
+    let end = number(rt, field(line, 3));
+    print_view(rt, line, &cells[0..n], start, end);
 }
 
-fn print_view(line: &[u8], text: &[u32], start: usize, end: usize) {
-    print(b"ok ");
-    print_number(char_string::chars_len(text, start, end));
-    print(b" ");
-    print_char(char_string::get_char_at(text, start, end, number(field(line, 4))));
-    print(b" ");
+fn print_view(rt: &impl Print, line: &[u8], text: &[u32], start: usize, end: usize) {
+    print(rt, b"ok ");
+    print_number(rt, char_string::chars_len(text, start, end));
+    print(rt, b" ");
+    print_char(
+        rt,
+        char_string::get_char_at(text, start, end, number(rt, field(line, 4))),
+    );
+    print(rt, b" ");
     let s = char_string::sub_view(
         text,
         start,
         end,
-        number(field(line, 5)),
-        number(field(line, 6)),
+        number(rt, field(line, 5)),
+        number(rt, field(line, 6)),
     );
-    print_number(s.start);
-    print(b" ");
-    print_number(s.end);
+    print_number(rt, s.start);
+    print(rt, b" ");
+    print_number(rt, s.end);
 }
 
 // part n, start, end => ok right(0/1) start length
-fn part(line: &[u8], cells: &mut [u32]) {
+fn part(rt: &impl Print, line: &[u8], cells: &mut [u32]) {
     count_up(cells);
-    let n = lent(field(line, 1), cells.len());
-    let start = number(field(line, 2));
-    let end = number(field(line, 3));
+    let n = lent(rt, field(line, 1), cells.len());
+    let start = number(rt, field(line, 2));
+    let end = number(rt, field(line, 3));
     let text = &cells[0..n];
-    print_part(text, start, end, char_string::substring(text, start, end));
+    print_part(
+        rt,
+        text,
+        start,
+        end,
+        char_string::substring(text, start, end),
+    );
 }
 
-fn print_part(text: &[u32], start: usize, end: usize, part: &[u32]) {
-    print(b"ok ");
+fn print_part(rt: &impl Print, text: &[u32], start: usize, end: usize, part: &[u32]) {
+    print(rt, b"ok ");
     if char_string::is_substring(text, start, end) {
-        print(b"1 ");
-        print_start(part, start);
+        print(rt, b"1 ");
+        print_start(rt, part, start);
     } else {
-        print(b"0 ");
-        print_start(part, 0);
+        print(rt, b"0 ");
+        print_start(rt, part, 0);
     }
-    print(b" ");
-    print_number(part.len());
+    print(rt, b" ");
+    print_number(rt, part.len());
 }
 
-fn print_char(c: CharAt) {
+fn print_char(rt: &impl Print, c: CharAt) {
     match c {
-        CharAt::Scalar(x) => print_number(wide(x)),
-        CharAt::Nothing => print(b"none"),
+        CharAt::Scalar(x) => print_number(rt, wide(x)),
+        CharAt::Nothing => print(rt, b"none"),
     }
 }
 
@@ -211,11 +234,11 @@ fn count_up(cells: &mut [u32]) {
     }
 }
 
-fn print_start(part: &[u32], empty: usize) {
+fn print_start(rt: &impl Print, part: &[u32], empty: usize) {
     if part.len() == 0 {
-        print_number(empty);
+        print_number(rt, empty);
     } else {
-        print_number(wide(part[0]));
+        print_number(rt, wide(part[0]));
     }
 }
 

@@ -10,39 +10,50 @@ use utf8::InBytes;
 // decode bytes, out cells, position cells => ok n scalars, and the positions: the first, and how
 // far
 //   each is from the one before
-pub fn decode(line: &[u8], bytes: &mut [u8], cells: &mut [u32], positions: &mut [u32]) {
-    let n = read_bytes(field(line, 1), bytes);
-    let room = lent(field(line, 2), cells.len());
-    let places = lent(field(line, 3), positions.len());
-    call(&bytes[..n], &mut cells[0..room], &mut positions[0..places]);
+pub fn decode(
+    rt: &impl Print,
+    line: &[u8],
+    bytes: &mut [u8],
+    cells: &mut [u32],
+    positions: &mut [u32],
+) {
+    let n = read_bytes(rt, field(line, 1), bytes);
+    let room = lent(rt, field(line, 2), cells.len());
+    let places = lent(rt, field(line, 3), positions.len());
+    call(
+        rt,
+        &bytes[..n],
+        &mut cells[0..room],
+        &mut positions[0..places],
+    );
 }
 
-fn call(bytes: &[u8], out: &mut [u32], positions: &mut [u32]) {
+fn call(rt: &impl Print, bytes: &[u8], out: &mut [u32], positions: &mut [u32]) {
     smear(out);
     smear(positions);
     let answer = utf8::decode(bytes, out, positions);
     match answer {
-        Answer::Accepted(n) => print_rows(out, positions, n),
+        Answer::Accepted(n) => print_rows(rt, out, positions, n),
         Answer::Refused(r) => {
-            expect_leftovers(out, 0);
-            expect_leftovers(positions, 0);
-            print_refusal(r);
+            expect_leftovers(rt, out, 0);
+            expect_leftovers(rt, positions, 0);
+            print_refusal(rt, r);
         }
     }
 }
 
-fn print_rows(out: &[u32], positions: &mut [u32], n: usize) {
+fn print_rows(rt: &impl Print, out: &[u32], positions: &mut [u32], n: usize) {
     let scalars = first(out, n);
     let places = scalars.len() + 1;
-    expect_leftovers(out, n);
-    expect_leftovers(positions, places);
-    print(b"ok ");
-    print_number(n);
-    print(b" ");
-    print_cells(scalars);
-    print(b" ");
+    expect_leftovers(rt, out, n);
+    expect_leftovers(rt, positions, places);
+    print(rt, b"ok ");
+    print_number(rt, n);
+    print(rt, b" ");
+    print_cells(rt, scalars);
+    print(rt, b" ");
     steps(positions);
-    print_cells(first(positions, places));
+    print_cells(rt, first(positions, places));
 }
 
 // Each cell but the first becomes its distance from the one before it.
@@ -59,46 +70,52 @@ fn steps(row: &mut [u32]) {
 
 // endbytes bytes, ends as cells => ok the ends in bytes, joined by commas, `x` for one that has
 // none
-pub fn ends_in_bytes(line: &[u8], bytes: &mut [u8], cells: &mut [u32], positions: &mut [u32]) {
-    let n = read_bytes(field(line, 1), bytes);
+pub fn ends_in_bytes(
+    rt: &impl Print,
+    line: &[u8],
+    bytes: &mut [u8],
+    cells: &mut [u32],
+    positions: &mut [u32],
+) {
+    let n = read_bytes(rt, field(line, 1), bytes);
     let answer = utf8::decode(&bytes[..n], cells, positions);
     match answer {
         Answer::Accepted(characters) => {
-            let ends = read_cells(field(line, 2), cells);
-            print(b"ok ");
-            print_ends(positions, characters, first(cells, ends));
+            let ends = read_cells(rt, field(line, 2), cells);
+            print(rt, b"ok ");
+            print_ends(rt, positions, characters, first(cells, ends));
         }
-        Answer::Refused(r) => print_refusal(r),
+        Answer::Refused(r) => print_refusal(rt, r),
     }
 }
 
-fn print_ends(positions: &[u32], n: usize, ends: &[u32]) {
+fn print_ends(rt: &impl Print, positions: &[u32], n: usize, ends: &[u32]) {
     if ends.len() == 0 {
-        print(b"-");
+        print(rt, b"-");
     }
     let mut i = 0;
     while i < ends.len() {
         if 0 < i {
-            print(b",");
+            print(rt, b",");
         }
-        print_place(utf8::end_in_bytes(positions, n, wide(ends[i])));
+        print_place(rt, utf8::end_in_bytes(positions, n, wide(ends[i])));
         i += 1;
     }
 }
 
 // end_in_bytes a position row, n, end => ok place, or ok x
-pub fn end_in_row(line: &[u8], positions: &mut [u32]) {
-    let cells = read_cells(field(line, 1), positions);
-    let n = number(field(line, 2));
-    let end = number(field(line, 3));
-    print(b"ok ");
-    print_place(utf8::end_in_bytes(first(positions, cells), n, end));
+pub fn end_in_row(rt: &impl Print, line: &[u8], positions: &mut [u32]) {
+    let cells = read_cells(rt, field(line, 1), positions);
+    let n = number(rt, field(line, 2));
+    let end = number(rt, field(line, 3));
+    print(rt, b"ok ");
+    print_place(rt, utf8::end_in_bytes(first(positions, cells), n, end));
 }
 
-fn print_place(place: InBytes) {
+fn print_place(rt: &impl Print, place: InBytes) {
     match place {
-        InBytes::At(p) => print_number(p),
-        InBytes::Nothing => print(b"x"),
+        InBytes::At(p) => print_number(rt, p),
+        InBytes::Nothing => print(rt, b"x"),
     }
 }
 

@@ -3,6 +3,8 @@
 //
 // Scratch is lent full of leftovers. Where a call leaves a cell otherwise than documents 01 and 02
 // say, a `?` is written.
+#![tactic(auto)]
+
 use newmm_claim::{ClaimAnswer, check_claim};
 use test_lines::{
     behind, field, first, is, part_at, print, print_number, print_refusal, read_cells, read_input,
@@ -20,14 +22,15 @@ const TEXT: usize = 70000;
 
 const SCRATCH: usize = 589952;
 
-fn main() {
+fn main(rt: HostRuntime) {
     let mut input = [0u8; INPUT];
     let mut pool = [0u32; POOL];
     let mut text = [0u32; TEXT];
     let mut claimed = [0u32; TEXT];
     let mut scratch = [0u32; SCRATCH];
-    let n = read_input(&mut input);
+    let n = read_input(&rt, &mut rt.stdin(), &mut input);
     replay(
+        &rt,
         &input[..n],
         &mut pool,
         &mut text,
@@ -37,6 +40,7 @@ fn main() {
 }
 
 fn replay(
+    rt: &impl Print,
     input: &[u8],
     pool: &mut [u32],
     text: &mut [u32],
@@ -45,13 +49,14 @@ fn replay(
 ) {
     let mut at = 0;
     while at < input.len() {
-        answer(part_at(input, at, b'\n'), pool, text, claimed, scratch);
-        print(b"\n");
+        answer(rt, part_at(input, at, b'\n'), pool, text, claimed, scratch);
+        print(rt, b"\n");
         at = behind(input, at, b'\n');
     }
 }
 
 fn answer(
+    rt: &impl Print,
     line: &[u8],
     pool: &mut [u32],
     text: &mut [u32],
@@ -60,25 +65,33 @@ fn answer(
 ) {
     let op = field(line, 0);
     if is(op, b"claim") {
-        let cells = hold(field(line, 1), text, pool);
-        lend(line, first(pool, cells), text, claimed, scratch);
+        let cells = hold(rt, field(line, 1), text, pool);
+        lend(rt, line, first(pool, cells), text, claimed, scratch);
         return;
     }
     if is(op, b"claim_pool") {
-        let cells = read_cells(field(line, 1), pool);
-        lend(line, first(pool, cells), text, claimed, scratch);
+        let cells = read_cells(rt, field(line, 1), pool);
+        lend(rt, line, first(pool, cells), text, claimed, scratch);
         return;
     }
-    print(b"?");
+    print(rt, b"?");
 }
 
 // claim words, scalars, claimed ends as cells, scratch cells => ok yes, or ok token
 // claim_pool the pool's cells, scalars, claimed ends as cells, scratch cells => the same
-fn lend(line: &[u8], pool: &[u32], text: &mut [u32], claimed: &mut [u32], scratch: &mut [u32]) {
-    let n = read_cells(field(line, 2), text);
-    let ends = read_cells(field(line, 3), claimed);
-    let cells = scratch_cells(field(line, 4), n, scratch.len());
+fn lend(
+    rt: &impl Print,
+    line: &[u8],
+    pool: &[u32],
+    text: &mut [u32],
+    claimed: &mut [u32],
+    scratch: &mut [u32],
+) {
+    let n = read_cells(rt, field(line, 2), text);
+    let ends = read_cells(rt, field(line, 3), claimed);
+    let cells = scratch_cells(rt, field(line, 4), n, scratch.len());
     call(
+        rt,
         first(text, n),
         pool,
         first(claimed, ends),
@@ -86,22 +99,22 @@ fn lend(line: &[u8], pool: &[u32], text: &mut [u32], claimed: &mut [u32], scratc
     );
 }
 
-fn call(text: &[u32], pool: &[u32], claimed: &[u32], scratch: &mut [u32]) {
+fn call(rt: &impl Print, text: &[u32], pool: &[u32], claimed: &[u32], scratch: &mut [u32]) {
     smear(scratch);
     let answer = check_claim(text, pool, claimed, scratch);
     match answer {
         ClaimAnswer::Right => {
-            expect_zero(scratch);
-            print(b"ok yes");
+            expect_zero(rt, scratch);
+            print(rt, b"ok yes");
         }
         ClaimAnswer::Wrong(k) => {
-            expect_zero(scratch);
-            print(b"ok ");
-            print_number(k);
+            expect_zero(rt, scratch);
+            print(rt, b"ok ");
+            print_number(rt, k);
         }
         ClaimAnswer::Refused(r) => {
-            expect_leftovers(scratch, 0);
-            print_refusal(r);
+            expect_leftovers(rt, scratch, 0);
+            print_refusal(rt, r);
         }
     }
 }

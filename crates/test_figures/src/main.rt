@@ -3,6 +3,8 @@
 //
 // The row of pairs has one cell more than its records take. It and scratch are lent full of
 // leftovers. Where a call leaves a cell otherwise than documents 01 and 02 say, a `?` is written.
+#![tactic(auto)]
+
 ghost use Rattle.std.specs.Prelude.{◌≤◌};
 
 use figures::{feed, feed_refused, join};
@@ -32,22 +34,22 @@ const SCRATCH: usize = 16384;
 // The most texts of a line.
 const TEXTS: usize = 16;
 
-fn main() {
+fn main(rt: HostRuntime) {
     let mut input = [0u8; INPUT];
-    let n = read_input(&mut input);
-    replay(&input[..n]);
+    let n = read_input(&rt, &mut rt.stdin(), &mut input);
+    replay(&rt, &input[..n]);
 }
 
-fn replay(input: &[u8]) {
+fn replay(rt: &impl Print, input: &[u8]) {
     let mut at = 0;
     while at < input.len() {
-        answer(part_at(input, at, b'\n'));
-        print(b"\n");
+        answer(rt, part_at(input, at, b'\n'));
+        print(rt, b"\n");
         at = behind(input, at, b'\n');
     }
 }
 
-#[derive(Drop)]
+#[derive(Clone, Copy)]
 enum Op {
     Run,
     Feed,
@@ -72,36 +74,36 @@ fn op_of(name: &[u8]) -> Op {
     Op::Nothing
 }
 
-fn answer(line: &[u8]) {
+fn answer(rt: &impl Print, line: &[u8]) {
     let op = op_of(field(line, 0));
     match op {
-        Op::Run => run(line),
-        Op::Feed => feed_one(line),
-        Op::Refused => refuse(line),
-        Op::Join => join_two(line),
-        Op::Nothing => print(b"?"),
+        Op::Run => run(rt, line),
+        Op::Feed => feed_one(rt, line),
+        Op::Refused => refuse(rt, line),
+        Op::Join => join_two(rt, line),
+        Op::Nothing => print(rt, b"?"),
     }
 }
 
 // figures words, number of texts, the texts => ok figures
-fn run(line: &[u8]) {
+fn run(rt: &impl Print, line: &[u8]) {
     let mut row = [0u32; TEXT];
     let mut pool = [0u32; POOL];
-    let cells = hold(field(line, 1), &mut row, &mut pool);
-    let texts = lent(field(line, 2), TEXTS);
-    let figures = fed(line, texts, first(&pool, cells));
-    print(b"ok ");
-    print_figures(&figures);
+    let cells = hold(rt, field(line, 1), &mut row, &mut pool);
+    let texts = lent(rt, field(line, 2), TEXTS);
+    let figures = fed(rt, line, texts, first(&pool, cells));
+    print(rt, b"ok ");
+    print_figures(rt, &figures);
 }
 
 // The figures of the first texts of a line, from zeros.
-fn fed(line: &[u8], texts: usize, pool: &[u32]) -> [u64; 16]
+fn fed(rt: &impl Print, line: &[u8], texts: usize, pool: &[u32]) -> [u64; 16]
     requires { texts ≤ 16 }
 {
     let mut figures = [0u64; 16];
     let mut i = 0;
     while i < texts {
-        feed_text(line, 3 + 4 * i, pool, &mut figures, false);
+        feed_text(rt, line, 3 + 4 * i, pool, &mut figures, false);
         i += 1;
     }
     figures
@@ -109,31 +111,31 @@ fn fed(line: &[u8], texts: usize, pool: &[u32]) -> [u64; 16]
 
 // feed words, figures, text => ok pairs edges figures, or the refusal and figures; after 13 what
 // became of scratch before them
-fn feed_one(line: &[u8]) {
+fn feed_one(rt: &impl Print, line: &[u8]) {
     let mut row = [0u32; TEXT];
     let mut pool = [0u32; POOL];
-    let cells = hold(field(line, 1), &mut row, &mut pool);
-    let mut figures = read_figures(field(line, 2));
-    feed_text(line, 3, first(&pool, cells), &mut figures, true);
-    print(b" ");
-    print_figures(&figures);
+    let cells = hold(rt, field(line, 1), &mut row, &mut pool);
+    let mut figures = read_figures(rt, field(line, 2));
+    feed_text(rt, line, 3, first(&pool, cells), &mut figures, true);
+    print(rt, b" ");
+    print_figures(rt, &figures);
 }
 
 // refused figures, number => ok figures, or the refusal and figures
-fn refuse(line: &[u8]) {
-    let mut figures = read_figures(field(line, 1));
-    let given = feed_refused(&mut figures, short(number(field(line, 2))));
-    print_answer(given);
-    print_figures(&figures);
+fn refuse(rt: &impl Print, line: &[u8]) {
+    let mut figures = read_figures(rt, field(line, 1));
+    let given = feed_refused(&mut figures, short(number(rt, field(line, 2))));
+    print_answer(rt, given);
+    print_figures(rt, &figures);
 }
 
 // join figures, figures => ok figures, or the refusal and the first figures
-fn join_two(line: &[u8]) {
-    let mut figures = read_figures(field(line, 1));
-    let more = read_figures(field(line, 2));
+fn join_two(rt: &impl Print, line: &[u8]) {
+    let mut figures = read_figures(rt, field(line, 1));
+    let more = read_figures(rt, field(line, 2));
     let given = join(&mut figures, &more);
-    print_answer(given);
-    print_figures(&figures);
+    print_answer(rt, given);
+    print_figures(rt, &figures);
 }
 
 fn short(n: usize) -> u32 {
@@ -143,37 +145,54 @@ fn short(n: usize) -> u32 {
     0
 }
 
-fn print_answer(given: Answer) {
+fn print_answer(rt: &impl Print, given: Answer) {
     match given {
         Answer::Accepted(n) => {
             if n != 0 {
-                print(b"?");
+                print(rt, b"?");
             }
-            print(b"ok ");
+            print(rt, b"ok ");
         }
         Answer::Refused(r) => {
-            print_refusal(r);
-            print(b" ");
+            print_refusal(rt, r);
+            print(rt, b" ");
         }
     }
 }
 
 // Feeds the text whose four fields start at the k-th of a line.
-fn feed_text(line: &[u8], k: usize, pool: &[u32], figures: &mut [u64; 16], shown: bool)
+fn feed_text(
+    rt: &impl Print,
+    line: &[u8],
+    k: usize,
+    pool: &[u32],
+    figures: &mut [u64; 16],
+    shown: bool,
+)
     requires { k ≤ 99 }
 {
     let mut row = [0u32; TEXT];
-    let n = read_cells(field(line, k + 1), &mut row);
-    let cells = scratch_cells(field(line, k + 2), n, SCRATCH);
-    let records = lent(field(line, k + 3), PAIRS / 2);
+    let n = read_cells(rt, field(line, k + 1), &mut row);
+    let cells = scratch_cells(rt, field(line, k + 2), n, SCRATCH);
+    let records = lent(rt, field(line, k + 3), PAIRS / 2);
     let named = mode_of(field(line, k));
     match named {
-        Named::In(mode) => lend(first(&row, n), pool, figures, mode, cells, records, shown),
-        Named::Nothing => print(b"?"),
+        Named::In(mode) => lend(
+            rt,
+            first(&row, n),
+            pool,
+            figures,
+            mode,
+            cells,
+            records,
+            shown,
+        ),
+        Named::Nothing => print(rt, b"?"),
     }
 }
 
 fn lend(
+    rt: &impl Print,
     text: &[u32],
     pool: &[u32],
     figures: &mut [u64; 16],
@@ -187,6 +206,7 @@ fn lend(
     let mut pairs = [0u32; PAIRS];
     let mut scratch = [0u32; SCRATCH];
     call(
+        rt,
         text,
         pool,
         figures,
@@ -198,6 +218,7 @@ fn lend(
 }
 
 fn call(
+    rt: &impl Print,
     text: &[u32],
     pool: &[u32],
     figures: &mut [u64; 16],
@@ -210,8 +231,8 @@ fn call(
     smear(scratch);
     let given = feed(figures, text, pool, pairs, scratch, mode);
     match given {
-        CutAnswer::Ends(n, edges) => show_cut(n, edges, pairs, scratch, shown),
-        CutAnswer::Refused(r) => show_refused(r, pairs, scratch, shown),
+        CutAnswer::Ends(n, edges) => show_cut(rt, n, edges, pairs, scratch, shown),
+        CutAnswer::Refused(r) => show_refused(rt, r, pairs, scratch, shown),
     }
 }
 
@@ -223,42 +244,42 @@ fn told_cells(records: usize, most: usize) -> usize {
     most
 }
 
-fn show_cut(n: usize, edges: usize, pairs: &[u32], scratch: &[u32], shown: bool) {
+fn show_cut(rt: &impl Print, n: usize, edges: usize, pairs: &[u32], scratch: &[u32], shown: bool) {
     let cells = told_cells(n, pairs.len());
-    expect_zero(scratch);
-    expect_leftovers(pairs, cells);
+    expect_zero(rt, scratch);
+    expect_leftovers(rt, pairs, cells);
     if shown {
-        print(b"ok ");
-        print_numbers(first(pairs, cells), b',');
-        print(b" ");
-        print_number(edges);
+        print(rt, b"ok ");
+        print_numbers(rt, first(pairs, cells), b',');
+        print(rt, b" ");
+        print_number(rt, edges);
     }
 }
 
-fn show_refused(r: Refusal, pairs: &[u32], scratch: &[u32], shown: bool) {
-    expect_leftovers(pairs, 0);
+fn show_refused(rt: &impl Print, r: Refusal, pairs: &[u32], scratch: &[u32], shown: bool) {
+    expect_leftovers(rt, pairs, 0);
     if shown {
-        print_refusal(r);
+        print_refusal(rt, r);
     }
     let number = refusal::number(r);
     if number == 13 {
-        print(b" ");
-        print_left(scratch);
+        print(rt, b" ");
+        print_left(rt, scratch);
         return;
     }
     if number == 6 {
-        expect_zero(scratch);
+        expect_zero(rt, scratch);
         return;
     }
-    expect_leftovers(scratch, 0);
+    expect_leftovers(rt, scratch, 0);
 }
 
-fn read_figures(text: &[u8]) -> [u64; 16] {
+fn read_figures(rt: &impl Print, text: &[u8]) -> [u64; 16] {
     let mut figures = [0u64; 16];
     let mut at = 0;
     let mut i = 0;
     while i < 16 {
-        figures[i] = long(number(part_at(text, at, b',')));
+        figures[i] = long(number(rt, part_at(text, at, b',')));
         at = behind(text, at, b',');
         i += 1;
     }
@@ -269,13 +290,13 @@ fn long(n: usize) -> u64 {
     n as u64
 }
 
-fn print_figures(figures: &[u64; 16]) {
+fn print_figures(rt: &impl Print, figures: &[u64; 16]) {
     let mut i = 0;
     while i < 16 {
         if i != 0 {
-            print(b",");
+            print(rt, b",");
         }
-        print_number(figures[i] as usize);
+        print_number(rt, figures[i] as usize);
         i += 1;
     }
 }

@@ -3,18 +3,37 @@ ghost use Rattle.std.specs.Prelude.{◌-◌, ◌≤◌, length};
 ghost use Rattle.io.specs.Counts.{IsPrefixLen};
 
 use crate::output::unread;
-use libc::STDIN_FILENO;
+use std::io::Read;
 
-// Reads standard input into buffer and answers how many bytes there are. An input that fills buffer
-// may be cut off, and cannot be read.
-pub fn read_input(buffer: &mut [u8]) -> usize
+// Reads an input into buffer and answers how many bytes there are. An input that fills buffer may be
+// cut off, and cannot be read.
+pub fn read_input<R: Read>(rt: &impl Print, input: &mut R, buffer: &mut [u8]) -> usize
     ensures { IsPrefixLen result buffer.new }
 {
-    let n = io::read_full(STDIN_FILENO, buffer);
+    let n = read_full(input, buffer);
     if n == buffer.len() {
-        unread();
+        unread(rt);
     }
     n
+}
+
+// Reads until buffer is full, the input ends or a read fails, and answers how many bytes it put at
+// the front of buffer.
+pub fn read_full<R: Read>(input: &mut R, buffer: &mut [u8]) -> usize
+    ensures { IsPrefixLen result buffer.new }
+{
+    let mut done = 0;
+    while done < buffer.len() {
+        let n = match input.read(&mut buffer[done..]) {
+            Ok(n) => n,
+            Err(_) => 0,
+        };
+        if n == 0 {
+            break;
+        }
+        done += n;
+    }
+    done
 }
 
 // The first place from `at` on where the mark stands, or the length.

@@ -1,9 +1,12 @@
 // Test vectors: each line of input is an operation with its inputs, parted by tabs; each line of
 // output is an answer.
 //
+// Each function that writes is passed the runtime first.
+//
 // Reading. Each function takes any bytes; what cannot be read writes a `?`, so that no expected
 // line fits the answer.
-//   read_input(buffer) -> usize      reads standard input into buffer; how many bytes there are
+//   read_input(input, buffer)        reads an input into buffer; how many bytes there are
+//   read_full(input, buffer)         reads from a reader until buffer is full or no more comes
 //   part_at(text, at, mark) -> &[u8] the part from `at` up to the next mark: a line, a field
 //   behind(text, at, mark) -> usize  where the part after that one starts; less text is left
 //   field(line, k) -> &[u8]          the k-th field of a line from 0 on; empty if there is none
@@ -21,10 +24,12 @@
 //   print_cells(row)                 as read_cells reads them, four or more equal cells as a run
 //   print_numbers(row, mark)         in decimal with the mark between, `-` for none
 //   print_refusal(r)                 `! number detail`
+#![tactic(auto)]
+
 mod input;
 mod output;
 mod parse;
 
-pub use input::{behind, field, head, is, part_at, read_input, tail};
+pub use input::{behind, field, head, is, part_at, read_full, read_input, tail};
 pub use output::{first, print, print_cells, print_number, print_numbers, print_refusal};
 pub use parse::{lent, number, read_bytes, read_cells};

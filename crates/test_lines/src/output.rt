@@ -1,31 +1,30 @@
 // Answers, written to standard output. A row is gathered in a buffer and written when that is full.
 ghost use Rattle.std.specs.Prelude.{◌+◌, ◌<◌, ◌≤◌, length};
 
-use libc::STDOUT_FILENO;
 use refusal::Refusal;
 
 // So many equal cells, or more, are written as one cell with their count.
 const RUN: usize = 4;
 
-pub fn print(text: &[u8]) {
-    io::write_all(STDOUT_FILENO, text);
+pub fn print(rt: &impl Print, text: &[u8]) {
+    let _ = rt.write_all(text);
 }
 
 // What cannot be read leaves this in the answer.
-pub fn unread() {
-    print(b"?");
+pub fn unread(rt: &impl Print) {
+    print(rt, b"?");
 }
 
-pub fn print_number(n: usize) {
-    io::print_decimal(STDOUT_FILENO, n as u64);
+pub fn print_number(rt: &impl Print, n: usize) {
+    let _ = print!(rt; "{n}");
 }
 
 // `! number detail`
-pub fn print_refusal(r: Refusal) {
-    print(b"! ");
-    print_number(refusal::number(r) as usize);
-    print(b" ");
-    print_number(refusal::detail(r));
+pub fn print_refusal(rt: &impl Print, r: Refusal) {
+    print(rt, b"! ");
+    print_number(rt, refusal::number(r) as usize);
+    print(rt, b" ");
+    print_number(rt, refusal::detail(r));
 }
 
 // The first n cells of row, or all of it where there are fewer.
@@ -37,41 +36,41 @@ pub fn first(row: &[u32], n: usize) -> &[u32] {
 }
 
 // The numbers of row in decimal with the mark between, `-` for none.
-pub fn print_numbers(row: &[u32], mark: u8) {
+pub fn print_numbers(rt: &impl Print, row: &[u32], mark: u8) {
     if row.len() == 0 {
-        print(b"-");
+        print(rt, b"-");
         return;
     }
-    let mut buffer = io::buffer();
+    let mut buffer = [0u8; 4096];
     let waiting: &mut [u8] = &mut buffer;
     let mut used = 0;
     let mut i = 0;
     while i < row.len() {
-        used = put_mark(waiting, used, mark, i);
-        used = put_decimal(waiting, used, wide(row[i]));
+        used = put_mark(rt, waiting, used, mark, i);
+        used = put_decimal(rt, waiting, used, wide(row[i]));
         i += 1;
     }
-    flush(waiting, used);
+    flush(rt, waiting, used);
 }
 
 // The cells of row in hexadecimal, joined by `.`, four or more equal ones as `cell*count`, `-` for
 // none.
-pub fn print_cells(row: &[u32]) {
+pub fn print_cells(rt: &impl Print, row: &[u32]) {
     if row.len() == 0 {
-        print(b"-");
+        print(rt, b"-");
         return;
     }
-    let mut buffer = io::buffer();
+    let mut buffer = [0u8; 4096];
     let waiting: &mut [u8] = &mut buffer;
     let mut used = 0;
     let mut i = 0;
     while i < row.len() {
-        used = put_mark(waiting, used, b'.', i);
+        used = put_mark(rt, waiting, used, b'.', i);
         let n = run_at(row, i);
-        used = put_run(waiting, used, row[i], n);
+        used = put_run(rt, waiting, used, row[i], n);
         i += n;
     }
-    flush(waiting, used);
+    flush(rt, waiting, used);
 }
 
 fn wide(x: u32) -> u64 {
@@ -99,12 +98,12 @@ fn run_at(row: &[u32], i: usize) -> usize
 
 // Each `put` adds to the `used` bytes that wait in a buffer, and answers how many wait then. The
 // buffer is never empty.
-fn put(waiting: &mut [u8], used: usize, b: u8) -> usize {
+fn put(rt: &impl Print, waiting: &mut [u8], used: usize, b: u8) -> usize {
     if used < waiting.len() {
         waiting[used] = b;
         return used + 1;
     }
-    flush(waiting, used);
+    flush(rt, waiting, used);
     if waiting.len() == 0 {
         return 0;
     }
@@ -112,39 +111,39 @@ fn put(waiting: &mut [u8], used: usize, b: u8) -> usize {
     1
 }
 
-fn put_mark(waiting: &mut [u8], used: usize, mark: u8, i: usize) -> usize {
+fn put_mark(rt: &impl Print, waiting: &mut [u8], used: usize, mark: u8, i: usize) -> usize {
     if i == 0 {
         return used;
     }
-    put(waiting, used, mark)
+    put(rt, waiting, used, mark)
 }
 
-fn put_decimal(waiting: &mut [u8], used: usize, n: u64) -> usize {
+fn put_decimal(rt: &impl Print, waiting: &mut [u8], used: usize, n: u64) -> usize {
     let mut text = [0u8; 20];
     let k = io::decimal(n, &mut text);
-    put_all(waiting, used, &text[..k])
+    put_all(rt, waiting, used, &text[..k])
 }
 
-fn put_hex(waiting: &mut [u8], used: usize, n: u64) -> usize {
+fn put_hex(rt: &impl Print, waiting: &mut [u8], used: usize, n: u64) -> usize {
     let mut text = [0u8; 16];
     let k = io::hex(n, 1, &mut text);
-    put_all(waiting, used, &text[..k])
+    put_all(rt, waiting, used, &text[..k])
 }
 
-fn put_run(waiting: &mut [u8], used: usize, cell: u32, times: usize) -> usize {
-    let shown = put_hex(waiting, used, cell as u64);
+fn put_run(rt: &impl Print, waiting: &mut [u8], used: usize, cell: u32, times: usize) -> usize {
+    let shown = put_hex(rt, waiting, used, cell as u64);
     if times <= 1 {
         return shown;
     }
-    let starred = put(waiting, shown, b'*');
-    put_decimal(waiting, starred, times as u64)
+    let starred = put(rt, waiting, shown, b'*');
+    put_decimal(rt, waiting, starred, times as u64)
 }
 
-fn put_all(waiting: &mut [u8], used: usize, text: &[u8]) -> usize {
+fn put_all(rt: &impl Print, waiting: &mut [u8], used: usize, text: &[u8]) -> usize {
     let mut n = used;
     let mut i = 0;
     while i < text.len() {
-        n = put(waiting, n, upper(text[i]));
+        n = put(rt, waiting, n, upper(text[i]));
         i += 1;
     }
     n
@@ -159,10 +158,10 @@ fn upper(b: u8) -> u8 {
 }
 
 // Writes the `used` bytes that wait.
-fn flush(waiting: &[u8], used: usize) {
+fn flush(rt: &impl Print, waiting: &[u8], used: usize) {
     if used < waiting.len() {
-        print(&waiting[0..used]);
+        print(rt, &waiting[0..used]);
         return;
     }
-    print(waiting);
+    print(rt, waiting);
 }

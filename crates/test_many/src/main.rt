@@ -3,6 +3,8 @@
 //
 // The rows are lent full of leftovers. Where a call leaves a cell otherwise than it should, a `?`
 // is written.
+#![tactic(auto)]
+
 ghost use Rattle.std.specs.Prelude.{◌≤◌};
 
 use newmm_many::{cut_many, cut_reasons_many};
@@ -29,7 +31,7 @@ const ANSWERS: usize = 1024;
 
 const SCRATCH: usize = 589952;
 
-fn main() {
+fn main(rt: HostRuntime) {
     let mut input = [0u8; INPUT];
     let mut pool = [0u32; POOL];
     let mut texts = [0u32; TEXT];
@@ -37,8 +39,9 @@ fn main() {
     let mut answers = [0u32; ANSWERS];
     let mut out = [0u32; TEXT];
     let mut scratch = [0u32; SCRATCH];
-    let n = read_input(&mut input);
+    let n = read_input(&rt, &mut rt.stdin(), &mut input);
     replay(
+        &rt,
         &input[..n],
         &mut pool,
         &mut texts,
@@ -50,6 +53,7 @@ fn main() {
 }
 
 fn replay(
+    rt: &impl Print,
     input: &[u8],
     pool: &mut [u32],
     texts: &mut [u32],
@@ -61,14 +65,14 @@ fn replay(
     let mut at = 0;
     while at < input.len() {
         let line = part_at(input, at, b'\n');
-        answer(line, pool, texts, text_ends, answers, out, scratch);
-        print(b"\n");
+        answer(rt, line, pool, texts, text_ends, answers, out, scratch);
+        print(rt, b"\n");
         at = behind(input, at, b'\n');
     }
 }
 
 // What a line asks for: ends or pairs, by the words of a pool or of one of its plants.
-#[derive(Drop)]
+#[derive(Clone, Copy)]
 enum Form {
     Ends,
     Pairs,
@@ -77,7 +81,7 @@ enum Form {
 }
 
 // What a line calls its form.
-#[derive(Drop)]
+#[derive(Clone, Copy)]
 enum Asked {
     By(Form),
     Nothing,
@@ -109,14 +113,15 @@ fn form_of(op: &[u8]) -> Asked {
 }
 
 // Puts a line's words into the pool, or its cells; how many cells the pool has.
-fn read_pool(line: &[u8], texts: &mut [u32], pool: &mut [u32]) -> usize {
+fn read_pool(rt: &impl Print, line: &[u8], texts: &mut [u32], pool: &mut [u32]) -> usize {
     if is(field(line, 0), b"many") {
-        return hold(field(line, 2), texts, pool);
+        return hold(rt, field(line, 2), texts, pool);
     }
-    read_cells(field(line, 2), pool)
+    read_cells(rt, field(line, 2), pool)
 }
 
 fn answer(
+    rt: &impl Print,
     line: &[u8],
     pool: &mut [u32],
     texts: &mut [u32],
@@ -128,8 +133,9 @@ fn answer(
     let asked = form_of(field(line, 0));
     match asked {
         Asked::By(form) => {
-            let cells = read_pool(line, texts, pool);
+            let cells = read_pool(rt, line, texts, pool);
             lend(
+                rt,
                 line,
                 first(pool, cells),
                 texts,
@@ -140,7 +146,7 @@ fn answer(
                 form,
             );
         }
-        Asked::Nothing => print(b"?"),
+        Asked::Nothing => print(rt, b"?"),
     }
 }
 
@@ -149,6 +155,7 @@ fn answer(
 // many_pool mode, the pool's cells, and so on, as many; pairs_pool tells ends and reasons
 // many_a, many_b, pairs_a, pairs_b by a plant's words
 fn lend(
+    rt: &impl Print,
     line: &[u8],
     pool: &[u32],
     texts: &mut [u32],
@@ -161,13 +168,14 @@ fn lend(
     let named = mode_of(field(line, 1));
     match named {
         Named::In(mode) => ask(
-            line, pool, texts, text_ends, answers, out, scratch, mode, form,
+            rt, line, pool, texts, text_ends, answers, out, scratch, mode, form,
         ),
-        Named::Nothing => print(b"?"),
+        Named::Nothing => print(rt, b"?"),
     }
 }
 
 fn ask(
+    rt: &impl Print,
     line: &[u8],
     pool: &[u32],
     texts: &mut [u32],
@@ -178,9 +186,10 @@ fn ask(
     mode: Mode,
     form: Form,
 ) {
-    let n = read_cells(field(line, 3), texts);
-    let k = read_cells(field(line, 4), text_ends);
+    let n = read_cells(rt, field(line, 3), texts);
+    let k = read_cells(rt, field(line, 4), text_ends);
     lend_rows(
+        rt,
         line,
         first(texts, n),
         first(text_ends, k),
@@ -194,6 +203,7 @@ fn ask(
 }
 
 fn lend_rows(
+    rt: &impl Print,
     line: &[u8],
     texts: &[u32],
     text_ends: &[u32],
@@ -204,10 +214,11 @@ fn lend_rows(
     mode: Mode,
     form: Form,
 ) {
-    let told = lent(field(line, 5), answers.len());
-    let room = lent(field(line, 6), out.len());
-    let cells = lent(field(line, 7), scratch.len());
+    let told = lent(rt, field(line, 5), answers.len());
+    let room = lent(rt, field(line, 6), out.len());
+    let cells = lent(rt, field(line, 7), scratch.len());
     call(
+        rt,
         texts,
         text_ends,
         pool,
@@ -220,6 +231,7 @@ fn lend_rows(
 }
 
 fn call(
+    rt: &impl Print,
     texts: &[u32],
     text_ends: &[u32],
     pool: &[u32],
@@ -233,7 +245,7 @@ fn call(
     smear(out);
     smear(scratch);
     let answer = answer_to(texts, text_ends, pool, answers, out, scratch, mode, form);
-    show(answer, answers, out, scratch, has_pairs(form));
+    show(rt, answer, answers, out, scratch, has_pairs(form));
 }
 
 fn answer_to(
@@ -267,20 +279,27 @@ fn has_pairs(form: Form) -> bool {
     }
 }
 
-fn show(answer: Answer, answers: &[u32], out: &[u32], scratch: &[u32], pairs: bool) {
+fn show(
+    rt: &impl Print,
+    answer: Answer,
+    answers: &[u32],
+    out: &[u32],
+    scratch: &[u32],
+    pairs: bool,
+) {
     match answer {
         Answer::Accepted(n) => {
-            print(b"ok ");
-            print_number(n);
-            print_rows(first(answers, four_times(n, answers.len())), out, pairs);
-            expect_leftovers(answers, four_times(n, answers.len()));
-            print_left(scratch);
+            print(rt, b"ok ");
+            print_number(rt, n);
+            print_rows(rt, first(answers, four_times(n, answers.len())), out, pairs);
+            expect_leftovers(rt, answers, four_times(n, answers.len()));
+            print_left(rt, scratch);
         }
         Answer::Refused(r) => {
-            expect_leftovers(answers, 0);
-            expect_leftovers(out, 0);
-            expect_leftovers(scratch, 0);
-            print_refusal(r);
+            expect_leftovers(rt, answers, 0);
+            expect_leftovers(rt, out, 0);
+            expect_leftovers(rt, scratch, 0);
+            print_refusal(rt, r);
         }
     }
 }
@@ -302,14 +321,14 @@ fn used_cells(answers: &[u32], room: usize, pairs: bool) -> usize {
 }
 
 // The answers, and as many ends or pairs as they count.
-fn print_rows(answers: &[u32], out: &[u32], pairs: bool) {
+fn print_rows(rt: &impl Print, answers: &[u32], out: &[u32], pairs: bool) {
     let used = used_cells(answers, out.len(), pairs);
-    print(b" ");
-    print_numbers(answers, b',');
-    print(b" ");
-    print_numbers(first(out, used), b',');
-    print(b" ");
-    expect_leftovers(out, used);
+    print(rt, b" ");
+    print_numbers(rt, answers, b',');
+    print(rt, b" ");
+    print_numbers(rt, first(out, used), b',');
+    print(rt, b" ");
+    expect_leftovers(rt, out, used);
 }
 
 fn wide(x: u32) -> usize {

@@ -17,7 +17,7 @@ use word_list_plants::read_image_in;
 use word_list_plants_write::write_image_in;
 use word_list_write::write_image;
 
-#[derive(Drop)]
+#[derive(Clone, Copy)]
 pub enum Whose {
     Plain,
     Of(Plant),

@@ -26,24 +26,31 @@ fn part(text: &[u8], k: usize) -> &[u8] {
 }
 
 // scalars => ends of the plain cut
-pub fn plain_ends(whose: Whose, scalars: &[u8], pool: &[u32], cells: &mut [u32]) {
+pub fn plain_ends(rt: &impl Print, whose: Whose, scalars: &[u8], pool: &[u32], cells: &mut [u32]) {
     let mut out = [0u32; OUT];
     let mut scratch = [0u32; SCRATCH];
-    let n = read_cells(scalars, cells);
-    tell_ends(whose, first(cells, n), pool, &mut out, &mut scratch);
+    let n = read_cells(rt, scalars, cells);
+    tell_ends(rt, whose, first(cells, n), pool, &mut out, &mut scratch);
 }
 
-fn tell_ends(whose: Whose, text: &[u32], pool: &[u32], out: &mut [u32], scratch: &mut [u32]) {
+fn tell_ends(
+    rt: &impl Print,
+    whose: Whose,
+    text: &[u32],
+    pool: &[u32],
+    out: &mut [u32],
+    scratch: &mut [u32],
+) {
     smear(out);
     smear(scratch);
     let answer = ends(whose, text, pool, out, scratch, Mode::Plain);
     match answer {
         CutAnswer::Ends(k, _) => {
-            expect_zero(scratch);
-            expect_leftovers(out, k);
-            print_numbers(first(out, k), b'.');
+            expect_zero(rt, scratch);
+            expect_leftovers(rt, out, k);
+            print_numbers(rt, first(out, k), b'.');
         }
-        CutAnswer::Refused(r) => refused(r, out, scratch),
+        CutAnswer::Refused(r) => refused(rt, r, out, scratch),
     }
 }
 
@@ -59,18 +66,26 @@ fn pair_cells(records: usize, most: usize) -> usize
 
 // mode/scalars/scratch cells/output cells => ends/edges
 // mode/scalars/scratch cells/records => ends and reasons/edges
-pub fn cut_step(why: bool, whose: Whose, given: &[u8], pool: &[u32], cells: &mut [u32]) {
+pub fn cut_step(
+    rt: &impl Print,
+    why: bool,
+    whose: Whose,
+    given: &[u8],
+    pool: &[u32],
+    cells: &mut [u32],
+) {
     let mut out = [0u32; OUT];
     let mut scratch = [0u32; SCRATCH];
-    let n = read_cells(part(given, 1), cells);
-    let room = scratch_cells(part(given, 2), n, scratch.len());
+    let n = read_cells(rt, part(given, 1), cells);
+    let room = scratch_cells(rt, part(given, 2), n, scratch.len());
     let named = mode_of(part(given, 0));
     match named {
         Named::In(mode) => {
             if why {
-                let records = lent(part(given, 3), out.len() / 2);
+                let records = lent(rt, part(given, 3), out.len() / 2);
                 let pairs = pair_cells(records, out.len());
                 told(
+                    rt,
                     whose,
                     first(cells, n),
                     pool,
@@ -80,8 +95,9 @@ pub fn cut_step(why: bool, whose: Whose, given: &[u8], pool: &[u32], cells: &mut
                 );
                 return;
             }
-            let places = lent(part(given, 3), out.len());
+            let places = lent(rt, part(given, 3), out.len());
             cut(
+                rt,
                 whose,
                 first(cells, n),
                 pool,
@@ -90,27 +106,36 @@ pub fn cut_step(why: bool, whose: Whose, given: &[u8], pool: &[u32], cells: &mut
                 mode,
             );
         }
-        Named::Nothing => print(b"?"),
+        Named::Nothing => print(rt, b"?"),
     }
 }
 
-fn cut(whose: Whose, text: &[u32], pool: &[u32], out: &mut [u32], scratch: &mut [u32], mode: Mode) {
+fn cut(
+    rt: &impl Print,
+    whose: Whose,
+    text: &[u32],
+    pool: &[u32],
+    out: &mut [u32],
+    scratch: &mut [u32],
+    mode: Mode,
+) {
     smear(out);
     smear(scratch);
     let answer = ends(whose, text, pool, out, scratch, mode);
     match answer {
         CutAnswer::Ends(n, edges) => {
-            expect_zero(scratch);
-            expect_leftovers(out, n);
-            print_numbers(first(out, n), b'.');
-            print(b"/");
-            print_number(edges);
+            expect_zero(rt, scratch);
+            expect_leftovers(rt, out, n);
+            print_numbers(rt, first(out, n), b'.');
+            print(rt, b"/");
+            print_number(rt, edges);
         }
-        CutAnswer::Refused(r) => refused(r, out, scratch),
+        CutAnswer::Refused(r) => refused(rt, r, out, scratch),
     }
 }
 
 fn told(
+    rt: &impl Print,
     whose: Whose,
     text: &[u32],
     pool: &[u32],
@@ -123,46 +148,46 @@ fn told(
     let answer = reasons(whose, text, pool, out, scratch, mode);
     match answer {
         CutAnswer::Ends(n, edges) => {
-            expect_zero(scratch);
-            print_pairs(out, n);
-            print(b"/");
-            print_number(edges);
+            expect_zero(rt, scratch);
+            print_pairs(rt, out, n);
+            print(rt, b"/");
+            print_number(rt, edges);
         }
-        CutAnswer::Refused(r) => refused(r, out, scratch),
+        CutAnswer::Refused(r) => refused(rt, r, out, scratch),
     }
 }
 
 // The first n pairs; what stands behind them is as it was.
-fn print_pairs(out: &[u32], n: usize) {
+fn print_pairs(rt: &impl Print, out: &[u32], n: usize) {
     if n == 0 {
-        print(b"-");
+        print(rt, b"-");
     }
     let mut i = 0;
     while i < n {
         if out.len() / 2 <= i {
-            print(b"?");
+            print(rt, b"?");
             return;
         }
         if 0 < i {
-            print(b".");
+            print(rt, b".");
         }
-        print_number(wide(out[2 * i]));
-        print(b":");
-        print_number(wide(out[2 * i + 1]));
+        print_number(rt, wide(out[2 * i]));
+        print(rt, b":");
+        print_number(rt, wide(out[2 * i + 1]));
         i += 1;
     }
     if n <= out.len() / 2 {
-        expect_leftovers(out, 2 * n);
+        expect_leftovers(rt, out, 2 * n);
     }
 }
 
-fn refused(r: Refusal, out: &[u32], scratch: &[u32]) {
+fn refused(rt: &impl Print, r: Refusal, out: &[u32], scratch: &[u32]) {
     let number = refusal::number(r);
     if number == 6 {
-        expect_zero(scratch);
+        expect_zero(rt, scratch);
     } else {
-        expect_leftovers(scratch, 0);
+        expect_leftovers(rt, scratch, 0);
     }
-    expect_leftovers(out, 0);
-    tell_refusal(r);
+    expect_leftovers(rt, out, 0);
+    tell_refusal(rt, r);
 }

@@ -10,27 +10,27 @@ const LEFT: u8 = 165;
 const IMAGE: usize = 8192;
 
 // image bytes => words
-pub fn read_step(whose: Whose, bytes: &[u8], pool: &mut [u32]) {
+pub fn read_step(rt: &impl Print, whose: Whose, bytes: &[u8], pool: &mut [u32]) {
     let mut image = [0u8; IMAGE];
-    let n = read_bytes(bytes, &mut image);
+    let n = read_bytes(rt, bytes, &mut image);
     let answer = read(whose, pool, &image[..n]);
-    tell(answer);
+    tell(rt, answer);
 }
 
 // The image.
-pub fn write_step(whose: Whose, pool: &[u32]) {
+pub fn write_step(rt: &impl Print, whose: Whose, pool: &[u32]) {
     let mut image = [0u8; IMAGE];
-    tell_image(whose, pool, &mut image);
+    tell_image(rt, whose, pool, &mut image);
 }
 
-fn tell_image(whose: Whose, pool: &[u32], image: &mut [u8]) {
+fn tell_image(rt: &impl Print, whose: Whose, pool: &[u32], image: &mut [u8]) {
     smear_bytes(image);
     let answer = write(whose, pool, image);
     match answer {
-        Answer::Accepted(n) => print_image(image, n),
+        Answer::Accepted(n) => print_image(rt, image, n),
         Answer::Refused(r) => {
-            print_image(image, 0);
-            tell_refusal(r);
+            print_image(rt, image, 0);
+            tell_refusal(rt, r);
         }
     }
 }
@@ -44,26 +44,26 @@ fn smear_bytes(row: &mut [u8]) {
 }
 
 // The first n bytes in hexadecimal; a `?` where one behind them isn't what `smear_bytes` put there.
-fn print_image(row: &[u8], n: usize) {
+fn print_image(rt: &impl Print, row: &[u8], n: usize) {
     let mut k = 0;
     while k < row.len() {
-        show(row[k], k < n);
+        show(rt, row[k], k < n);
         k += 1;
     }
 }
 
-fn show(b: u8, written: bool) {
+fn show(rt: &impl Print, b: u8, written: bool) {
     if written {
-        print_byte(b);
+        print_byte(rt, b);
         return;
     }
     if b != LEFT {
-        print(b"?");
+        print(rt, b"?");
     }
 }
 
-fn print_byte(b: u8) {
+fn print_byte(rt: &impl Print, b: u8) {
     let mut text = [0u8; 16];
     let n = io::hex(b as u64, 2, &mut text);
-    print(&text[..n]);
+    print(rt, &text[..n]);
 }

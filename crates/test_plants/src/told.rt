@@ -4,35 +4,35 @@ use test_lines::{first, print, print_number, print_numbers};
 use trie_char_answers::WordAnswer;
 
 // A report, or a refusal.
-pub fn tell(answer: Answer) {
+pub fn tell(rt: &impl Print, answer: Answer) {
     match answer {
-        Answer::Accepted(n) => print_number(n),
-        Answer::Refused(r) => tell_refusal(r),
+        Answer::Accepted(n) => print_number(rt, n),
+        Answer::Refused(r) => tell_refusal(rt, r),
     }
 }
 
-pub fn tell_refusal(r: Refusal) {
-    print(b"!");
-    print_number(refusal::number(r) as usize);
-    print(b".");
-    print_number(refusal::detail(r));
+pub fn tell_refusal(rt: &impl Print, r: Refusal) {
+    print(rt, b"!");
+    print_number(rt, refusal::number(r) as usize);
+    print(rt, b".");
+    print_number(rt, refusal::detail(r));
 }
 
 // Whether the word is held, and its class.
-pub fn tell_word(answer: WordAnswer) {
+pub fn tell_word(rt: &impl Print, answer: WordAnswer) {
     match answer {
         WordAnswer::Held(n, class) => {
-            print_number(n);
-            print(b".");
-            print_number(class);
+            print_number(rt, n);
+            print(rt, b".");
+            print_number(rt, class);
         }
-        WordAnswer::Refused(r) => tell_refusal(r),
+        WordAnswer::Refused(r) => tell_refusal(rt, r),
     }
 }
 
-pub fn tell_lengths(answer: Answer, out: &[u32]) {
+pub fn tell_lengths(rt: &impl Print, answer: Answer, out: &[u32]) {
     match answer {
-        Answer::Accepted(n) => print_numbers(first(out, n), b'.'),
-        Answer::Refused(r) => tell_refusal(r),
+        Answer::Accepted(n) => print_numbers(rt, first(out, n), b'.'),
+        Answer::Refused(r) => tell_refusal(rt, r),
     }
 }

@@ -3,6 +3,8 @@
 //
 // The row of pairs has one cell more than its records take. It and scratch are lent full of
 // leftovers. Where a call leaves a cell otherwise than documents 01 and 02 say, a `?` is written.
+#![tactic(auto)]
+
 ghost use Rattle.std.specs.Prelude.{◌≤◌};
 
 use newmm_answers::CutAnswer;
@@ -28,17 +30,25 @@ const PAIRS: usize = 140001;
 
 const SCRATCH: usize = 589952;
 
-fn main() {
+fn main(rt: HostRuntime) {
     let mut input = [0u8; INPUT];
     let mut pool = [0u32; POOL];
     let mut text = [0u32; TEXT];
     let mut pairs = [0u32; PAIRS];
     let mut scratch = [0u32; SCRATCH];
-    let n = read_input(&mut input);
-    replay(&input[..n], &mut pool, &mut text, &mut pairs, &mut scratch);
+    let n = read_input(&rt, &mut rt.stdin(), &mut input);
+    replay(
+        &rt,
+        &input[..n],
+        &mut pool,
+        &mut text,
+        &mut pairs,
+        &mut scratch,
+    );
 }
 
 fn replay(
+    rt: &impl Print,
     input: &[u8],
     pool: &mut [u32],
     text: &mut [u32],
@@ -47,44 +57,59 @@ fn replay(
 ) {
     let mut at = 0;
     while at < input.len() {
-        answer(part_at(input, at, b'\n'), pool, text, pairs, scratch);
-        print(b"\n");
+        answer(rt, part_at(input, at, b'\n'), pool, text, pairs, scratch);
+        print(rt, b"\n");
         at = behind(input, at, b'\n');
     }
 }
 
-fn answer(line: &[u8], pool: &mut [u32], text: &mut [u32], pairs: &mut [u32], scratch: &mut [u32]) {
+fn answer(
+    rt: &impl Print,
+    line: &[u8],
+    pool: &mut [u32],
+    text: &mut [u32],
+    pairs: &mut [u32],
+    scratch: &mut [u32],
+) {
     let op = field(line, 0);
     if is(op, b"reasons") {
-        let cells = hold(field(line, 2), text, pool);
-        lend(line, first(pool, cells), text, pairs, scratch);
+        let cells = hold(rt, field(line, 2), text, pool);
+        lend(rt, line, first(pool, cells), text, pairs, scratch);
         return;
     }
     if is(op, b"reasons_pool") {
-        let cells = read_cells(field(line, 2), pool);
-        lend(line, first(pool, cells), text, pairs, scratch);
+        let cells = read_cells(rt, field(line, 2), pool);
+        lend(rt, line, first(pool, cells), text, pairs, scratch);
         return;
     }
-    print(b"?");
+    print(rt, b"?");
 }
 
 // reasons mode, words, scalars, scratch cells, records => ok end:reason,.. edges
 // reasons_pool mode, the pool's cells, scalars, scratch cells, records => the same
-fn lend(line: &[u8], pool: &[u32], text: &mut [u32], pairs: &mut [u32], scratch: &mut [u32]) {
-    let n = read_cells(field(line, 3), text);
-    let cells = scratch_cells(field(line, 4), n, scratch.len());
-    let records = lent(field(line, 5), pairs.len() / 2);
+fn lend(
+    rt: &impl Print,
+    line: &[u8],
+    pool: &[u32],
+    text: &mut [u32],
+    pairs: &mut [u32],
+    scratch: &mut [u32],
+) {
+    let n = read_cells(rt, field(line, 3), text);
+    let cells = scratch_cells(rt, field(line, 4), n, scratch.len());
+    let records = lent(rt, field(line, 5), pairs.len() / 2);
     let room = pair_cells(records, pairs.len());
     let named = mode_of(field(line, 1));
     match named {
         Named::In(mode) => call(
+            rt,
             first(text, n),
             pool,
             &mut pairs[0..room],
             &mut scratch[0..cells],
             mode,
         ),
-        Named::Nothing => print(b"?"),
+        Named::Nothing => print(rt, b"?"),
     }
 }
 
@@ -108,29 +133,36 @@ fn told_cells(records: usize, most: usize) -> usize
     most
 }
 
-fn call(text: &[u32], pool: &[u32], pairs: &mut [u32], scratch: &mut [u32], mode: Mode) {
+fn call(
+    rt: &impl Print,
+    text: &[u32],
+    pool: &[u32],
+    pairs: &mut [u32],
+    scratch: &mut [u32],
+    mode: Mode,
+) {
     smear(pairs);
     smear(scratch);
     let answer = cut_reasons(text, pool, pairs, scratch, mode);
     match answer {
         CutAnswer::Ends(n, edges) => {
             let cells = told_cells(n, pairs.len());
-            expect_zero(scratch);
-            expect_leftovers(pairs, cells);
-            print(b"ok ");
-            print_pairs(first(pairs, cells));
-            print(b" ");
-            print_number(edges);
+            expect_zero(rt, scratch);
+            expect_leftovers(rt, pairs, cells);
+            print(rt, b"ok ");
+            print_pairs(rt, first(pairs, cells));
+            print(rt, b" ");
+            print_number(rt, edges);
         }
         CutAnswer::Refused(r) => {
             let number = refusal::number(r);
             if number == 6 {
-                expect_zero(scratch);
+                expect_zero(rt, scratch);
             } else {
-                expect_leftovers(scratch, 0);
+                expect_leftovers(rt, scratch, 0);
             }
-            expect_leftovers(pairs, 0);
-            print_refusal(r);
+            expect_leftovers(rt, pairs, 0);
+            print_refusal(rt, r);
         }
     }
 }
@@ -140,27 +172,27 @@ fn number(x: u32) -> usize {
 }
 
 // Pairs, `-` for none.
-fn print_pairs(pairs: &[u32]) {
+fn print_pairs(rt: &impl Print, pairs: &[u32]) {
     if pairs.len() == 0 {
-        print(b"-");
+        print(rt, b"-");
         return;
     }
     let mut at = 0;
     while at < pairs.len() {
-        print_between(at);
-        print_number(number(pairs[at]));
+        print_between(rt, at);
+        print_number(rt, number(pairs[at]));
         at += 1;
     }
 }
 
 // What stands before the cell at a place: a colon in a pair, a comma between two.
-fn print_between(at: usize) {
+fn print_between(rt: &impl Print, at: usize) {
     if at == 0 {
         return;
     }
     if at % 2 == 1 {
-        print(b":");
+        print(rt, b":");
         return;
     }
-    print(b",");
+    print(rt, b",");
 }

@@ -5,6 +5,8 @@
 //   expect_leftovers(row, start)     writes a `?` where a cell from `start` on is not that
 //   expect_zero(row)                 writes a `?` where a cell isn't zero
 //   print_left(row)                  writes whether the cells are as they were lent or all zero
+#![tactic(auto)]
+
 ghost use Rattle.std.specs.Prelude.{◌≤◌};
 
 use newmm_answers::scratch_for;
@@ -12,7 +14,7 @@ use newmm_rules::Mode;
 use test_lines::{is, lent, print};
 
 // As many scratch cells as a text of n characters needs for `*`, at most `most`.
-pub fn scratch_cells(text: &[u8], n: usize, most: usize) -> usize
+pub fn scratch_cells(rt: &impl Print, text: &[u8], n: usize, most: usize) -> usize
     ensures { result ≤ most }
 {
     if is(text, b"*") {
@@ -24,11 +26,11 @@ pub fn scratch_cells(text: &[u8], n: usize, most: usize) -> usize
         }
         return most;
     }
-    lent(text, most)
+    lent(rt, text, most)
 }
 
 // What a line calls its mode.
-#[derive(Drop)]
+#[derive(Clone, Copy)]
 pub enum Named {
     In(Mode),
     Nothing,
@@ -87,28 +89,28 @@ fn is_zero(row: &[u32]) -> bool {
 }
 
 // Writes a `?` where a cell from `start` on isn't what `smear` put there.
-pub fn expect_leftovers(row: &[u32], start: usize) {
+pub fn expect_leftovers(rt: &impl Print, row: &[u32], start: usize) {
     if !is_left(row, start) {
-        print(b"?");
+        print(rt, b"?");
     }
 }
 
 // Writes a `?` where a cell isn't zero.
-pub fn expect_zero(row: &[u32]) {
+pub fn expect_zero(rt: &impl Print, row: &[u32]) {
     if !is_zero(row) {
-        print(b"?");
+        print(rt, b"?");
     }
 }
 
 // Writes whether the cells are as they were lent, or all zero; a `?` where they are neither.
-pub fn print_left(row: &[u32]) {
+pub fn print_left(rt: &impl Print, row: &[u32]) {
     if is_left(row, 0) {
-        print(b"kept");
+        print(rt, b"kept");
         return;
     }
     if is_zero(row) {
-        print(b"zero");
+        print(rt, b"zero");
         return;
     }
-    print(b"?");
+    print(rt, b"?");
 }

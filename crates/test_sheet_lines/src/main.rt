@@ -1,5 +1,7 @@
 // Replays the test vectors of the line program: for each line of standard input the bytes that the
 // program writes.
+#![tactic(auto)]
+
 ghost use Rattle.std.specs.Prelude.{◌<◌};
 
 use sheet_bytes::{front, keep};
@@ -12,38 +14,38 @@ const INPUT: usize = 524288;
 // The bytes of one run, and what it writes, as bytes and in hexadecimal.
 const RUN: usize = 262144;
 
-fn main() {
+fn main(rt: HostRuntime) {
     let mut input = [0u8; INPUT];
     let mut run = [0u8; RUN];
     let mut written = [0u8; RUN];
-    let n = read_input(&mut input);
-    replay(&input[..n], &mut run, &mut written);
+    let n = read_input(&rt, &mut rt.stdin(), &mut input);
+    replay(&rt, &input[..n], &mut run, &mut written);
 }
 
-fn replay(input: &[u8], run: &mut [u8], written: &mut [u8]) {
+fn replay(rt: &impl Print, input: &[u8], run: &mut [u8], written: &mut [u8]) {
     let mut at = 0;
     while at < input.len() {
-        answer(part_at(input, at, b'\n'), run, written);
-        print(b"\n");
+        answer(rt, part_at(input, at, b'\n'), run, written);
+        print(rt, b"\n");
         at = behind(input, at, b'\n');
     }
 }
 
 // program bytes, most bytes at a time => ok bytes
-fn answer(line: &[u8], run: &mut [u8], written: &mut [u8]) {
+fn answer(rt: &impl Print, line: &[u8], run: &mut [u8], written: &mut [u8]) {
     if !is(field(line, 0), b"program") {
-        print(b"?");
+        print(rt, b"?");
         return;
     }
-    let n = read_bytes(field(line, 1), run);
-    let most = lent(field(line, 2), run.len());
+    let n = read_bytes(rt, field(line, 1), run);
+    let most = lent(rt, field(line, 2), run.len());
     if most == 0 {
-        print(b"?");
+        print(rt, b"?");
         return;
     }
     let k = program(&run[..n], most, written);
-    print(b"ok ");
-    print_bytes(front(written, k), run);
+    print(rt, b"ok ");
+    print_bytes(rt, front(written, k), run);
 }
 
 // A run from a fresh pool. Answers how many bytes are written.
@@ -103,9 +105,9 @@ fn feed_all(
 }
 
 // The bytes in hexadecimal, two digits each, `-` for none.
-fn print_bytes(bytes: &[u8], space: &mut [u8]) {
+fn print_bytes(rt: &impl Print, bytes: &[u8], space: &mut [u8]) {
     if bytes.len() == 0 {
-        print(b"-");
+        print(rt, b"-");
         return;
     }
     let mut digits = [0u8; 16];
@@ -116,7 +118,7 @@ fn print_bytes(bytes: &[u8], space: &mut [u8]) {
         used = keep(space, used, &digits[..k]);
         i += 1;
     }
-    print(front(space, used));
+    print(rt, front(space, used));
 }
 
 fn wide(b: u8) -> u64 {

@@ -1,4 +1,6 @@
 // Replays the test vectors of `tcc`: a line with the answer for each line of standard input.
+#![tactic(auto)]
+
 use refusal::Answer;
 use test_lines::{
     behind, field, first, is, lent, part_at, print, print_cells, print_number, print_numbers,
@@ -12,99 +14,99 @@ const CELLS: usize = 65540;
 // What a lent row holds before the call.
 const BEFORE: u32 = 7;
 
-fn main() {
+fn main(rt: HostRuntime) {
     let mut input = [0u8; INPUT];
     let mut text = [0u32; CELLS];
     let mut out = [0u32; CELLS];
-    let n = read_input(&mut input);
-    replay(&input[..n], &mut text, &mut out);
+    let n = read_input(&rt, &mut rt.stdin(), &mut input);
+    replay(&rt, &input[..n], &mut text, &mut out);
 }
 
-fn replay(input: &[u8], text: &mut [u32], out: &mut [u32]) {
+fn replay(rt: &impl Print, input: &[u8], text: &mut [u32], out: &mut [u32]) {
     let mut at = 0;
     while at < input.len() {
-        answer(part_at(input, at, b'\n'), text, out);
-        print(b"\n");
+        answer(rt, part_at(input, at, b'\n'), text, out);
+        print(rt, b"\n");
         at = behind(input, at, b'\n');
     }
 }
 
-fn answer(line: &[u8], text: &mut [u32], out: &mut [u32]) {
+fn answer(rt: &impl Print, line: &[u8], text: &mut [u32], out: &mut [u32]) {
     let op = field(line, 0);
     if is(op, b"clusters") {
-        clusters(line, text, out);
+        clusters(rt, line, text, out);
         return;
     }
     if is(op, b"last") {
-        last(line, text, out);
+        last(rt, line, text, out);
         return;
     }
     if is(op, b"row") {
-        row(line, text, out);
+        row(rt, line, text, out);
         return;
     }
     if is(op, b"flags") {
-        flags(line, text, out);
+        flags(rt, line, text, out);
         return;
     }
-    print(b"?");
+    print(rt, b"?");
 }
 
 // clusters scalars, out cells => ok ends
-fn clusters(line: &[u8], text: &mut [u32], out: &mut [u32]) {
-    let n = read_cells(field(line, 1), text);
-    let room = lent(field(line, 2), out.len());
+fn clusters(rt: &impl Print, line: &[u8], text: &mut [u32], out: &mut [u32]) {
+    let n = read_cells(rt, field(line, 1), text);
+    let room = lent(rt, field(line, 2), out.len());
     let answer = tcc::tcc_pos(&text[..n], &mut out[0..room]);
     match answer {
         Answer::Accepted(count) => {
-            print(b"ok ");
-            print_numbers(first(out, count), b',');
+            print(rt, b"ok ");
+            print_numbers(rt, first(out, count), b',');
         }
-        Answer::Refused(r) => print_refusal(r),
+        Answer::Refused(r) => print_refusal(rt, r),
     }
 }
 
 // last scalars, out cells => ok number of ends, the last
-fn last(line: &[u8], text: &mut [u32], out: &mut [u32]) {
-    let n = read_cells(field(line, 1), text);
-    let room = lent(field(line, 2), out.len());
+fn last(rt: &impl Print, line: &[u8], text: &mut [u32], out: &mut [u32]) {
+    let n = read_cells(rt, field(line, 1), text);
+    let room = lent(rt, field(line, 2), out.len());
     let answer = tcc::tcc_pos(&text[..n], &mut out[0..room]);
     match answer {
         Answer::Accepted(count) => {
-            print(b"ok ");
-            print_number(count);
-            print(b" ");
-            print_number(last_of(first(out, count)));
+            print(rt, b"ok ");
+            print_number(rt, count);
+            print(rt, b" ");
+            print_number(rt, last_of(first(out, count)));
         }
-        Answer::Refused(r) => print_refusal(r),
+        Answer::Refused(r) => print_refusal(rt, r),
     }
 }
 
 // row scalars, out cells => the whole row after the call, each cell 7 before it
-fn row(line: &[u8], text: &mut [u32], out: &mut [u32]) {
-    let n = read_cells(field(line, 1), text);
-    let room = lent(field(line, 2), out.len());
+fn row(rt: &impl Print, line: &[u8], text: &mut [u32], out: &mut [u32]) {
+    let n = read_cells(rt, field(line, 1), text);
+    let room = lent(rt, field(line, 2), out.len());
     fill(&mut out[0..room]);
     let answer = tcc::tcc_pos(&text[..n], &mut out[0..room]);
     match answer {
-        Answer::Accepted(_) => print(b"ok "),
-        Answer::Refused(_) => print(b"! "),
+        Answer::Accepted(_) => print(rt, b"ok "),
+        Answer::Refused(_) => print(rt, b"! "),
     }
-    print_cells(&out[0..room]);
+    print_cells(rt, &out[0..room]);
 }
 
 // flags scalars, row cells => the whole row after the call, each cell 7 before it
-fn flags(line: &[u8], text: &mut [u32], out: &mut [u32]) {
-    let n = read_cells(field(line, 1), text);
-    let room = lent(field(line, 2), out.len());
+fn flags(rt: &impl Print, line: &[u8], text: &mut [u32], out: &mut [u32]) {
+    let n = read_cells(rt, field(line, 1), text);
+    let room = lent(rt, field(line, 2), out.len());
     if room <= n {
-        print(b"?");
+        print(rt, b"?");
         return;
     }
     fill(&mut out[0..room]);
     tcc::tcc_flags(&text[..n], &mut out[0..room]);
-    print(b"ok ");
-    print_cells(&out[0..room]);
+    print(rt, b"ok ");
+    print_cells(rt, &out[0..room]);
 }
 
 fn fill(row: &mut [u32]) {

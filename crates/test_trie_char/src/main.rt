@@ -1,4 +1,6 @@
 // Replays the test vectors of `trie_char`: a line with the answer for each line of standard input.
+#![tactic(auto)]
+
 use cells::wide;
 use refusal::{Answer, Refusal};
 use test_lines::{
@@ -16,39 +18,39 @@ const CELLS: usize = 100000;
 
 const OUT: usize = 256;
 
-fn main() {
+fn main(rt: HostRuntime) {
     let mut input = [0u8; INPUT];
     let mut pool = [0u32; POOL];
     let mut cells = [0u32; CELLS];
     let mut out = [0u32; OUT];
-    let n = read_input(&mut input);
-    replay(&input[..n], &mut pool, &mut cells, &mut out);
+    let n = read_input(&rt, &mut rt.stdin(), &mut input);
+    replay(&rt, &input[..n], &mut pool, &mut cells, &mut out);
 }
 
-fn replay(input: &[u8], pool: &mut [u32], cells: &mut [u32], out: &mut [u32]) {
+fn replay(rt: &impl Print, input: &[u8], pool: &mut [u32], cells: &mut [u32], out: &mut [u32]) {
     let mut at = 0;
     while at < input.len() {
-        answer(part_at(input, at, b'\n'), pool, cells, out);
-        print(b"\n");
+        answer(rt, part_at(input, at, b'\n'), pool, cells, out);
+        print(rt, b"\n");
         at = behind(input, at, b'\n');
     }
 }
 
-fn answer(line: &[u8], pool: &mut [u32], cells: &mut [u32], out: &mut [u32]) {
+fn answer(rt: &impl Print, line: &[u8], pool: &mut [u32], cells: &mut [u32], out: &mut [u32]) {
     let op = field(line, 0);
     if is(op, b"dict") {
-        dict(line, pool, cells, out);
+        dict(rt, line, pool, cells, out);
         return;
     }
     if is(op, b"prefix") {
-        prefix(line, pool, cells, out);
+        prefix(rt, line, pool, cells, out);
         return;
     }
     if is(op, b"pool") {
-        given(line, pool);
+        given(rt, line, pool);
         return;
     }
-    print(b"?");
+    print(rt, b"?");
 }
 
 // Cells that no dictionary has.
@@ -61,163 +63,163 @@ fn smear(pool: &mut [u32]) {
 }
 
 // dict pool cells, script => ok answers
-fn dict(line: &[u8], pool: &mut [u32], cells: &mut [u32], out: &mut [u32]) {
-    let n = lent(field(line, 1), pool.len());
+fn dict(rt: &impl Print, line: &[u8], pool: &mut [u32], cells: &mut [u32], out: &mut [u32]) {
+    let n = lent(rt, field(line, 1), pool.len());
     smear(pool);
-    print(b"ok ");
-    script(field(line, 2), &mut pool[0..n], cells, out);
+    print(rt, b"ok ");
+    script(rt, field(line, 2), &mut pool[0..n], cells, out);
 }
 
-fn script(steps: &[u8], pool: &mut [u32], cells: &mut [u32], out: &mut [u32]) {
+fn script(rt: &impl Print, steps: &[u8], pool: &mut [u32], cells: &mut [u32], out: &mut [u32]) {
     let mut at = 0;
     while at < steps.len() {
         if 0 < at {
-            print(b";");
+            print(rt, b";");
         }
-        step(part_at(steps, at, b';'), pool, cells, out);
+        step(rt, part_at(steps, at, b';'), pool, cells, out);
         at = behind(steps, at, b';');
     }
 }
 
-fn step(text: &[u8], pool: &mut [u32], cells: &mut [u32], out: &mut [u32]) {
+fn step(rt: &impl Print, text: &[u8], pool: &mut [u32], cells: &mut [u32], out: &mut [u32]) {
     let op = head(text);
     if op == b'f' {
         let answer = trie_char::fresh(pool);
-        told(answer);
+        told(rt, answer);
         return;
     }
     if op == b'#' {
         let answer = trie_char_read::amount_of_words(pool);
-        told(answer);
+        told(rt, answer);
         return;
     }
     if op == b'n' {
-        in_use(pool);
+        in_use(rt, pool);
         return;
     }
     if op == b'c' {
-        print_cells(pool);
+        print_cells(rt, pool);
         return;
     }
     let word = tail(text);
-    let n = read_word(word, cells);
+    let n = read_word(rt, word, cells);
     if has_class(word) {
-        class_step(op, pool, first(cells, n), read_class(word));
+        class_step(rt, op, pool, first(cells, n), read_class(rt, word));
         return;
     }
-    word_step(op, pool, first(cells, n), out);
+    word_step(rt, op, pool, first(cells, n), out);
 }
 
 // Only an add gives a class.
-fn class_step(op: u8, pool: &mut [u32], word: &[u32], class: u16) {
+fn class_step(rt: &impl Print, op: u8, pool: &mut [u32], word: &[u32], class: u16) {
     if op == b'+' {
         let answer = trie_char::add_class(pool, word, class);
-        told(answer);
+        told(rt, answer);
         return;
     }
-    print(b"?");
+    print(rt, b"?");
 }
 
-fn word_step(op: u8, pool: &mut [u32], word: &[u32], out: &mut [u32]) {
+fn word_step(rt: &impl Print, op: u8, pool: &mut [u32], word: &[u32], out: &mut [u32]) {
     if op == b'+' {
         let answer = trie_char::add(pool, word);
-        told(answer);
+        told(rt, answer);
         return;
     }
     if op == b'-' {
         let answer = trie_char::remove(pool, word);
-        told(answer);
+        told(rt, answer);
         return;
     }
     if op == b'?' {
-        held(pool, word);
+        held(rt, pool, word);
         return;
     }
     if op == b'p' {
-        lengths(pool, word, out);
+        lengths(rt, pool, word, out);
         return;
     }
-    print(b"?");
+    print(rt, b"?");
 }
 
 // A report, or a refusal as a script tells it.
-fn told(answer: Answer) {
+fn told(rt: &impl Print, answer: Answer) {
     match answer {
-        Answer::Accepted(n) => print_number(n),
-        Answer::Refused(r) => refused(r),
+        Answer::Accepted(n) => print_number(rt, n),
+        Answer::Refused(r) => refused(rt, r),
     }
 }
 
-fn refused(r: Refusal) {
-    print(b"!");
-    print_number(refusal::number(r) as usize);
-    print(b".");
-    print_number(refusal::detail(r));
+fn refused(rt: &impl Print, r: Refusal) {
+    print(rt, b"!");
+    print_number(rt, refusal::number(r) as usize);
+    print(rt, b".");
+    print_number(rt, refusal::detail(r));
 }
 
 // Whether the word is held, and its class.
-fn held(pool: &[u32], word: &[u32]) {
+fn held(rt: &impl Print, pool: &[u32], word: &[u32]) {
     let answer = trie_char_read::contain(pool, word);
     match answer {
         WordAnswer::Held(n, class) => {
-            print_number(n);
-            print(b".");
-            print_number(class);
+            print_number(rt, n);
+            print(rt, b".");
+            print_number(rt, class);
         }
-        WordAnswer::Refused(r) => refused(r),
+        WordAnswer::Refused(r) => refused(rt, r),
     }
 }
 
-fn lengths(pool: &[u32], text: &[u32], out: &mut [u32]) {
+fn lengths(rt: &impl Print, pool: &[u32], text: &[u32], out: &mut [u32]) {
     let answer = trie_char_read::prefix_lengths(pool, text, out);
     match answer {
-        Answer::Accepted(n) => print_numbers(first(out, n), b'.'),
-        Answer::Refused(r) => refused(r),
+        Answer::Accepted(n) => print_numbers(rt, first(out, n), b'.'),
+        Answer::Refused(r) => refused(rt, r),
     }
 }
 
 // The nodes in use, a cell of the root.
-fn in_use(pool: &[u32]) {
+fn in_use(rt: &impl Print, pool: &[u32]) {
     let answer = trie_char_read::amount_of_words(pool);
     match answer {
         Answer::Accepted(_) => {
             if 0 < pool.len() {
-                print_number(wide(pool[0]));
+                print_number(rt, wide(pool[0]));
             }
         }
-        Answer::Refused(r) => refused(r),
+        Answer::Refused(r) => refused(rt, r),
     }
 }
 
 // prefix words, scalars, out cells => ok lengths
-fn prefix(line: &[u8], pool: &mut [u32], cells: &mut [u32], out: &mut [u32]) {
+fn prefix(rt: &impl Print, line: &[u8], pool: &mut [u32], cells: &mut [u32], out: &mut [u32]) {
     smear(pool);
-    let held = hold(field(line, 1), cells, pool);
-    let n = read_cells(field(line, 2), cells);
-    let room = lent(field(line, 3), out.len());
-    starts(first(pool, held), first(cells, n), &mut out[0..room]);
+    let held = hold(rt, field(line, 1), cells, pool);
+    let n = read_cells(rt, field(line, 2), cells);
+    let room = lent(rt, field(line, 3), out.len());
+    starts(rt, first(pool, held), first(cells, n), &mut out[0..room]);
 }
 
-fn starts(pool: &[u32], text: &[u32], out: &mut [u32]) {
+fn starts(rt: &impl Print, pool: &[u32], text: &[u32], out: &mut [u32]) {
     let answer = trie_char_read::prefix_lengths(pool, text, out);
     match answer {
         Answer::Accepted(n) => {
-            print(b"ok ");
-            print_numbers(first(out, n), b',');
+            print(rt, b"ok ");
+            print_numbers(rt, first(out, n), b',');
         }
-        Answer::Refused(r) => print_refusal(r),
+        Answer::Refused(r) => print_refusal(rt, r),
     }
 }
 
 // pool cells => ok words, or a refusal
-fn given(line: &[u8], pool: &mut [u32]) {
-    let n = read_cells(field(line, 1), pool);
+fn given(rt: &impl Print, line: &[u8], pool: &mut [u32]) {
+    let n = read_cells(rt, field(line, 1), pool);
     let answer = trie_char_read::amount_of_words(first(pool, n));
     match answer {
         Answer::Accepted(words) => {
-            print(b"ok ");
-            print_number(words);
+            print(rt, b"ok ");
+            print_number(rt, words);
         }
-        Answer::Refused(r) => print_refusal(r),
+        Answer::Refused(r) => print_refusal(rt, r),
     }
 }

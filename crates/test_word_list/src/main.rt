@@ -3,6 +3,8 @@
 //
 // The output of a writing is lent full of leftovers. Where it leaves a byte otherwise than
 // documents 01 and 02 say, a `?` is written.
+#![tactic(auto)]
+
 use refusal::Answer;
 use test_lines::{
     behind, field, first, is, lent, part_at, print, print_cells, print_number, print_refusal,
@@ -20,69 +22,69 @@ const IMAGE: usize = 32768;
 // A byte that an earlier call may have left.
 const LEFT: u8 = 165;
 
-fn main() {
+fn main(rt: HostRuntime) {
     let mut input = [0u8; INPUT];
     let mut pool = [0u32; POOL];
     let mut image = [0u8; IMAGE];
-    let n = read_input(&mut input);
-    replay(&input[..n], &mut pool, &mut image);
+    let n = read_input(&rt, &mut rt.stdin(), &mut input);
+    replay(&rt, &input[..n], &mut pool, &mut image);
 }
 
-fn replay(input: &[u8], pool: &mut [u32], image: &mut [u8]) {
+fn replay(rt: &impl Print, input: &[u8], pool: &mut [u32], image: &mut [u8]) {
     let mut at = 0;
     while at < input.len() {
-        answer(part_at(input, at, b'\n'), pool, image);
-        print(b"\n");
+        answer(rt, part_at(input, at, b'\n'), pool, image);
+        print(rt, b"\n");
         at = behind(input, at, b'\n');
     }
 }
 
-fn answer(line: &[u8], pool: &mut [u32], image: &mut [u8]) {
-    let cells = read_cells(field(line, 1), pool);
+fn answer(rt: &impl Print, line: &[u8], pool: &mut [u32], image: &mut [u8]) {
+    let cells = read_cells(rt, field(line, 1), pool);
     if is(field(line, 0), b"imgread") {
-        read(field(line, 2), &mut pool[0..cells], image);
+        read(rt, field(line, 2), &mut pool[0..cells], image);
         return;
     }
-    write(field(line, 2), first(pool, cells), image);
+    write(rt, field(line, 2), first(pool, cells), image);
 }
 
 // imgread the pool's cells, image => ok words, or the refusal; the pool's cells then
-fn read(bytes: &[u8], pool: &mut [u32], image: &mut [u8]) {
-    let n = read_bytes(bytes, image);
+fn read(rt: &impl Print, bytes: &[u8], pool: &mut [u32], image: &mut [u8]) {
+    let n = read_bytes(rt, bytes, image);
     let answer = read_image(pool, &image[..n]);
-    tell_words(answer);
-    print(b" ");
-    print_cells(pool);
+    tell_words(rt, answer);
+    print(rt, b" ");
+    print_cells(rt, pool);
 }
 
-fn tell_words(answer: Answer) {
+fn tell_words(rt: &impl Print, answer: Answer) {
     match answer {
         Answer::Accepted(n) => {
-            print(b"ok ");
-            print_number(n);
+            print(rt, b"ok ");
+            print_number(rt, n);
         }
-        Answer::Refused(r) => print_refusal(r),
+        Answer::Refused(r) => print_refusal(rt, r),
     }
 }
 
 // imgwrite the pool's cells, image bytes => ok image
-fn write(bytes: &[u8], pool: &[u32], image: &mut [u8]) {
-    let room = lent(bytes, image.len());
-    tell_image(pool, &mut image[0..room]);
+fn write(rt: &impl Print, bytes: &[u8], pool: &[u32], image: &mut [u8]) {
+    let room = lent(rt, bytes, image.len());
+    tell_image(rt, pool, &mut image[0..room]);
 }
 
-fn tell_image(pool: &[u32], image: &mut [u8]) {
+fn tell_image(rt: &impl Print, pool: &[u32], image: &mut [u8]) {
     smear(image);
     let answer = write_image(pool, image);
     match answer {
         Answer::Accepted(n) => {
-            expect_left(image, n);
-            print(b"ok ");
-            print_bytes(first_bytes(image, n));
+            expect_left(rt, image, n);
+            print(rt, b"ok ");
+            print_bytes(rt, first_bytes(image, n));
         }
         Answer::Refused(r) => {
-            expect_left(image, 0);
-            print_refusal(r);
+            expect_left(rt, image, 0);
+            print_refusal(rt, r);
         }
     }
 }
@@ -96,9 +98,9 @@ fn smear(row: &mut [u8]) {
 }
 
 // Writes a `?` where a byte from `start` on isn't what `smear` put there.
-fn expect_left(row: &[u8], start: usize) {
+fn expect_left(rt: &impl Print, row: &[u8], start: usize) {
     if !is_left(row, start) {
-        print(b"?");
+        print(rt, b"?");
     }
 }
 
@@ -122,16 +124,16 @@ fn first_bytes(row: &[u8], n: usize) -> &[u8] {
 }
 
 // The bytes in hexadecimal.
-fn print_bytes(row: &[u8]) {
+fn print_bytes(rt: &impl Print, row: &[u8]) {
     let mut k = 0;
     while k < row.len() {
-        print_byte(row[k]);
+        print_byte(rt, row[k]);
         k += 1;
     }
 }
 
-fn print_byte(b: u8) {
+fn print_byte(rt: &impl Print, b: u8) {
     let mut text = [0u8; 16];
     let n = io::hex(b as u64, 2, &mut text);
-    print(&text[..n]);
+    print(rt, &text[..n]);
 }

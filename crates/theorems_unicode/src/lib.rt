@@ -1,1 +1,2 @@
 // The decoder against the Unicode Standard: the theorems of proofs/.
+#![tactic(auto)]

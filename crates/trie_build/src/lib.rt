@@ -1,4 +1,6 @@
 // Puts rising words into a pool: each node is written once, at its final number.
+#![tactic(auto)]
+
 ghost use Rattle.std.specs.Prelude.{◌≡◌, ◌+◌, ◌-◌, set};
 ghost use Rattle.trie_build.specs.inner.Appending.{row, Spot, leaf_cells, one_more, Puts, Put};
 

@@ -1,4 +1,6 @@
 // Changing the words of a dictionary's pool: one more, one less, and none at all.
+#![tactic(auto)]
+
 mod add;
 mod empty;
 mod remove;

@@ -1,5 +1,7 @@
 // Changing a dictionary, after trie_char.rs: a trie in a lent pool. No function asks anything of
 // what it is lent.
+#![tactic(auto)]
+
 ghost use Rattle.std.specs.Prelude.{◌≡◌};
 ghost use Rattle.trie_pool.specs.Meaning.{no_term};
 ghost use Rattle.trie_char_answers.specs.Answers.{fresh_answer, add_answer, added, remove_answer, removed};

@@ -1,5 +1,7 @@
 // What calls on a dictionary answer: the definitions that their contracts and the demands cite
 // stand in specs/, what follows from them in proofs/.
+#![tactic(auto)]
+
 ghost use Rattle.std.specs.Prelude.{◌≡◌, length};
 ghost use Rattle.refusal.specs.Answers.{answer};
 ghost use Rattle.trie_pool.specs.Meaning.{meaning};
@@ -11,7 +13,7 @@ use trie_check::check;
 use trie_pool::MAX_WORD;
 
 // Whether a word is held, 1 or 0, and its class, 0 with a no; or why the call was refused.
-#[derive(Drop)]
+#[derive(Clone, Copy)]
 pub enum WordAnswer {
     Held(usize, usize),
     Refused(Refusal),

@@ -1,4 +1,6 @@
 // Reading a dictionary, after trie_char.rs. No function asks anything of what it is lent.
+#![tactic(auto)]
+
 ghost use Rattle.std.specs.Prelude.{◌≡◌};
 ghost use Rattle.refusal.specs.Answers.{output};
 ghost use Rattle.trie_char_answers.specs.Answers.{contains_answer, prefixes, prefixes_answer, word_count_answer};

@@ -1,5 +1,7 @@
 // A pool as it is lent: which of its cells are read and written, whether it is a dictionary, and
 // the refusals that every operation on a text and a pool gives.
+#![tactic(auto)]
+
 ghost use Rattle.std.specs.Prelude.{◌≡◌, ◌/◌, min, length};
 ghost use Rattle.refusal.specs.Answers.{answer};
 ghost use Rattle.refusal.specs.Limits.{max_nodes};

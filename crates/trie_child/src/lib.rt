@@ -1,4 +1,6 @@
 // The search for a child of a node.
+#![tactic(auto)]
+
 ghost use Rattle.std.specs.Prelude.{◌≡◌, min};
 ghost use Rattle.trie_pool.specs.Words.{child};
 ghost use Rattle.trie_pool.specs.inner.Sound.{Readable};
@@ -8,7 +10,7 @@ use cells::wide;
 use trie_pool::{COUNT, FIRST, NODE};
 
 // A child, or none.
-#[derive(Drop)]
+#[derive(Clone, Copy)]
 pub enum Kid {
     Nothing,
     Is(usize),

@@ -1,5 +1,7 @@
 // Whether a dictionary stands in one half of a pool's nodes: the rules of a half, decided by walks
 // that look at its cells alone.
+#![tactic(auto)]
+
 ghost use Rattle.std.specs.Prelude.{◌≡◌, ℕ, ◌+◌, ◌*◌, ◌%◌, ◌≤◌, ◌<◌, length, get_or};
 ghost use Rattle.refusal.specs.Limits.{max_nodes};
 ghost use Rattle.trie_pool.specs.Cells.{node_cells, used};
@@ -15,7 +17,7 @@ use trie_pool::{COUNT, FIRST, IN_USE, NODE};
 use trie_well_formed::{shallow, starts_ok};
 
 // How far the walk over the nodes has come.
-#[derive(Drop)]
+#[derive(Clone, Copy)]
 pub struct Steps {
     // The next node.
     pub i: usize,
@@ -129,7 +131,7 @@ fn nodes_ok(p: &[u32], n: usize) -> bool
 // Whether the cells of the half are 0 in each node from n on.
 fn unused_ok(p: &[u32], n: usize) -> bool
     requires { (n ≤ max_nodes) × (length p.now % 4 ≡ 0) }
-    ensures* { λ r. ⌜ Decides r ((i r : ℕ) → n ≤ i → r < 4 → get_or p.now (node_cells * i + r) 0 ≡ 0) ⌝ }
+    ensures { Decides result ((i k : ℕ) → n ≤ i → k < 4 → get_or p.now (node_cells * i + k) 0 ≡ 0) }
 {
     let mut first: u32 = 0;
     let mut second: u32 = 0;

@@ -1,4 +1,6 @@
 // Whether a node of a dictionary, in one half of a pool, may stand where it does.
+#![tactic(auto)]
+
 ghost use Rattle.std.specs.Prelude.{◌+◌, ◌*◌, ◌≤◌, ◌<◌, length};
 ghost use Rattle.refusal.specs.Limits.{max_nodes};
 ghost use Rattle.trie_pool.specs.Cells.{node_cells};

@@ -2,6 +2,8 @@
 // children of each rise. Two walks see to all of that, without a branch on a node's children: they
 // count the nodes that fall, that is, whose scalar isn't above that of the node before, and the
 // first children that fall. If these are as many, no other node falls.
+#![tactic(auto)]
+
 ghost use Rattle.std.specs.Prelude.{◌≡◌, ◌+◌, ◌-◌, ◌*◌, ◌≤◌, ◌<◌, length, get_or};
 ghost use Rattle.refusal.specs.Limits.{max_nodes};
 ghost use Rattle.trie_pool.specs.Cells.{node_cells, scalar_at, used};
@@ -17,7 +19,7 @@ use trie_pool::{COUNT, FIRST, HALF, NODE};
 const NONE: u32 = 0xFFFFFFFF;
 
 // How far the walk over the nodes has come.
-#[derive(Drop)]
+#[derive(Clone, Copy)]
 pub struct Walk {
     // The next node.
     pub i: usize,

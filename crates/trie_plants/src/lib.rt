@@ -1,12 +1,14 @@
 // Two plants in one pool: each has a dictionary of its own in one half of the nodes, so they share
 // no cell. The rules of such a pool and the words of each plant stand in specs/.
+#![tactic(auto)]
+
 ghost use Rattle.std.specs.Prelude.{◌≡◌};
 ghost use Rattle.trie_plants.specs.Halves.{half_at};
 
 use trie_pool::HALF;
 
 // Whose words a call reads and changes.
-#[derive(Drop)]
+#[derive(Clone, Copy)]
 pub enum Plant {
     A,
     B,

@@ -1,5 +1,7 @@
 // Changing a plants' pool: its start, and the words of one plant. No public function asks anything
 // of what it is lent.
+#![tactic(auto)]
+
 ghost use Rattle.std.specs.Prelude.{◌-◌, ◌≤◌, ◌<◌, ◌≡◌, length, get_or};
 ghost use Rattle.trie_pool.specs.Cells.{used};
 ghost use Rattle.trie_plants_answers.specs.Answers.{start_answer};

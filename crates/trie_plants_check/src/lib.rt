@@ -1,5 +1,7 @@
 // A pool as it is lent to a plant call: whether it is a plants' pool, and the refusals that plant
 // calls on a text or a word give.
+#![tactic(auto)]
+
 ghost use Rattle.std.specs.Prelude.{◌≡◌, true, ◌*◌, ◌%◌, ◌≤◌, max, length, drop};
 ghost use Rattle.refusal.specs.Answers.{answer};
 ghost use Rattle.refusal.specs.Limits.{max_nodes};

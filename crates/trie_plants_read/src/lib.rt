@@ -1,5 +1,7 @@
 // Reading the dictionary of one plant, after trie_char.rs. No function asks anything of what it is
 // lent.
+#![tactic(auto)]
+
 ghost use Rattle.std.specs.Prelude.{◌≡◌};
 ghost use Rattle.refusal.specs.Answers.{output};
 ghost use Rattle.trie_plants_answers.specs.Answers.{plant_contains_answer, plant_prefixes};

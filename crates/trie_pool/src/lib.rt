@@ -1,5 +1,6 @@
 // The dictionary's pool: the meaning of its cells stands in specs/, the laws of level order in
 // proofs/.
+#![tactic(auto)]
 
 // The cells of a node: those of node i stand from NODE * i on. They are two halves, and a
 // dictionary stands in one half of the nodes: a plain one in the first. Its scalar is the first

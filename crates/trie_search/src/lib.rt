@@ -1,4 +1,6 @@
 // The search for words in a dictionary's pool.
+#![tactic(auto)]
+
 mod search;
 
 pub use search::{

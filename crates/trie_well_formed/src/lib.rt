@@ -1,5 +1,7 @@
 // Whether a pool is well-formed: the rules, decided by a few walks over its cells, without
 // recursion.
+#![tactic(auto)]
+
 ghost use Rattle.std.specs.Prelude.{◌≡◌, false, ℕ, ◌+◌, ◌*◌, ◌≤◌, ◌<◌, length, get_or};
 ghost use Rattle.refusal.specs.Limits.{max_word};
 ghost use Rattle.char_string_white_space.specs.Trimmed.{is_trimmed};

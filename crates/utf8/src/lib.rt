@@ -1,5 +1,7 @@
 // UTF-8 to scalars and their byte positions: one pass that checks and counts, and one that writes;
 // ends in bytes.
+#![tactic(auto)]
+
 ghost use Rattle.std.specs.Prelude.{◌≡◌, true, ◌<◌, ◌≤◌, length, drop, ◌++◌};
 ghost use Rattle.refusal.specs.Answers.{output};
 ghost use Rattle.utf8.specs.Decoding.{run_all, scalars_of, room_in, decoded};
@@ -12,7 +14,7 @@ use utf8_sequences::{lead_table, next_size, piece_at, piece_of_e0, thai_at, thai
 
 // What the first pass finds: how many scalars the longest well-formed prefix has, its length in
 // bytes, and whether it is all.
-#[derive(Drop)]
+#[derive(Clone, Copy)]
 pub struct Counted {
     pub scalars: usize,
     pub taken: usize,
@@ -20,7 +22,7 @@ pub struct Counted {
 }
 
 // How far the first pass has come: a place, and how many scalars stand before it.
-#[derive(Drop)]
+#[derive(Clone, Copy)]
 pub struct Reached {
     pub at: usize,
     pub scalars: usize,
@@ -189,7 +191,7 @@ pub fn decode(bytes: &[u8], out: &mut [u32], positions: &mut [u32]) -> Answer
 }
 
 // An end in bytes.
-#[derive(Drop)]
+#[derive(Clone, Copy)]
 pub enum InBytes {
     At(usize),
     Nothing,

@@ -1,4 +1,6 @@
 // One well-formed sequence of UTF-8: how long the one at a place is, and its scalar.
+#![tactic(auto)]
+
 mod leads;
 
 ghost use Rattle.std.specs.Prelude.{◌≡◌, true, ◌+◌, ◌<◌, length, get_or, drop};
@@ -10,7 +12,7 @@ use leads::lead;
 pub use leads::lead_table;
 
 // The scalar at a place, and the number of bytes of its sequence.
-#[derive(Drop)]
+#[derive(Clone, Copy)]
 pub struct Piece {
     pub scalar: u32,
     pub size: usize,

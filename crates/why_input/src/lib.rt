@@ -1,6 +1,8 @@
 // Input of any length, part by part, answered with reasons.
 //   step  takes bytes up to the first line feed, and writes what is told for that line
 //   last  writes what is told for a last line without a line feed
+#![tactic(auto)]
+
 ghost use Rattle.std.specs.Prelude.{◌≡◌, cond, eqb, length, take};
 ghost use Rattle.sheet_bytes.specs.Lines.{line_end, laid};
 ghost use Rattle.sheet_replies.specs.Replies.{text_of};

@@ -2,6 +2,8 @@
 //   cutting_in    how its text is cut
 //   text_in       its text
 //   explain_line  the reply to it with reasons
+#![tactic(auto)]
+
 ghost use Rattle.std.specs.Prelude.{◌≡◌, ◌/◌, length};
 ghost use Rattle.refusal.specs.Answers.{answer as answer_of, output};
 ghost use Rattle.utf8.specs.Decoding.{scalars_of, room_in, decoded};
@@ -23,7 +25,7 @@ use sheet_texts::Reply;
 use why_texts::write_why;
 
 // How a line's text is cut.
-#[derive(Drop)]
+#[derive(Clone, Copy)]
 pub enum Cutting {
     // It isn't.
     Nothing,

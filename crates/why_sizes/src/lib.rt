@@ -1,1 +1,2 @@
 // How long what is told for a line can be: the laws of proofs/.
+#![tactic(auto)]

@@ -1,4 +1,6 @@
 // A reply with reasons, and its lines of text: `write_why`.
+#![tactic(auto)]
+
 ghost use Rattle.std.specs.Prelude.{◌≡◌, ◌*◌, length, get_or, take};
 ghost use Rattle.sheet_bytes.specs.Lines.{kept, laid};
 ghost use Rattle.sheet_texts.specs.Texts.{written, amount};

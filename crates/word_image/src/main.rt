@@ -2,10 +2,12 @@
 // line, in any order, with a tab and its class in decimal behind a word that has one. The image
 // goes to standard output. A refusal, or a read or a write that fails, is told in a line on
 // standard error, and no image is written then.
-use libc::STDERR_FILENO;
+#![tactic(auto)]
+
 use refusal::{Answer, Refusal};
 use sheet_bytes::{front, keep, line_end};
 use sheet_io::{Got, read_some, write_whole};
+use std::io::{Read, Write};
 use word_lines::{Taken, take_line};
 use word_list_write::write_image;
 
@@ -23,27 +25,48 @@ const IMAGE: usize = 524288;
 
 // What became of the input: so many bytes of a line that goes on are kept, behind so many lines; or
 // it is refused.
-#[derive(Drop)]
+#[derive(Clone, Copy)]
 enum Line {
     Kept(usize, u64),
     Failed,
 }
 
-fn main() {
+fn main(rt: HostRuntime) {
     let mut line = [0u8; LINE];
     let mut pool = [0u32; POOL];
     let mut scalars = [0u32; TEXT];
     let mut positions = [0u32; POSITIONS];
     trie_char::fresh(&mut pool);
-    let read = read_all(&mut line, &mut pool, &mut scalars, &mut positions);
+    let mut input = rt.stdin();
+    let mut output = rt.stdout();
+    let told = rt.stderr();
+    let read = read_all(
+        &told,
+        &mut input,
+        &mut line,
+        &mut pool,
+        &mut scalars,
+        &mut positions,
+    );
     let Line::Kept(kept, lines) = read else {
         return;
     };
-    end_run(&line, kept, lines, &mut pool, &mut scalars, &mut positions);
+    end_run(
+        &told,
+        &mut output,
+        &line,
+        kept,
+        lines,
+        &mut pool,
+        &mut scalars,
+        &mut positions,
+    );
 }
 
 // Adds the word of a last line without a line feed, and writes the image.
-fn end_run(
+fn end_run<P: Print, W: Write>(
+    told: &P,
+    output: &mut W,
     line: &[u8; LINE],
     kept: usize,
     lines: u64,
@@ -51,27 +74,33 @@ fn end_run(
     scalars: &mut [u32; TEXT],
     positions: &mut [u32; POSITIONS],
 ) {
-    if take(front(line, kept), lines, pool, scalars, positions) {
-        write(pool);
+    if take(told, front(line, kept), lines, pool, scalars, positions) {
+        write(told, output, pool);
     }
 }
 
-fn write(pool: &[u32; POOL]) {
+fn write<P: Print, W: Write>(told: &P, output: &mut W, pool: &[u32; POOL]) {
     let mut image = [0u8; IMAGE];
     let answer = write_image(pool, &mut image);
     match answer {
         Answer::Accepted(n) => {
-            write_whole(front(&image, n), b"word_image: writing standard output");
+            write_whole(
+                told,
+                output,
+                front(&image, n),
+                b"word_image: writing standard output",
+            );
         }
         Answer::Refused(r) => {
-            io::write_all(STDERR_FILENO, b"word_image: ");
-            tell_refusal(r);
+            let _ = print!(told; "word_image: ");
+            tell_refusal(told, r);
         }
     }
 }
 
 // Adds the word of the line behind so many lines; false where it is refused, which is told.
-fn take(
+fn take<P: Print>(
+    told: &P,
     line: &[u8],
     lines: u64,
     pool: &mut [u32; POOL],
@@ -79,27 +108,27 @@ fn take(
     positions: &mut [u32; POSITIONS],
 ) -> bool {
     if LINE <= line.len() {
-        tell_line(lines);
-        io::write_all(STDERR_FILENO, b"too long\n");
+        tell_line(told, lines);
+        let _ = println!(told; "too long");
         return false;
     }
     let taken = take_line(line, pool, scalars, positions);
     match taken {
         Taken::NoClass => {
-            tell_line(lines);
-            io::write_all(STDERR_FILENO, b"no class behind the tab\n");
+            tell_line(told, lines);
+            let _ = println!(told; "no class behind the tab");
             false
         }
-        Taken::Answered(answer) => is_added(answer, lines),
+        Taken::Answered(answer) => is_added(told, answer, lines),
     }
 }
 
-fn is_added(answer: Answer, lines: u64) -> bool {
+fn is_added<P: Print>(told: &P, answer: Answer, lines: u64) -> bool {
     match answer {
         Answer::Accepted(_) => true,
         Answer::Refused(r) => {
-            tell_line(lines);
-            tell_refusal(r);
+            tell_line(told, lines);
+            tell_refusal(told, r);
             false
         }
     }
@@ -107,18 +136,25 @@ fn is_added(answer: Answer, lines: u64) -> bool {
 
 // A proved loop has to end, and nothing says that the input does: it has more turns than any run
 // uses up.
-fn read_all(
+fn read_all<P: Print, R: Read>(
+    told: &P,
+    input: &mut R,
     line: &mut [u8; LINE],
     pool: &mut [u32; POOL],
     scalars: &mut [u32; TEXT],
     positions: &mut [u32; POSITIONS],
 ) -> Line {
-    let mut buffer = io::large_buffer();
+    let mut buffer = [0u8; 65536];
     let mut kept = 0;
     let mut lines = 0;
     let mut turns = u64::MAX;
     while turns > 0 {
-        let got = read_some(&mut buffer, b"word_image: reading standard input");
+        let got = read_some(
+            told,
+            input,
+            &mut buffer,
+            b"word_image: reading standard input",
+        );
         let Got::Bytes(n) = got else {
             return Line::Failed;
         };
@@ -126,6 +162,7 @@ fn read_all(
             return Line::Kept(kept, lines);
         }
         let fed = feed_all(
+            told,
             front(&buffer, n),
             line,
             kept,
@@ -146,7 +183,8 @@ fn read_all(
 
 // Adds the words of the lines that end in the bytes, the first of which starts with the `kept`
 // bytes of `line` and stands behind `before` lines.
-fn feed_all(
+fn feed_all<P: Print>(
+    told: &P,
     bytes: &[u8],
     line: &mut [u8; LINE],
     kept: usize,
@@ -165,7 +203,7 @@ fn feed_all(
         if end == part.len() {
             return Line::Kept(n, lines);
         }
-        if !take(front(line, n), lines, pool, scalars, positions) {
+        if !take(told, front(line, n), lines, pool, scalars, positions) {
             return Line::Failed;
         }
         n = 0;
@@ -183,16 +221,13 @@ fn one_more(lines: u64) -> u64 {
 }
 
 // `word_image: line `, its number from 1 on, and `: `
-fn tell_line(before: u64) {
-    io::write_all(STDERR_FILENO, b"word_image: line ");
-    io::print_decimal(STDERR_FILENO, one_more(before));
-    io::write_all(STDERR_FILENO, b": ");
+fn tell_line<P: Print>(told: &P, before: u64) {
+    let line = one_more(before);
+    let _ = print!(told; "word_image: line {line}: ");
 }
 
-fn tell_refusal(r: Refusal) {
-    io::write_all(STDERR_FILENO, b"refusal ");
-    io::print_decimal(STDERR_FILENO, refusal::number(r) as u64);
-    io::write_all(STDERR_FILENO, b", detail ");
-    io::print_decimal(STDERR_FILENO, refusal::detail(r) as u64);
-    io::write_all(STDERR_FILENO, b"\n");
+fn tell_refusal<P: Print>(told: &P, r: Refusal) {
+    let number = refusal::number(r);
+    let detail = refusal::detail(r);
+    let _ = println!(told; "refusal {number}, detail {detail}");
 }

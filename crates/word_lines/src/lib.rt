@@ -1,6 +1,8 @@
 // The lines of a word list: a word, and a tab and its class in decimal behind a word that has one.
 //   take_line   adds the word of a line
 //   write_line  the line of a word
+#![tactic(auto)]
+
 ghost use Rattle.std.specs.Prelude.{◌≡◌};
 ghost use Rattle.refusal.specs.Answers.{output};
 ghost use Rattle.utf8.specs.Decoding.{scalars_of, room_in, decoded};
@@ -17,7 +19,7 @@ use sheet_texts::keep_number;
 use trie_char::add_class;
 
 // What became of a line: no class stands behind its tab, or what adding its word answers.
-#[derive(Drop)]
+#[derive(Clone, Copy)]
 pub enum Taken {
     NoClass,
     Answered(Answer),

@@ -1,4 +1,6 @@
 // A dictionary's words by an image. The function asks nothing of what it is lent.
+#![tactic(auto)]
+
 ghost use Rattle.std.specs.Prelude.{◌≡◌};
 ghost use Rattle.trie_char_answers.specs.Changes.{After};
 ghost use Rattle.word_list_answers.specs.Answers.{read_answer, image_terms};

@@ -1,1 +1,2 @@
 // What reading a word list image answers: the definitions of specs/.
+#![tactic(auto)]

@@ -1,4 +1,6 @@
 // A plant's words by an image. The function asks nothing of what it is lent.
+#![tactic(auto)]
+
 ghost use Rattle.std.specs.Prelude.{◌≡◌};
 ghost use Rattle.trie_plants_answers.specs.Changes.{PlantAfter};
 ghost use Rattle.word_list_answers.specs.Answers.{image_terms};

@@ -1,4 +1,6 @@
 // A plant's words as an image. The function asks nothing of what it is lent.
+#![tactic(auto)]
+
 ghost use Rattle.std.specs.Prelude.{◌≡◌};
 ghost use Rattle.refusal.specs.Answers.{output};
 ghost use Rattle.word_list_plants_write.specs.Answers.{plant_image, plant_write_answer};

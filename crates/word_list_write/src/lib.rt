@@ -1,4 +1,6 @@
 // A dictionary's words as an image. The function asks nothing of what it is lent.
+#![tactic(auto)]
+
 ghost use Rattle.std.specs.Prelude.{◌≡◌};
 ghost use Rattle.refusal.specs.Answers.{output};
 ghost use Rattle.word_list_write.specs.Answers.{image_in, write_answer};

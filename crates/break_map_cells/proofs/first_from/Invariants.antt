@@ -1,0 +1,9 @@
+use Prim.Native.Nat.{◌*◌, ◌-◌}
+use Rattle.break_map_cells.proofs.Reading.{Past}
+use Rattle.break_map_cells.proofs.first_from.Given as goal
+
+abbrev pub invariant-loop-p : goal.invariant-loop-p
+invariant-loop-p l = Past l.map l.cells l.from l.p
+
+abbrev pub decreases-loop-p : goal.decreases-loop-p
+decreases-loop-p l = 64 * l.cells - l.p

@@ -1,0 +1,48 @@
+// What hosts, written in C or Rust, link: each function hands its call on to the one of the same name
+// in fetlockice, and has its contract.
+#![tactic(auto)]
+
+mod claims;
+mod cuts;
+mod feeds;
+mod images;
+mod many;
+mod maps;
+mod plants;
+mod plants_many;
+mod reasons;
+mod texts;
+mod words;
+
+pub use claims::fetlockice_check_claim;
+pub use cuts::{fetlockice_cut_plain, fetlockice_cut_safe, fetlockice_cut_sheet};
+pub use feeds::{
+    fetlockice_feed_plain, fetlockice_feed_refused, fetlockice_feed_safe, fetlockice_feed_sheet,
+    fetlockice_join_figures,
+};
+pub use images::{fetlockice_read_image, fetlockice_write_image};
+pub use many::{
+    fetlockice_cut_many_plain, fetlockice_cut_many_safe, fetlockice_cut_many_sheet,
+    fetlockice_reasons_many_plain, fetlockice_reasons_many_safe, fetlockice_reasons_many_sheet,
+};
+pub use maps::{fetlockice_break_map, fetlockice_breaks_up_to, fetlockice_next_break};
+pub use plants::{
+    fetlockice_plant_add, fetlockice_plant_contains, fetlockice_plant_cut_plain,
+    fetlockice_plant_cut_safe, fetlockice_plant_cut_sheet, fetlockice_plant_prefix_lengths,
+    fetlockice_plant_read_image, fetlockice_plant_reasons_plain, fetlockice_plant_reasons_safe,
+    fetlockice_plant_reasons_sheet, fetlockice_plant_remove, fetlockice_plant_word_count,
+    fetlockice_plant_write_image, fetlockice_plants_start,
+};
+pub use plants_many::{
+    fetlockice_plant_cut_many_plain, fetlockice_plant_cut_many_safe,
+    fetlockice_plant_cut_many_sheet, fetlockice_plant_reasons_many_plain,
+    fetlockice_plant_reasons_many_safe, fetlockice_plant_reasons_many_sheet,
+};
+pub use reasons::{fetlockice_reasons_plain, fetlockice_reasons_safe, fetlockice_reasons_sheet};
+pub use texts::{
+    fetlockice_clusters, fetlockice_decode, fetlockice_end_in_bytes, fetlockice_winners,
+};
+pub use words::{
+    fetlockice_add, fetlockice_add_class, fetlockice_contains, fetlockice_contains_class,
+    fetlockice_fresh, fetlockice_prefix_lengths, fetlockice_remove, fetlockice_word_count,
+};

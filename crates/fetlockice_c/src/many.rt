@@ -1,0 +1,144 @@
+// Cutting many texts in one call: a call for each mode, and for each with reasons.
+ghost use Rattle.newmm_rules.specs.declared.Mode.TheVariants.{Plain, Safe, Sheet};
+ghost use Rattle.newmm_many_answers.specs.Calls.{many_call};
+ghost use Rattle.host_telling.specs.Told.{told};
+ghost use Rattle.host_many.specs.Calls.{ManyTold, ManyReasonsTold};
+
+// Cuts many texts plainly, with one check of the pool. They stand joined in texts, and end there at
+// text_ends. Four cells of answers for each text: number, count, edges, detail. The ends of all
+// texts one behind the other in out, each in its own text's characters. Accepted with the number of
+// texts. Refusals of the whole call: 10, then 6.
+#[unsafe(no_mangle)]
+pub extern "C" fn fetlockice_cut_many_plain(
+    texts: &[u32],
+    text_ends: &[u32],
+    pool: &[u32],
+    answers: &mut [u32],
+    out: &mut [u32],
+    scratch: &mut [u32],
+    count: &mut usize,
+    detail: &mut usize,
+) -> u32
+    ensures { ManyTold (many_call texts.now text_ends.now pool.now
+        answers.old out.old scratch.old Plain)
+        (told result count.new detail.new)
+        answers.new out.new scratch.new }
+{
+    fetlockice::fetlockice_cut_many_plain(
+        texts, text_ends, pool, answers, out, scratch, count, detail,
+    )
+}
+
+// Cuts many texts in safe mode; the rest as in the plain cut of many texts.
+#[unsafe(no_mangle)]
+pub extern "C" fn fetlockice_cut_many_safe(
+    texts: &[u32],
+    text_ends: &[u32],
+    pool: &[u32],
+    answers: &mut [u32],
+    out: &mut [u32],
+    scratch: &mut [u32],
+    count: &mut usize,
+    detail: &mut usize,
+) -> u32
+    ensures { ManyTold (many_call texts.now text_ends.now pool.now
+        answers.old out.old scratch.old Safe)
+        (told result count.new detail.new)
+        answers.new out.new scratch.new }
+{
+    fetlockice::fetlockice_cut_many_safe(
+        texts, text_ends, pool, answers, out, scratch, count, detail,
+    )
+}
+
+// Cuts many texts by the profile "sheet"; the rest as in the plain cut of many texts.
+#[unsafe(no_mangle)]
+pub extern "C" fn fetlockice_cut_many_sheet(
+    texts: &[u32],
+    text_ends: &[u32],
+    pool: &[u32],
+    answers: &mut [u32],
+    out: &mut [u32],
+    scratch: &mut [u32],
+    count: &mut usize,
+    detail: &mut usize,
+) -> u32
+    ensures { ManyTold (many_call texts.now text_ends.now pool.now
+        answers.old out.old scratch.old Sheet)
+        (told result count.new detail.new)
+        answers.new out.new scratch.new }
+{
+    fetlockice::fetlockice_cut_many_sheet(
+        texts, text_ends, pool, answers, out, scratch, count, detail,
+    )
+}
+
+// Cuts many texts plainly, with reasons and one check of the pool. They stand joined in texts, and
+// end there at text_ends. Four cells of answers for each text: number, count, edges, detail. The
+// count is that of the text's tokens; for each of them two cells of pairs, its end in its own
+// text's characters and its reason, those of all texts one behind the other. Accepted with the
+// number of texts. Refusals of the whole call: 10, then 6. 6 of a text counts pairs.
+#[unsafe(no_mangle)]
+pub extern "C" fn fetlockice_reasons_many_plain(
+    texts: &[u32],
+    text_ends: &[u32],
+    pool: &[u32],
+    answers: &mut [u32],
+    pairs: &mut [u32],
+    scratch: &mut [u32],
+    count: &mut usize,
+    detail: &mut usize,
+) -> u32
+    ensures { ManyReasonsTold (many_call texts.now text_ends.now pool.now
+        answers.old pairs.old scratch.old Plain)
+        (told result count.new detail.new)
+        answers.new pairs.new scratch.new }
+{
+    fetlockice::fetlockice_reasons_many_plain(
+        texts, text_ends, pool, answers, pairs, scratch, count, detail,
+    )
+}
+
+// The same in safe mode. A reason is about the part.
+#[unsafe(no_mangle)]
+pub extern "C" fn fetlockice_reasons_many_safe(
+    texts: &[u32],
+    text_ends: &[u32],
+    pool: &[u32],
+    answers: &mut [u32],
+    pairs: &mut [u32],
+    scratch: &mut [u32],
+    count: &mut usize,
+    detail: &mut usize,
+) -> u32
+    ensures { ManyReasonsTold (many_call texts.now text_ends.now pool.now
+        answers.old pairs.old scratch.old Safe)
+        (told result count.new detail.new)
+        answers.new pairs.new scratch.new }
+{
+    fetlockice::fetlockice_reasons_many_safe(
+        texts, text_ends, pool, answers, pairs, scratch, count, detail,
+    )
+}
+
+// The same by the profile "sheet".
+#[unsafe(no_mangle)]
+pub extern "C" fn fetlockice_reasons_many_sheet(
+    texts: &[u32],
+    text_ends: &[u32],
+    pool: &[u32],
+    answers: &mut [u32],
+    pairs: &mut [u32],
+    scratch: &mut [u32],
+    count: &mut usize,
+    detail: &mut usize,
+) -> u32
+    ensures { ManyReasonsTold (many_call texts.now text_ends.now pool.now
+        answers.old pairs.old scratch.old Sheet)
+        (told result count.new detail.new)
+        answers.new pairs.new scratch.new }
+{
+    fetlockice::fetlockice_reasons_many_sheet(
+        texts, text_ends, pool, answers, pairs, scratch, count, detail,
+    )
+}

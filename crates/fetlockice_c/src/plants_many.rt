@@ -1,0 +1,157 @@
+// Cutting many texts in one call by the words of a plant: a call for each mode, and for each with
+// reasons. `plant_b` is false for plant A and true for plant B.
+ghost use Rattle.newmm_rules.specs.declared.Mode.TheVariants.{Plain, Safe, Sheet};
+ghost use Rattle.newmm_many_answers.specs.Calls.{many_call};
+ghost use Rattle.host_telling.specs.Told.{told};
+ghost use Rattle.host_plants.specs.Calls.{plant_of};
+ghost use Rattle.host_plants_many.specs.Calls.{PlantManyTold, PlantManyReasonsTold};
+
+// Cuts many texts plainly by the words of a plant, with one check of the pool. They stand joined in
+// texts, and end there at text_ends. Four cells of answers for each text: number, count, edges,
+// detail. The ends of all texts one behind the other in out, each in its own text's characters.
+// Accepted with the number of texts. Refusals of the whole call: 10, then 6.
+#[unsafe(no_mangle)]
+pub extern "C" fn fetlockice_plant_cut_many_plain(
+    texts: &[u32],
+    text_ends: &[u32],
+    pool: &[u32],
+    plant_b: bool,
+    answers: &mut [u32],
+    out: &mut [u32],
+    scratch: &mut [u32],
+    count: &mut usize,
+    detail: &mut usize,
+) -> u32
+    ensures { PlantManyTold (plant_of plant_b)
+        (many_call texts.now text_ends.now pool.now
+        answers.old out.old scratch.old Plain)
+        (told result count.new detail.new)
+        answers.new out.new scratch.new }
+{
+    fetlockice::fetlockice_plant_cut_many_plain(
+        texts, text_ends, pool, plant_b, answers, out, scratch, count, detail,
+    )
+}
+
+// The same in safe mode.
+#[unsafe(no_mangle)]
+pub extern "C" fn fetlockice_plant_cut_many_safe(
+    texts: &[u32],
+    text_ends: &[u32],
+    pool: &[u32],
+    plant_b: bool,
+    answers: &mut [u32],
+    out: &mut [u32],
+    scratch: &mut [u32],
+    count: &mut usize,
+    detail: &mut usize,
+) -> u32
+    ensures { PlantManyTold (plant_of plant_b)
+        (many_call texts.now text_ends.now pool.now
+        answers.old out.old scratch.old Safe)
+        (told result count.new detail.new)
+        answers.new out.new scratch.new }
+{
+    fetlockice::fetlockice_plant_cut_many_safe(
+        texts, text_ends, pool, plant_b, answers, out, scratch, count, detail,
+    )
+}
+
+// The same by the profile "sheet".
+#[unsafe(no_mangle)]
+pub extern "C" fn fetlockice_plant_cut_many_sheet(
+    texts: &[u32],
+    text_ends: &[u32],
+    pool: &[u32],
+    plant_b: bool,
+    answers: &mut [u32],
+    out: &mut [u32],
+    scratch: &mut [u32],
+    count: &mut usize,
+    detail: &mut usize,
+) -> u32
+    ensures { PlantManyTold (plant_of plant_b)
+        (many_call texts.now text_ends.now pool.now
+        answers.old out.old scratch.old Sheet)
+        (told result count.new detail.new)
+        answers.new out.new scratch.new }
+{
+    fetlockice::fetlockice_plant_cut_many_sheet(
+        texts, text_ends, pool, plant_b, answers, out, scratch, count, detail,
+    )
+}
+
+// Cuts many texts plainly by the words of a plant, with reasons and one check of the pool: as the
+// cut of many texts, but a text's count is that of its tokens, and for each of them two cells of
+// pairs are written, its end and its reason. Refusals of the whole call: 10, then 6. 6 of a text
+// counts pairs.
+#[unsafe(no_mangle)]
+pub extern "C" fn fetlockice_plant_reasons_many_plain(
+    texts: &[u32],
+    text_ends: &[u32],
+    pool: &[u32],
+    plant_b: bool,
+    answers: &mut [u32],
+    pairs: &mut [u32],
+    scratch: &mut [u32],
+    count: &mut usize,
+    detail: &mut usize,
+) -> u32
+    ensures { PlantManyReasonsTold (plant_of plant_b)
+        (many_call texts.now text_ends.now pool.now
+        answers.old pairs.old scratch.old Plain)
+        (told result count.new detail.new)
+        answers.new pairs.new scratch.new }
+{
+    fetlockice::fetlockice_plant_reasons_many_plain(
+        texts, text_ends, pool, plant_b, answers, pairs, scratch, count, detail,
+    )
+}
+
+// The same in safe mode. A reason is about the part.
+#[unsafe(no_mangle)]
+pub extern "C" fn fetlockice_plant_reasons_many_safe(
+    texts: &[u32],
+    text_ends: &[u32],
+    pool: &[u32],
+    plant_b: bool,
+    answers: &mut [u32],
+    pairs: &mut [u32],
+    scratch: &mut [u32],
+    count: &mut usize,
+    detail: &mut usize,
+) -> u32
+    ensures { PlantManyReasonsTold (plant_of plant_b)
+        (many_call texts.now text_ends.now pool.now
+        answers.old pairs.old scratch.old Safe)
+        (told result count.new detail.new)
+        answers.new pairs.new scratch.new }
+{
+    fetlockice::fetlockice_plant_reasons_many_safe(
+        texts, text_ends, pool, plant_b, answers, pairs, scratch, count, detail,
+    )
+}
+
+// The same by the profile "sheet".
+#[unsafe(no_mangle)]
+pub extern "C" fn fetlockice_plant_reasons_many_sheet(
+    texts: &[u32],
+    text_ends: &[u32],
+    pool: &[u32],
+    plant_b: bool,
+    answers: &mut [u32],
+    pairs: &mut [u32],
+    scratch: &mut [u32],
+    count: &mut usize,
+    detail: &mut usize,
+) -> u32
+    ensures { PlantManyReasonsTold (plant_of plant_b)
+        (many_call texts.now text_ends.now pool.now
+        answers.old pairs.old scratch.old Sheet)
+        (told result count.new detail.new)
+        answers.new pairs.new scratch.new }
+{
+    fetlockice::fetlockice_plant_reasons_many_sheet(
+        texts, text_ends, pool, plant_b, answers, pairs, scratch, count, detail,
+    )
+}

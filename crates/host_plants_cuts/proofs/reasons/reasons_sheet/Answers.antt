@@ -1,0 +1,10 @@
+use Rattle.newmm_rules.specs.declared.Mode.TheVariants.{Sheet}
+use Rattle.newmm_answers.specs.Calls.{call}
+use Rattle.host_plants_cuts.proofs.Telling.{with_reasons}
+use Rattle.host_plants_cuts.proofs.reasons.reasons_sheet.Goals as goal
+
+pub returns : goal.returns
+returns c =
+    with_reasons c.whose-plant.ensures
+    (call c.args.text.now c.args.pool.now c.args.pairs.now c.args.scratch.now Sheet) _ _
+    c.tell_cut.ensures c.cut_reasons_in-sheet.ensures

@@ -1,0 +1,42 @@
+use native.Mathlib.Omega.{arith}
+use lib.ListN.{length-set}
+use Rattle.newmm_bfs.proofs.Tracing.{put_none, bound, same_size, index, put_more, put_all}
+use Rattle.newmm_bfs.proofs.put_way.Goals as goal
+
+pub loop-i-init : goal.loop-i-init
+loop-i-init c = put_none c.requires.v_lt_m.1 c.requires.sized c.requires.traced_by
+
+pub narrow-requires : goal.narrow-requires
+narrow-requires c = omega (arith, c.loop-i.invariant.most, c.requires.sized.small, c.requires.v_lt_m.0)
+
+pub offset_bounds-row-i : goal.offset_bounds-row-i
+offset_bounds-row-i c = omega (arith, bound c.requires.v_lt_m.1 c.requires.sized c.loop-i.invariant, c.requires.v_lt_m.1, c.requires.sized.small)
+
+pub bounds-row-i : goal.bounds-row-i
+bounds-row-i c = index c.requires.v_lt_m.1 c.requires.sized c.loop-i.invariant c.loop-i-test.true
+
+pub bounds-row-m : goal.bounds-row-m
+bounds-row-m c =
+    let s = same_size c.requires.v_lt_m.1 c.requires.sized c.loop-i.invariant in
+    simp length-set (omega (arith, s, c.requires.sized.long, c.loop-i.invariant.most, c.requires.v_lt_m.0))
+
+pub overflow_sub-x : goal.overflow_sub-x
+overflow_sub-x c =
+    let n = put_more c.requires.v_lt_m.1 c.requires.sized c.loop-i.invariant c.loop-i-test.true _ _ c.narrow.ensures
+    c.wide-x.ensures in
+    omega (arith, n.0)
+
+pub loop-i-smaller : goal.loop-i-smaller
+loop-i-smaller c = let t = c.loop-i-test.true in omega arith
+
+pub loop-i-preserved : goal.loop-i-preserved
+loop-i-preserved c =
+    let n = put_more c.requires.v_lt_m.1 c.requires.sized c.loop-i.invariant c.loop-i-test.true _ _ c.narrow.ensures
+    c.wide-x.ensures in
+    n.1
+
+pub shape_of-row : goal.shape_of-row
+shape_of-row c = same_size c.requires.v_lt_m.1 c.requires.sized c.loop-i.invariant
+
+pub returns : goal.returns
+returns c = put_all c.requires.v_lt_m.1 c.requires.sized c.loop-i.invariant c.loop-i-test.false

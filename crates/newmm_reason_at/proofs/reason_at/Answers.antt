@@ -1,0 +1,25 @@
+use Rattle.newmm_word_step.specs.inner.Walks.{given_by}
+use Rattle.newmm_reason_at.proofs.Telling.{word_here, word_elsewhere, no_word}
+use Rattle.newmm_reason_at.proofs.reason_at.Goals as goal
+
+pub other_reason-requires : goal.other_reason-requires
+other_reason-requires c =
+    record {
+      place = c.requires.place;
+      token = c.requires.token;
+      b_value = no_word (given_by c.args.text.now c.args.pool.now) c.args.b
+          c.args.e c.words_at-found.ensures c.in-Nowhere.is;
+    }
+
+pub returns-in-Here : goal.returns-in-Here
+returns-in-Here c =
+    word_here (given_by c.args.text.now c.args.pool.now) c.args.b c.args.e
+    c.words_at-found.ensures c.in-Here.is
+
+pub returns-in-Elsewhere : goal.returns-in-Elsewhere
+returns-in-Elsewhere c =
+    word_elsewhere (given_by c.args.text.now c.args.pool.now) c.args.b c.args.e
+    c.words_at-found.ensures c.in-Elsewhere.is
+
+pub returns-in-Nowhere : goal.returns-in-Nowhere
+returns-in-Nowhere c = c.other_reason.ensures

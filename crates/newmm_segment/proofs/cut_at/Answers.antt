@@ -1,0 +1,36 @@
+use native.Mathlib.Omega.{arith}
+use mathlib.Core.Path.{refl, sym, ◌∙◌}
+use lib.ListN.{drop, length-take}
+use Rattle.trie_pool.specs.Words.{holds}
+use Rattle.newmm_answers.proofs.Plain.{plain_right}
+use Rattle.newmm_segment.proofs.Samples.{lent, written, at_space, sample_rising, sample_fits, no_space, row_back}
+use Rattle.newmm_segment.proofs.cut_at.Goals as goal
+
+pub one_cut-r-requires : goal.one_cut-r-requires
+one_cut-r-requires c = lent c.requires.0 _ (omega (arith, length-take 40 (drop 100 c.args.rest.now)))
+
+pub longest_start-at-requires : goal.longest_start-at-requires
+longest_start-at-requires c =
+    let w = written c.args.pool.now c.one_cut-r.ensures in
+    let right = plain_right (holds c.args.pool.now) in (
+      sample_fits c.requires.0 c.requires.1 c.args.space_cut _ w right,
+      sample_rising c.requires.0
+          c.requires.1 c.args.space_cut _ w right,
+    )
+
+pub returns-in-At : goal.returns-in-At
+returns-in-At c =
+    record {
+      sampled = at_space c.requires.0 c.requires.1 c.args.space_cut _
+          (sym c.rfind_space_char_index-space.ensures ∙ c.in-At.is);
+      row_unchanged = refl;
+    }
+
+pub returns-in-Nothing : goal.returns-in-Nothing
+returns-in-Nothing c =
+    let w = written c.args.pool.now c.one_cut-r.ensures in let right = plain_right (holds c.args.pool.now) in record {
+      sampled = no_space c.requires.0 c.requires.1 c.args.space_cut _ w right _
+          (sym c.rfind_space_char_index-space.ensures ∙ c.in-Nothing.is) c.longest_start-at.ensures.value;
+      row_unchanged = row_back
+          c.requires.0 c.requires.1 c.args.space_cut _ w right _ c.longest_start-at.ensures.row_after;
+    }

@@ -1,0 +1,69 @@
+use native.Mathlib.Omega.{arith}
+use Prim.Native.Nat.{ℕ, ◌+◌}
+use mathlib.Core.Path.{sym, subst}
+use mathlib.Core.List.{List}
+use lib.ListN.{take}
+use Rattle.trie_pool.specs.Words.{holds}
+use Rattle.newmm_answers.specs.Answers.{plain_cut}
+use Rattle.newmm_answers.proofs.Plain.{plain_right, plain_edges}
+use Rattle.newmm_segment.specs.inner.Written.{Ready}
+use Rattle.newmm_reasons_answers.specs.inner.Cells.{cells_part}
+use Rattle.newmm_reasons_answers.proofs.Cells.{cells_many}
+use Rattle.newmm_rules.proofs.RunEdges.{sample_few}
+use Rattle.newmm_segment.proofs.Samples.{part_inside, part_ready, part_size, first_told}
+use Rattle.newmm_tell.proofs.tell_first.Goals as goal
+
+pub overflow_add-size : goal.overflow_add-size
+overflow_add-size c =
+    omega (
+      arith,
+      (part_inside c.requires.0 c.requires.1 c.args.space_cut c.requires.2 c.requires.3
+          (plain_right (holds c.args.pool.now)) c.cut_at-cut.ensures.sampled).1,
+    )
+
+pub slice_bounds-tell_part-end : goal.slice_bounds-tell_part-end
+slice_bounds-tell_part-end c =
+    sym (part_size c.requires.0 c.requires.1 c.args.space_cut c.requires.2 c.requires.3
+    (plain_right (holds c.args.pool.now)) c.cut_at-cut.ensures.sampled)
+
+pub tell_part-r-requires : goal.tell_part-r-requires
+tell_part-r-requires c =
+    let right = plain_right (holds c.args.pool.now) in (
+      subst (λ (row : List ℕ). Ready (take (c.cut_at-cut.result.at + c.cut_at-cut.result.from) c.args.rest.now)
+          c.args.pool.now row) (sym c.cut_at-cut.ensures.row_unchanged)
+          (part_ready c.requires.0 c.requires.1 c.args.space_cut c.requires.2 c.requires.3 right
+          c.cut_at-cut.ensures.sampled),
+      omega (
+        arith,
+        part_size c.requires.0 c.requires.1 c.args.space_cut c.requires.2 c.requires.3 right
+            c.cut_at-cut.ensures.sampled,
+        (part_inside c.requires.0 c.requires.1 c.args.space_cut c.requires.2
+            c.requires.3 right c.cut_at-cut.ensures.sampled).1,
+        c.requires.4,
+      ),
+    )
+
+pub overflow_add-result : goal.overflow_add-result
+overflow_add-result c =
+    let right = plain_right (holds c.args.pool.now) in
+    omega (
+      arith,
+      c.cut_at-cut.ensures.sampled.edges,
+      sample_few (plain_cut (holds c.args.pool.now))
+          (plain_edges (holds c.args.pool.now)) c.args.rest.now,
+      c.tell_part-r.ensures.edges,
+      plain_edges
+          (holds c.args.pool.now)
+          (take (c.cut_at-cut.result.at + c.cut_at-cut.result.from) c.args.rest.now),
+      part_size c.requires.0
+          c.requires.1 c.args.space_cut c.requires.2 c.requires.3 right c.cut_at-cut.ensures.sampled,
+      (part_inside
+          c.requires.0 c.requires.1 c.args.space_cut c.requires.2 c.requires.3 right c.cut_at-cut.ensures.sampled).1,
+    )
+
+pub returns : goal.returns
+returns c =
+    first_told c.requires.0 c.requires.1 c.args.space_cut c.requires.2 c.requires.3
+    (plain_right (holds c.args.pool.now)) c.cut_at-cut.ensures.sampled
+    (cells_part (holds c.args.pool.now)) (cells_many (holds c.args.pool.now)) c.args.start
+    c.cut_at-cut.ensures.row_unchanged c.tell_part-r.ensures

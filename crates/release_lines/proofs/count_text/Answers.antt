@@ -1,0 +1,38 @@
+use Rattle.sheet_replies.proofs.Replying.{lent_fits, lent_size}
+use Rattle.release_lines.proofs.Counting.{stopped_figures, stopped_full, fed_figures, full_once_fed}
+use Rattle.release_lines.proofs.count_text.Goals as goal
+
+pub slice_bounds-feed-end : goal.slice_bounds-feed-end
+slice_bounds-feed-end c =
+    lent_fits c.args.text.now c.args.scalars.now c.args.positions.now (c.decode-decoded.ensures.value, (c.decode-decoded.ensures.out_after, c.decode-decoded.ensures.positions_after))
+    c.in-Accepted.is
+
+pub slice_bounds-feed-end-in-Accepted : goal.slice_bounds-feed-end-in-Accepted
+slice_bounds-feed-end-in-Accepted c =
+    lent_size c.args.text.now c.args.scalars.now c.args.positions.now (c.decode-decoded.ensures.value, (c.decode-decoded.ensures.out_after, c.decode-decoded.ensures.positions_after))
+    c.in-Accepted.is
+
+pub returns-in-Refused : goal.returns-in-Refused
+returns-in-Refused c =
+    record {
+      value = stopped_full c.args.text.now c.args.scalars.now c.args.positions.now (c.decode-decoded.ensures.value, (c.decode-decoded.ensures.out_after, c.decode-decoded.ensures.positions_after))
+          c.args.figures.now c.args.pool.now c.args.pairs.now c.args.scratch.now
+          c.args.mode c.in-Refused.is c.number.ensures c.feed_refused.ensures.0
+          c.is_refused_full.ensures;
+      figures_after = stopped_figures c.args.text.now c.args.scalars.now
+          c.args.positions.now (c.decode-decoded.ensures.value, (c.decode-decoded.ensures.out_after, c.decode-decoded.ensures.positions_after)) c.args.figures.now c.args.pool.now
+          c.args.pairs.now c.args.scratch.now c.args.mode c.in-Refused.is c.number.ensures
+          c.feed_refused.ensures.1;
+    }
+
+pub returns-in-Accepted : goal.returns-in-Accepted
+returns-in-Accepted c =
+    record {
+      value = full_once_fed c.args.text.now c.args.scalars.now c.args.positions.now (c.decode-decoded.ensures.value, (c.decode-decoded.ensures.out_after, c.decode-decoded.ensures.positions_after))
+          c.args.figures.now c.args.pool.now c.args.pairs.now c.args.scratch.now
+          c.args.mode c.in-Accepted.is c.feed.ensures.0 c.is_fed_full.ensures;
+      figures_after = fed_figures
+          c.args.text.now c.args.scalars.now c.args.positions.now (c.decode-decoded.ensures.value, (c.decode-decoded.ensures.out_after, c.decode-decoded.ensures.positions_after))
+          c.args.figures.now c.args.pool.now c.args.pairs.now c.args.scratch.now
+          c.args.mode c.in-Accepted.is c.feed.ensures.1.0;
+    }

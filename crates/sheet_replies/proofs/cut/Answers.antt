@@ -1,0 +1,65 @@
+use Prim.Native.Nat.{ℕ}
+use mathlib.Core.List.{List}
+use lib.ListN.{length}
+use Rattle.refusal.specs.Answers.{answer}
+use Rattle.utf8.specs.Decoding.{scalars_of}
+use Rattle.trie_pool.specs.Meaning.{meaning}
+use Rattle.trie_check.specs.Refusals.{held}
+use Rattle.newmm_answers.specs.Answers.{accepts, first_causes, cut_of}
+use Rattle.sheet_replies.proofs.Replying.{decoded_are, ended_stop, out_stop, clear_stop, lent_fits, lent_size, ended_text, out_text, clear_text}
+use Rattle.sheet_replies.proofs.cut.Goals as goal
+
+pub slice_bounds-cut-end : goal.slice_bounds-cut-end
+slice_bounds-cut-end c =
+    lent_fits c.args.text.now c.args.scalars.now c.args.positions.now (c.decode-decoded.ensures.value, (c.decode-decoded.ensures.out_after, c.decode-decoded.ensures.positions_after))
+    c.in-Accepted.is
+
+pub slice_bounds-cut-end-in-Accepted : goal.slice_bounds-cut-end-in-Accepted
+slice_bounds-cut-end-in-Accepted c =
+    lent_size c.args.text.now c.args.scalars.now c.args.positions.now (c.decode-decoded.ensures.value, (c.decode-decoded.ensures.out_after, c.decode-decoded.ensures.positions_after))
+    c.in-Accepted.is
+
+pub returns-in-Refused : goal.returns-in-Refused
+returns-in-Refused c =
+    record {
+      value = ended_stop c.args.text.now c.args.scalars.now c.args.positions.now (c.decode-decoded.ensures.value, (c.decode-decoded.ensures.out_after, c.decode-decoded.ensures.positions_after))
+          c.in-Refused.is
+          (accepts c.args.mode (scalars_of c.args.text.now) (meaning c.args.pool.now)
+          (length c.args.scratch.now) (length c.args.ends.now));
+      scalars_after = (decoded_are c.args.text.now c.args.scalars.now c.args.positions.now
+          (c.decode-decoded.ensures.value, (c.decode-decoded.ensures.out_after, c.decode-decoded.ensures.positions_after))).0;
+      positions_after = (decoded_are c.args.text.now c.args.scalars.now c.args.positions.now
+          (c.decode-decoded.ensures.value, (c.decode-decoded.ensures.out_after, c.decode-decoded.ensures.positions_after))).1;
+      ends_after = out_stop c.args.text.now c.args.scalars.now c.args.positions.now (c.decode-decoded.ensures.value, (c.decode-decoded.ensures.out_after, c.decode-decoded.ensures.positions_after))
+          c.in-Refused.is
+          (accepts c.args.mode (scalars_of c.args.text.now) (meaning c.args.pool.now)
+          (length c.args.scratch.now) (length c.args.ends.now))
+          (cut_of c.args.mode (held (meaning c.args.pool.now)) (scalars_of c.args.text.now)).ends
+          c.args.ends.now;
+      scratch_after = clear_stop c.args.text.now c.args.scalars.now c.args.positions.now
+          (c.decode-decoded.ensures.value, (c.decode-decoded.ensures.out_after, c.decode-decoded.ensures.positions_after)) c.in-Refused.is
+          (answer (first_causes (scalars_of c.args.text.now) (meaning c.args.pool.now)
+          (length c.args.scratch.now)) 0) c.args.scratch.now;
+    }
+
+pub returns-in-Accepted : goal.returns-in-Accepted
+returns-in-Accepted c =
+    record {
+      value = ended_text c.args.text.now c.args.scalars.now c.args.positions.now (c.decode-decoded.ensures.value, (c.decode-decoded.ensures.out_after, c.decode-decoded.ensures.positions_after))
+          c.in-Accepted.is c.args.mode c.args.pool.now (length c.args.scratch.now)
+          (length c.args.ends.now) c.cut.ensures.0 c.ended.ensures;
+      scalars_after = (decoded_are c.args.text.now c.args.scalars.now c.args.positions.now
+          (c.decode-decoded.ensures.value, (c.decode-decoded.ensures.out_after, c.decode-decoded.ensures.positions_after))).0;
+      positions_after = (decoded_are c.args.text.now c.args.scalars.now c.args.positions.now
+          (c.decode-decoded.ensures.value, (c.decode-decoded.ensures.out_after, c.decode-decoded.ensures.positions_after))).1;
+      ends_after = out_text c.args.text.now c.args.scalars.now c.args.positions.now (c.decode-decoded.ensures.value, (c.decode-decoded.ensures.out_after, c.decode-decoded.ensures.positions_after))
+          c.in-Accepted.is
+          (λ (w : List ℕ). accepts c.args.mode w (meaning c.args.pool.now) (length c.args.scratch.now)
+          (length c.args.ends.now))
+          (λ (w : List ℕ). (cut_of c.args.mode (held (meaning c.args.pool.now)) w).ends) c.args.ends.now
+          c.cut.ensures.1.0;
+      scratch_after = clear_text c.args.text.now c.args.scalars.now c.args.positions.now
+          (c.decode-decoded.ensures.value, (c.decode-decoded.ensures.out_after, c.decode-decoded.ensures.positions_after)) c.in-Accepted.is
+          (λ (w : List ℕ). answer (first_causes w (meaning c.args.pool.now) (length c.args.scratch.now)) 0)
+          c.args.scratch.now c.cut.ensures.1.1;
+    }

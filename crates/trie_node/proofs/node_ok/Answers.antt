@@ -1,0 +1,13 @@
+use Rattle.trie_node.proofs.Decide.{denied}
+use Rattle.trie_node.proofs.Single.{stands, first_not}
+use Rattle.trie_node.proofs.node_ok.Goals as goal
+
+pub returns-then-p-a : goal.returns-then-p-a
+returns-then-p-a c =
+    denied (first_not c.args.p.now c.args.i c.requires.0 c.args.s _ c.narrow.ensures
+    c.if-p-a.true)
+
+pub returns : goal.returns
+returns c =
+    stands c.args.p.now c.args.i c.requires.0 c.args.s _ _ c.if-p-a.false c.narrow.ensures
+    c.inner_ok.ensures
