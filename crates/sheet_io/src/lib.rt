@@ -84,7 +84,20 @@ fn again(error: &Error) -> bool {
     }
 }
 
+// What std puts between the system's words for an error and its number.
+const NUMBER: &[u8] = b" (os error ";
+
+// One line: `what`, and the system's words for the error.
 fn tell<P: Print>(told: &P, what: &[u8], error: &Error) {
+    let mut line = [0u8; 320];
+    let mut rest = &mut line[..];
+    let _ = write!(rest, "{error}");
     let _ = told.write_all(what);
-    let _ = println!(told; ": {error}");
+    let Some(n) = line.windows(NUMBER.len()).position(|w| w == NUMBER) else {
+        let _ = println!(told; ": {error}");
+        return;
+    };
+    let _ = told.write_all(b": ");
+    let _ = told.write_all(&line[..n]);
+    let _ = told.write_all(b"\n");
 }
