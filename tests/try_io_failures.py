@@ -31,16 +31,16 @@ def say(name, good, told=""):
         failed.append(name)
 
 
-def stopped(name, run, start):
-    """One line on standard error that starts so, and status 0."""
-    one = run.stderr.startswith(start) and run.stderr.count(b"\n") == 1 and run.stderr.endswith(b"\n")
+def stopped(name, run, start, why=b""):
+    """One line on standard error that starts so, and goes on with why to its end where why is given; and status 0."""
+    one = run.stderr.startswith(start + why) and run.stderr.count(b"\n") == 1 and run.stderr.endswith(why + b"\n")
     say(name, one and run.returncode == 0, "status %d, standard error %r" % (run.returncode, run.stderr[:200]))
 
 
 def full_device(program):
     with open("/dev/full", "wb") as out:
         run = subprocess.run([program], input=b"=ab\n", stdout=out, stderr=subprocess.PIPE, timeout=LIMIT)
-    stopped("a write to a full device", run, WRITING)
+    stopped("a write to a full device", run, WRITING, b"No space left on device")
 
 
 def full_device_at_the_end(program):

@@ -44,7 +44,7 @@ pub fn build(
     requires lent { Lent prev.old row.old positions.old }
     ensures placed { Placed image.now p.new }
     ensures beside { Beside p.old p.new }
-    ensures p_after { used p.new ≡ n }
+    ensures used_after { used p.new ≡ n }
 {
     starts(levels);
     let nodes = wide(p[IN_USE]);

@@ -24,7 +24,7 @@ pub fn place(
     requires lent { Lent prev.old row.old positions.old }
     ensures placed { Placed image.now p.new }
     ensures beside { Beside p.old p.new }
-    ensures p_unchanged { used p.new ≡ used p.old }
+    ensures used_unchanged { used p.new ≡ used p.old }
 {
     let mut before = 0;
     let mut at = 0;

@@ -48,7 +48,7 @@ abbrev pub edges_name : List ℕ
 edges_name =
     101 ∷ 100 ∷ 103 ∷ 101 ∷ 115 ∷ []
 
--- `most_edges`
+-- `most-edges`
 abbrev pub most_edges_name : List ℕ
 most_edges_name =
     109 ∷ 111 ∷ 115 ∷ 116 ∷ 45 ∷ 101 ∷ 100 ∷ 103 ∷ 101 ∷ 115 ∷ []

@@ -40,6 +40,6 @@ returns c =
       beside = both_change
           (emptied c.requires.builds _ _ c.wide-nodes.ensures c.clear_nodes.ensures c.clear_nodes.auto.p _)
           c.place.ensures.beside;
-      p_after = c.place.ensures.p_unchanged ∙ root_use c.requires.builds _ _ c.wide-nodes.ensures c.clear_nodes.ensures
+      used_after = c.place.ensures.used_unchanged ∙ root_use c.requires.builds _ _ c.wide-nodes.ensures c.clear_nodes.ensures
           c.clear_nodes.auto.p _ c.narrow.ensures;
     }

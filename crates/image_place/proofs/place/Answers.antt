@@ -24,7 +24,7 @@ pub shape_of-positions-in-Broken : goal.shape_of-positions-in-Broken
 shape_of-positions-in-Broken c = c.loop-at.invariant.rows.places ∙ sym c.requires.lent.rows.places
 
 pub returns-in-Broken : goal.returns-in-Broken
-returns-in-Broken c = record { placed = stop_broken c.loop-at.invariant c.record_at.result c.record_at.ensures c.in-Broken.is; beside = c.loop-at.invariant.beside; p_unchanged = c.loop-at.invariant.in_use }
+returns-in-Broken c = record { placed = stop_broken c.loop-at.invariant c.record_at.result c.record_at.ensures c.in-Broken.is; beside = c.loop-at.invariant.beside; used_unchanged = c.loop-at.invariant.in_use }
 
 pub shape_of-p-in-Last : goal.shape_of-p-in-Last
 shape_of-p-in-Last c = c.loop-at.invariant.size
@@ -39,7 +39,7 @@ pub shape_of-positions-in-Last : goal.shape_of-positions-in-Last
 shape_of-positions-in-Last c = c.loop-at.invariant.rows.places ∙ sym c.requires.lent.rows.places
 
 pub returns-in-Last : goal.returns-in-Last
-returns-in-Last c = record { placed = stop_last c.loop-at.invariant c.record_at.result c.record_at.ensures c.in-Last.is; beside = c.loop-at.invariant.beside; p_unchanged = c.loop-at.invariant.in_use }
+returns-in-Last c = record { placed = stop_last c.loop-at.invariant c.record_at.result c.record_at.ensures c.in-Last.is; beside = c.loop-at.invariant.beside; used_unchanged = c.loop-at.invariant.in_use }
 
 pub slice_bounds-take_word-count : goal.slice_bounds-take_word-count
 slice_bounds-take_word-count c = let e = entry c.loop-at.invariant c.record_at.result c.record_at.ensures c.in-Word.is in omega (arith, e.order)
@@ -66,7 +66,7 @@ pub shape_of-positions-in_default : goal.shape_of-positions-in_default
 shape_of-positions-in_default c = c.take_word.auto.positions ∙ c.loop-at.invariant.rows.places ∙ sym c.requires.lent.rows.places
 
 pub returns-in_default : goal.returns-in_default
-returns-in_default c = record { placed = stop_word c.loop-at.invariant c.record_at.result c.record_at.ensures c.in-Word.is c.take_word.new.prev c.take_word.result c.take_word.ensures c.in_default.is; beside = c.loop-at.invariant.beside; p_unchanged = c.loop-at.invariant.in_use }
+returns-in_default c = record { placed = stop_word c.loop-at.invariant c.record_at.result c.record_at.ensures c.in-Word.is c.take_word.new.prev c.take_word.result c.take_word.ensures c.in_default.is; beside = c.loop-at.invariant.beside; used_unchanged = c.loop-at.invariant.in_use }
 
 pub slice_bounds-append-end : goal.slice_bounds-append-end
 slice_bounds-append-end c = let f = few c.loop-at.invariant c.record_at.result c.record_at.ensures c.in-Word.is c.take_word.new.prev c.take_word.result c.take_word.ensures c.in-Word-take_word.is in omega (arith, f, c.take_word.auto.prev, c.loop-at.invariant.long)
@@ -102,4 +102,4 @@ pub shape_of-positions : goal.shape_of-positions
 shape_of-positions c = c.loop-at.invariant.rows.places ∙ sym c.requires.lent.rows.places
 
 pub returns : goal.returns
-returns c = record { placed = all_placed c.loop-at.invariant c.loop-at-test.false; beside = c.loop-at.invariant.beside; p_unchanged = c.loop-at.invariant.in_use }
+returns c = record { placed = all_placed c.loop-at.invariant c.loop-at-test.false; beside = c.loop-at.invariant.beside; used_unchanged = c.loop-at.invariant.in_use }

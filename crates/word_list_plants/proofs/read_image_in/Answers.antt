@@ -95,4 +95,4 @@ returns-else-room-n c =
     c.if-not-is_plants.false _ c.half_at-a.ensures _ c.wide-room.ensures
     (told_right c.args.image.now c.survey.new.levels c.survey.result _ _ c.survey.ensures
     c.in-Right.is) c.if-room-n.false _ c.capacity-cells.ensures _ c.build.auto.p
-    c.build.ensures.p_after c.build.ensures.placed c.build.ensures.beside in record { value = both.0; plant_after = both.1 }
+    c.build.ensures.used_after c.build.ensures.placed c.build.ensures.beside in record { value = both.0; plant_after = both.1 }
