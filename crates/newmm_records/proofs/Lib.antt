@@ -1,2 +1,3 @@
 pub mod Filled
+pub mod Again
 pub mod Calls
