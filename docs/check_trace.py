@@ -54,7 +54,7 @@ def functions(cell):
             yield "no crate " + crate
             continue
         source = "".join(text(folder, file) for file in sorted(os.listdir(folder)))
-        if rest and not re.search(r"\bfn %s\(" % re.escape(rest[-1]), source):
+        if rest and not re.search(r"\bfn %s[(<]" % re.escape(rest[-1]), source):
             yield "%s has no function %s" % (crate, rest[-1])
 
 
