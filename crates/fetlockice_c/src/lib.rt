@@ -1,5 +1,5 @@
-// What hosts, written in C or Rust, link: each function hands its call on to the one of the same name
-// in fetlockice, and has its contract.
+// What hosts, written in C or Rust, link: each function hands its call on to the one of the same
+// name in fetlockice, and has its contract.
 #![tactic(auto)]
 
 mod claims;

@@ -45,8 +45,8 @@ fn main(rt: HostRuntime) {
     );
 }
 
-// Replays a source, as many whole lines at once as the row holds. A proved loop has to end: this one
-// has more turns than any run uses up.
+// Replays a source, as many whole lines at once as the row holds. A proved loop has to end: this
+// one has more turns than any run uses up.
 fn replay_all<R: Read>(
     rt: &impl Print,
     source: &mut R,

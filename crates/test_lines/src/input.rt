@@ -1,12 +1,13 @@
 // The input, and the parts between its marks.
-ghost use Rattle.std.specs.Prelude.{◌-◌, ◌≤◌, length};
+ghost use Rattle.std.specs.Prelude.{◌-◌, ◌≤◌, length, take};
+ghost use Rattle.std.specs.Io.KnownBytes.{Consumes};
 ghost use Rattle.io.specs.Counts.{IsPrefixLen};
 
 use crate::output::unread;
 use std::io::Read;
 
-// Reads an input into buffer and answers how many bytes there are. An input that fills buffer may be
-// cut off, and cannot be read.
+// Reads an input into buffer and answers how many bytes there are. An input that fills buffer may
+// be cut off, and cannot be read.
 pub fn read_input<R: Read>(rt: &impl Print, input: &mut R, buffer: &mut [u8]) -> usize
     ensures { IsPrefixLen result buffer.new }
 {
@@ -18,20 +19,18 @@ pub fn read_input<R: Read>(rt: &impl Print, input: &mut R, buffer: &mut [u8]) ->
 }
 
 // Reads until buffer is full, the input ends or a read fails, and answers how many bytes it put at
-// the front of buffer.
+// the front of buffer: those, and no others, are gone from the input.
 pub fn read_full<R: Read>(input: &mut R, buffer: &mut [u8]) -> usize
-    ensures { IsPrefixLen result buffer.new }
+    ensures size { IsPrefixLen result buffer.new }
+    ensures read { Consumes (R.remaining input.old) (R.remaining input.new) (take result buffer.new) }
 {
     let mut done = 0;
     while done < buffer.len() {
-        let n = match input.read(&mut buffer[done..]) {
-            Ok(n) => n,
-            Err(_) => 0,
-        };
-        if n == 0 {
-            break;
+        match input.read(&mut buffer[done..]) {
+            Ok(0) => return done,
+            Ok(n) => done += n,
+            Err(_) => return done,
         }
-        done += n;
     }
     done
 }
