@@ -1,4 +1,5 @@
 -- The refusals of the three calls, and what a call that comes past them has. Assumes nothing.
+use Rattle.std.specs.Prelude.{Result, Ok, Err}
 use Prim.Native.Nat.{ℕ, ◌+◌, ◌*◌, ◌-◌, ◌/◌, ◌%◌, ◌≤◌, ◌<◌}
 use native.Mathlib.Omega.{arith}
 use mathlib.Core.Path.{◌≡◌, refl, sym, ◌∙◌, ap, ap₂}
@@ -11,8 +12,6 @@ use lib.Dec.{ltb}
 use borrow.Author.Tests.{lt-ltb, le-ltb, ltb-false}
 use Rattle.refusal.specs.declared.Refusal.{Refusal}
 use Rattle.refusal.specs.declared.Refusal.TheVariants.{TooManyScalars, OutputTooShort, WrongPosition, BitAboveEnd}
-use Rattle.refusal.specs.declared.Answer.{Answer}
-use Rattle.refusal.specs.declared.Answer.TheVariants.{Accepted, Refused}
 use Rattle.refusal.specs.Answers.{Cause, answer, output, long_cause, out_cause}
 use Rattle.refusal.proofs.Order.{refused_first}
 use Rattle.refusal.proofs.Causes.{none_of, again, still, handed, no_output, cause_yes, cause_no, out_short, out_fits}
@@ -28,31 +27,31 @@ use Rattle.break_map_rules.proofs.Breaks.{those_split}
 use Rattle.break_map_rules.proofs.Ends.{right_most, end_at}
 use Rattle.break_map_rules.proofs.Maps.{map_long}
 
-same_number : {k m : ℕ} → Accepted k ≡ Accepted m → k ≡ m
+same_number : {k m : ℕ} → Ok k ≡ Ok m → k ≡ m
 same_number e = cc
 
 -- the number that is told where a call is accepted
-pub number_is : (rs : List Cause) (n : ℕ) {k : ℕ} → answer rs n ≡ Accepted k → k ≡ n
+pub number_is : (rs : List Cause) (n : ℕ) {k : ℕ} → answer rs n ≡ Ok k → k ≡ n
 number_is rs n h = same_number (sym h ∙ sym (again rs n n h))
 
 -- ---- 2 and 6
 
 module _ (n room m : ℕ) where
-  pub too_long : 65535 < n → Refused (TooManyScalars n) ≡ answer (size_causes n room) m
-  too_long h = sym (ap (λ (b : Bool). cond b (Refused (TooManyScalars n)) (answer (out_cause (cells_for n) room ∷ []) m)) (lt-ltb 65535 n h))
+  pub too_long : 65535 < n → Err (TooManyScalars n) ≡ answer (size_causes n room) m
+  too_long h = sym (ap (λ (b : Bool). cond b (Err (TooManyScalars n)) (answer (out_cause (cells_for n) room ∷ []) m)) (lt-ltb 65535 n h))
 
   module _ (h : n ≤ 65535) where
-    short : answer (long_cause n ∷ []) 0 ≡ Accepted 0
-    short = ap (λ (b : Bool). cond b (Refused (TooManyScalars n)) (Accepted 0)) (le-ltb 65535 n h)
+    short : answer (long_cause n ∷ []) 0 ≡ Ok 0
+    short = ap (λ (b : Bool). cond b (Err (TooManyScalars n)) (Ok 0)) (le-ltb 65535 n h)
 
-    pub row_short : room < n / 64 + 1 → Refused (OutputTooShort (n / 64 + 1)) ≡ answer (size_causes n room) m
+    pub row_short : room < n / 64 + 1 → Err (OutputTooShort (n / 64 + 1)) ≡ answer (size_causes n room) m
     row_short l = out_short (long_cause n ∷ []) (cells_for n) room 0 m (n / 64 + 1) short (omega arith) l
 
-    pub row_fits : n / 64 + 1 ≤ room → Accepted (n / 64 + 1) ≡ answer (size_causes n room) (cells_for n)
+    pub row_fits : n / 64 + 1 ≤ room → Ok (n / 64 + 1) ≡ answer (size_causes n room) (cells_for n)
     row_fits l = out_fits (long_cause n ∷ []) (cells_for n) room 0 (n / 64 + 1) short (omega arith) l
 
 -- what comes past them
-module _ (n room : ℕ) {used : ℕ} (sized : answer (size_causes n room) (cells_for n) ≡ Accepted used) where
+module _ (n room : ℕ) {used : ℕ} (sized : answer (size_causes n room) (cells_for n) ≡ Ok used) where
   pub used_is : used ≡ cells_for n
   used_is = number_is (size_causes n room) (cells_for n) sized
 
@@ -61,16 +60,16 @@ module _ (n room : ℕ) {used : ℕ} (sized : answer (size_causes n room) (cells
 
 -- ---- 10 of the ends
 
-pub map_unsized : (n : ℕ) (ends old : List ℕ) {a : Answer} {r : Refusal} → a ≡ answer (size_causes n (length old)) (cells_for n) → a ≡ Refused r
+pub map_unsized : (n : ℕ) (ends old : List ℕ) {a : Result ℕ Refusal} {r : Refusal} → a ≡ answer (size_causes n (length old)) (cells_for n) → a ≡ Err r
     → (a ≡ map_answer n ends (length old)) × (old ≡ map_after n ends old)
 map_unsized n ends old is e =
     let h = handed (size_causes n (length old)) (ends_cause n ends ∷ []) (cells_for n) (cells_for n) is e in (h, no_output (map_of n ends) old (sym h ∙ e))
 
-module _ (n : ℕ) (ends old : List ℕ) {used wrong : ℕ} (sized : answer (size_causes n (length old)) (cells_for n) ≡ Accepted used) (is : wrong ≡ first_wrong n ends) where
-  pub wrong_end : wrong < length ends → (Refused (WrongPosition wrong) ≡ map_answer n ends (length old)) × (old ≡ map_after n ends old)
+module _ (n : ℕ) (ends old : List ℕ) {used wrong : ℕ} (sized : answer (size_causes n (length old)) (cells_for n) ≡ Ok used) (is : wrong ≡ first_wrong n ends) where
+  pub wrong_end : wrong < length ends → (Err (WrongPosition wrong) ≡ map_answer n ends (length old)) × (old ≡ map_after n ends old)
   wrong_end l =
-      let h : Refused (WrongPosition wrong) ≡ map_answer n ends (length old) =
-      ap (λ (k : ℕ). Refused (WrongPosition k)) is
+      let h : Err (WrongPosition wrong) ≡ map_answer n ends (length old) =
+      ap (λ (k : ℕ). Err (WrongPosition k)) is
       ∙ cause_yes (size_causes n (length old)) (ends_cause n ends) (cells_for n) (cells_for n) sized (lt-ltb (first_wrong n ends) (length ends) (omega arith)) in
       (h, no_output (map_of n ends) old (sym h))
 
@@ -78,9 +77,9 @@ module _ (n : ℕ) (ends old : List ℕ) {used wrong : ℕ} (sized : answer (siz
     all_ends : AllRight n ends
     all_ends = let z = right_most n ends in omega arith
 
-    pub map_accepted : Accepted used ≡ map_answer n ends (length old)
+    pub map_accepted : Ok used ≡ map_answer n ends (length old)
     map_accepted =
-        ap Accepted (used_is n (length old) sized)
+        ap Ok (used_is n (length old) sized)
         ∙ cause_no (size_causes n (length old)) (ends_cause n ends) (cells_for n) (cells_for n) sized (le-ltb (first_wrong n ends) (length ends) (omega arith))
 
     -- every end has its bit in the cells that the map takes
@@ -99,15 +98,15 @@ module _ (n : ℕ) (ends old : List ℕ) {used wrong : ℕ} (sized : answer (siz
         let t : length (take used old) ≡ cells_for n = length-take-le used old (let z = size_is n (length old) sized in omega (arith, z.1)) ∙ u in
         let k : used ≡ length (map_of n ends) = u ∙ sym (map_long n ends) in
         ap₂ (λ (l : List ℕ) (i : ℕ). l ++ drop i old) (e ∙ ap (λ (c : ℕ). cells (λ (p : ℕ). member p ends) c 0) t) k
-        ∙ ap (λ (a : Answer). output a (map_of n ends) old) map_accepted
+        ∙ ap (λ (a : Result ℕ Refusal). output a (map_of n ends) old) map_accepted
 
 -- ---- 10 of a position, and 11
 
-module _ (n : ℕ) (map : List ℕ) (position : ℕ) {used : ℕ} (sized : answer (size_causes n (length map)) (cells_for n) ≡ Accepted used) where
+module _ (n : ℕ) (map : List ℕ) (position : ℕ) {used : ℕ} (sized : answer (size_causes n (length map)) (cells_for n) ≡ Ok used) where
   abbrev size : List Cause
   size = size_causes n (length map)
 
-  pub wrong_position : n < position → Refused (WrongPosition position) ≡ answer (read_causes n map position) (cells_for n)
+  pub wrong_position : n < position → Err (WrongPosition position) ≡ answer (read_causes n map position) (cells_for n)
   wrong_position l =
       sym (refused_first (size ++ (position_cause n position ∷ [])) (above_cause n map ∷ []) (cells_for n) (cells_for n)
       (sym (cause_yes size (position_cause n position) (cells_for n) (cells_for n) sized (lt-ltb n position l))))
@@ -116,26 +115,26 @@ module _ (n : ℕ) (map : List ℕ) (position : ℕ) {used : ℕ} (sized : answe
     abbrev placed : List Cause
     placed = size ++ (position_cause n position ∷ [])
 
-    past : answer placed (cells_for n) ≡ Accepted (cells_for n)
+    past : answer placed (cells_for n) ≡ Ok (cells_for n)
     past = sym (cause_no size (position_cause n position) (cells_for n) (cells_for n) sized (le-ltb n position l))
 
-    pub none_above : bits_above n map ≡ [] → Accepted used ≡ answer (read_causes n map position) (cells_for n)
+    pub none_above : bits_above n map ≡ [] → Ok used ≡ answer (read_causes n map position) (cells_for n)
     none_above e =
-        ap Accepted (used_is n (length map) sized)
+        ap Ok (used_is n (length map) sized)
         ∙ cause_no placed (above_cause n map) (cells_for n) (cells_for n) past (ap (λ (xs : List ℕ). ltb 0 (length xs)) e)
 
-    some_above : {q : ℕ} (xs : List ℕ) → first_of xs ≡ At q → bits_above n map ≡ xs → Refused (BitAboveEnd q) ≡ answer (read_causes n map position) (cells_for n)
+    some_above : {q : ℕ} (xs : List ℕ) → first_of xs ≡ At q → bits_above n map ≡ xs → Err (BitAboveEnd q) ≡ answer (read_causes n map position) (cells_for n)
     some_above [] f e = absurd (let z : ◌≡◌ {A = ℕ} 0 1 = cc in omega arith)
     some_above {q} (x ∷ xs) f e =
         let k : q ≡ get_or (bits_above n map) 0 0 = sym (same f) ∙ ap (λ (ys : List ℕ). get_or ys 0 0) (sym e) in
-        ap (λ (z : ℕ). Refused (BitAboveEnd z)) k
+        ap (λ (z : ℕ). Err (BitAboveEnd z)) k
         ∙ cause_yes placed (above_cause n map) (cells_for n) (cells_for n) past (lt-ltb 0 (length (bits_above n map)) (omega (arith, ap length e)))
       where
         same : At x ≡ At q → x ≡ q
         same w = cc
 
     -- the last used cell is full
-    pub no_room_above : n + 1 ≡ 64 * used → Accepted used ≡ answer (read_causes n map position) (cells_for n)
+    pub no_room_above : n + 1 ≡ 64 * used → Ok used ≡ answer (read_causes n map position) (cells_for n)
     unfolding up_from those
     no_room_above h =
         let k : bits_for n - (n + 1) ≡ 0 = (let u = used_is n (length map) sized in omega arith) in
@@ -146,14 +145,14 @@ module _ (n : ℕ) (map : List ℕ) (position : ℕ) {used : ℕ} (sized : answe
       to_the_end : 64 - (n + 1) % 64 ≡ bits_for n - (n + 1)
       to_the_end = let u = used_is n (length map) sized in omega (arith, h)
 
-      pub clear_above : bits ≡ 0 → Accepted used ≡ answer (read_causes n map position) (cells_for n)
+      pub clear_above : bits ≡ 0 → Ok used ≡ answer (read_causes n map position) (cells_for n)
       clear_above z =
           none_above (ap (λ (d : ℕ). breaks map d (n + 1)) (sym to_the_end) ∙ none_are (is_break map) (64 - (n + 1) % 64) (n + 1) (sym is ∙ z))
 
-      pub bit_above : (bits ≡ 0 → ⊥) → {r : ℕ} → r ≡ count_trailing_zeros 64 bits → Refused (BitAboveEnd (n + 1 + r)) ≡ answer (read_causes n map position) (cells_for n)
+      pub bit_above : (bits ≡ 0 → ⊥) → {r : ℕ} → r ≡ count_trailing_zeros 64 bits → Err (BitAboveEnd (n + 1 + r)) ≡ answer (read_causes n map position) (cells_for n)
       bit_above b {r} e =
           let k : r ≡ count_trailing_zeros 64 (word (is_break map) (64 - (n + 1) % 64) (n + 1)) = e ∙ ap (count_trailing_zeros 64) is in
-          ap (λ (x : ℕ). Refused (BitAboveEnd (n + 1 + x))) k
+          ap (λ (x : ℕ). Err (BitAboveEnd (n + 1 + x))) k
           ∙ some_above (breaks map (64 - (n + 1) % 64) (n + 1))
           (first_is (is_break map) 64 (64 - (n + 1) % 64) (n + 1) (omega arith) (omega (arith, is, b)))
           (ap (λ (d : ℕ). breaks map d (n + 1)) (sym to_the_end))
@@ -167,7 +166,7 @@ pub record Asked (n : ℕ) (map : List ℕ) (position used : ℕ) : Type 0 where
   pub clear : bits_above n map ≡ []
   pub cells_used : used ≡ cells_for n
 
-module _ (n : ℕ) (map : List ℕ) (position : ℕ) {used : ℕ} (h : answer (read_causes n map position) (cells_for n) ≡ Accepted used) where
+module _ (n : ℕ) (map : List ℕ) (position : ℕ) {used : ℕ} (h : answer (read_causes n map position) (cells_for n) ≡ Ok used) where
   pub asked : Asked n map position used
   asked =
       let q = none_of (read_causes n map position) (cells_for n) used h in
@@ -183,8 +182,8 @@ module _ (n : ℕ) (map : List ℕ) (position : ℕ) {used : ℕ} (h : answer (r
       empty [] l = refl
       empty (x ∷ xs) l = absurd (omega arith)
 
-  pub counted : (k : ℕ) → k ≡ breaks_up_to map position → Accepted k ≡ count_answer n map position
-  counted k e = ap Accepted e ∙ again (read_causes n map position) (cells_for n) (breaks_up_to map position) h
+  pub counted : (k : ℕ) → k ≡ breaks_up_to map position → Ok k ≡ count_answer n map position
+  counted k e = ap Ok e ∙ again (read_causes n map position) (cells_for n) (breaks_up_to map position) h
 
   pub found : (r : NextBreak) → r ≡ first_of (breaks map (64 * used - (position + 1)) (position + 1)) → r ≡ next_answer n map position
   found r e =
@@ -196,9 +195,9 @@ module _ (n : ℕ) (map : List ℕ) (position : ℕ) {used : ℕ} (h : answer (r
       ∙ ap (λ (z : ℕ). breaks_above n map position ++ breaks map (bits_for n - (n + 1)) z) p
       ∙ ap (λ (xs : List ℕ). breaks_above n map position ++ xs) a.clear
       ∙ append-nil (breaks_above n map position))
-      ∙ ap (λ (z : Answer). unless_refused z (first_of (breaks_above n map position))) (again (read_causes n map position) (cells_for n) 0 h)
+      ∙ ap (λ (z : Result ℕ Refusal). unless_refused z (first_of (breaks_above n map position))) (again (read_causes n map position) (cells_for n) 0 h)
 
-pub not_asked : (n : ℕ) (map : List ℕ) (position : ℕ) {a : Answer} {r : Refusal} → a ≡ answer (read_causes n map position) (cells_for n) → a ≡ Refused r
+pub not_asked : (n : ℕ) (map : List ℕ) (position : ℕ) {a : Result ℕ Refusal} {r : Refusal} → a ≡ answer (read_causes n map position) (cells_for n) → a ≡ Err r
     → next.Refused r ≡ next_answer n map position
 not_asked n map position is e =
-    ap (λ (z : Answer). unless_refused z (first_of (breaks_above n map position))) (still (read_causes n map position) (cells_for n) 0 (sym is ∙ e))
+    ap (λ (z : Result ℕ Refusal). unless_refused z (first_of (breaks_above n map position))) (still (read_causes n map position) (cells_for n) 0 (sym is ∙ e))

@@ -7,39 +7,33 @@ ghost use Rattle.break_map_rules.specs.Answers.{read_causes, count_answer, next_
 use crate::sizes::check_size;
 use break_map_cells::{BITS, bits_from, count_up_to, first_from, lowest};
 use break_map_rules::NextBreak;
-use refusal::{Answer, Refusal};
+use refusal::Refusal;
 
 // Refusals 2, 6, 10 and 11; accepted with the cells that the map takes.
-fn check_read(n: usize, map: &[u64], position: usize) -> Answer
+fn check_read(n: usize, map: &[u64], position: usize) -> Result<usize, Refusal>
     ensures { result ≡ answer (read_causes n map.now position) (cells_for n) }
 {
-    let checked = check_size(n, map.len());
-    let Answer::Accepted(used) = checked else {
-        return checked;
-    };
+    let used = check_size(n, map.len())?;
     if n < position {
-        return Answer::Refused(Refusal::WrongPosition(position));
+        return Err(Refusal::WrongPosition(position));
     }
     let above = n + 1;
     if above == BITS * used {
-        return Answer::Accepted(used);
+        return Ok(used);
     }
     let bits = bits_from(map, above);
     if bits != 0 {
-        return Answer::Refused(Refusal::BitAboveEnd(above + lowest(bits)));
+        return Err(Refusal::BitAboveEnd(above + lowest(bits)));
     }
-    Answer::Accepted(used)
+    Ok(used)
 }
 
 // The number of breaks up to and including a position. Refusals 2, 6, 10, 11.
-pub fn breaks_up_to(n: usize, map: &[u64], position: usize) -> Answer
+pub fn breaks_up_to(n: usize, map: &[u64], position: usize) -> Result<usize, Refusal>
     ensures { result ≡ count_answer n map.now position }
 {
-    let checked = check_read(n, map, position);
-    let Answer::Accepted(_) = checked else {
-        return checked;
-    };
-    Answer::Accepted(count_up_to(map, position))
+    check_read(n, map, position)?;
+    Ok(count_up_to(map, position))
 }
 
 // The first break above a position, up to n. Refusals 2, 6, 10, 11.
@@ -48,7 +42,7 @@ pub fn next_break(n: usize, map: &[u64], position: usize) -> NextBreak
 {
     let checked = check_read(n, map, position);
     match checked {
-        Answer::Refused(r) => NextBreak::Refused(r),
-        Answer::Accepted(used) => first_from(map, used, position + 1),
+        Err(r) => NextBreak::Refused(r),
+        Ok(used) => first_from(map, used, position + 1),
     }
 }

@@ -6,7 +6,7 @@ ghost use Rattle.break_map_rules.specs.Answers.{map_answer, map_after};
 use crate::sizes::check_size;
 use break_map_cells::write_bits;
 use cells::wide;
-use refusal::{Answer, Refusal};
+use refusal::Refusal;
 
 // The index of the first end that is 0, over n or not above the end before it, or the number of
 // ends where none is.
@@ -31,18 +31,15 @@ fn first_wrong(n: usize, ends: &[u32]) -> usize
 
 // Writes the map of the ends of a text of n characters; accepted with the cells that it takes.
 // Refusals 2, 6, 10.
-pub fn break_map(n: usize, ends: &[u32], map: &mut [u64]) -> Answer
+pub fn break_map(n: usize, ends: &[u32], map: &mut [u64]) -> Result<usize, Refusal>
     ensures value { result ≡ map_answer n ends.now (length map.old) }
     ensures map_after { map.new ≡ map_after n ends.now map.old }
 {
-    let checked = check_size(n, map.len());
-    let Answer::Accepted(used) = checked else {
-        return checked;
-    };
+    let used = check_size(n, map.len())?;
     let wrong = first_wrong(n, ends);
     if wrong < ends.len() {
-        return Answer::Refused(Refusal::WrongPosition(wrong));
+        return Err(Refusal::WrongPosition(wrong));
     }
     write_bits(&mut map[..used], ends);
-    Answer::Accepted(used)
+    Ok(used)
 }

@@ -1,8 +1,7 @@
 -- What the three calls answer, and what becomes of the row that is written.
-use Rattle.std.specs.Prelude.{ℕ, List, [], ◌∷◌, ◌++◌, length, get_or, ltb}
+use Rattle.std.specs.Prelude.{ℕ, List, [], ◌∷◌, ◌++◌, length, get_or, ltb, Result, Ok, Err}
+use Rattle.refusal.specs.declared.Refusal.{Refusal}
 use Rattle.refusal.specs.declared.Refusal.TheVariants.{WrongPosition, BitAboveEnd}
-use Rattle.refusal.specs.declared.Answer.{Answer}
-use Rattle.refusal.specs.declared.Answer.TheVariants.{Accepted, Refused}
 use Rattle.refusal.specs.Answers.{Cause, answer, output, long_cause, out_cause}
 use Rattle.break_map_rules.specs.declared.NextBreak.{NextBreak}
 use Rattle.break_map_rules.specs.declared.NextBreak.TheVariants.{At, Nothing}
@@ -34,7 +33,7 @@ abbrev pub map_causes : ℕ → List ℕ → ℕ → List Cause
 map_causes n ends room = size_causes n room ++ (ends_cause n ends ∷ [])
 
 -- It is accepted with the number of cells written.
-abbrev pub map_answer : ℕ → List ℕ → ℕ → Answer
+abbrev pub map_answer : ℕ → List ℕ → ℕ → Result ℕ Refusal
 map_answer n ends room = answer (map_causes n ends room) (cells_for n)
 
 -- the row afterwards
@@ -47,7 +46,7 @@ abbrev pub read_causes : ℕ → List ℕ → ℕ → List Cause
 read_causes n map position = size_causes n (length map) ++ (position_cause n position ∷ above_cause n map ∷ [])
 
 -- The number of breaks up to and including a position.
-abbrev pub count_answer : ℕ → List ℕ → ℕ → Answer
+abbrev pub count_answer : ℕ → List ℕ → ℕ → Result ℕ Refusal
 count_answer n map position = answer (read_causes n map position) (breaks_up_to map position)
 
 -- The first of a row of breaks. No next break is its own answer.
@@ -56,9 +55,9 @@ first_of [] = Nothing
 first_of (q ∷ qs) = At q
 
 -- what is told unless the call is refused
-abbrev pub unless_refused : Answer → NextBreak → NextBreak
-unless_refused (Accepted k) found = found
-unless_refused (Refused r) found = next.Refused r
+abbrev pub unless_refused : Result ℕ Refusal → NextBreak → NextBreak
+unless_refused (Ok k) found = found
+unless_refused (Err r) found = next.Refused r
 
 -- The first break above a position.
 abbrev pub next_answer : ℕ → List ℕ → ℕ → NextBreak

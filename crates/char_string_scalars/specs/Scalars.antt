@@ -1,7 +1,7 @@
 -- Unicode scalar values (the Unicode Standard, D76), and refusals 2 and 3 of 01.
-use Rattle.std.specs.Prelude.{ℕ, Bool, ◌||◌, List, [], ◌∷◌, length, ltb}
+use Rattle.std.specs.Prelude.{ℕ, Bool, ◌||◌, List, [], ◌∷◌, length, ltb, Result}
+use Rattle.refusal.specs.declared.Refusal.{Refusal}
 use Rattle.lists.specs.Scans.{within, leading}
-use Rattle.refusal.specs.declared.Answer.{Answer}
 use Rattle.refusal.specs.declared.Refusal.TheVariants.{NotAScalar}
 use Rattle.refusal.specs.Answers.{Cause, answer, long_cause}
 
@@ -20,5 +20,5 @@ text_causes text =
     ∷ record { refusal = NotAScalar (first_non_scalar text); holds = ltb (first_non_scalar text) (length text) }
     ∷ []
 
-unfoldable pub checked : List ℕ → Answer
+unfoldable pub checked : List ℕ → Result ℕ Refusal
 checked text = answer (text_causes text) (length text)

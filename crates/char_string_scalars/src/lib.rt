@@ -4,7 +4,7 @@
 ghost use Rattle.std.specs.Prelude.{◌≡◌, ℕ, ◌≤◌, get_or};
 ghost use Rattle.char_string_scalars.specs.Scalars.{is_scalar, first_non_scalar, checked};
 
-use refusal::{Answer, MAX_SCALARS, Refusal};
+use refusal::{MAX_SCALARS, Refusal};
 
 pub fn is_scalar(x: u32) -> bool
     ensures { result ≡ is_scalar x }
@@ -52,16 +52,16 @@ pub fn first_non_scalar(cells: &[u32]) -> usize
 }
 
 // Refusals 2 and 3, which every operation on a text gives first; accepted with the text's length.
-pub fn check_text(text: &[u32]) -> Answer
+pub fn check_text(text: &[u32]) -> Result<usize, Refusal>
     ensures { result ≡ checked text.now }
 {
     let n = text.len();
     if MAX_SCALARS < n {
-        return Answer::Refused(Refusal::TooManyScalars(n));
+        return Err(Refusal::TooManyScalars(n));
     }
     let bad = first_non_scalar(text);
     if bad < n {
-        return Answer::Refused(Refusal::NotAScalar(bad));
+        return Err(Refusal::NotAScalar(bad));
     }
-    Answer::Accepted(n)
+    Ok(n)
 }

@@ -1,4 +1,6 @@
 -- What is told of a text, and its figures. Assumes nothing.
+use Rattle.std.specs.Prelude.{Result, Ok, Err}
+use Rattle.newmm_rules.specs.declared.Ends.{Ends}
 use Prim.Native.Nat.{ℕ, ◌+◌, ◌*◌, ◌≤◌}
 use native.Mathlib.Omega.{arith}
 use mathlib.Core.Path.{◌≡◌, refl, sym, ◌∙◌, ap, subst}
@@ -8,8 +10,6 @@ use lib.ListN.{length, take, length-map}
 use lib.Dec.{ltb, eqb}
 use borrow.Author.Tests.{ltb-false}
 use Rattle.refusal.specs.declared.Refusal.{Refusal}
-use Rattle.refusal.specs.declared.Answer.{Answer}
-use Rattle.refusal.specs.declared.Answer.TheVariants.{Accepted, Refused}
 use Rattle.refusal.specs.Numbers.{number_of}
 use Rattle.refusal.specs.Answers.{Cause, answer, numbers}
 use Rattle.refusal.proofs.Order.{not_both}
@@ -22,9 +22,7 @@ use Rattle.newmm_rules.specs.Claims.{is_nil}
 use Rattle.newmm_rules.specs.declared.Mode.{Mode}
 use Rattle.newmm_reason_rules.specs.Reasons.{skip_reason, reason_at, Told, told_from}
 use Rattle.newmm_reason_rules.proofs.Reasons.{small}
-use Rattle.newmm_answers.specs.declared.CutAnswer.{CutAnswer}
-use Rattle.newmm_answers.specs.declared.CutAnswer.TheVariants as variants
-use Rattle.newmm_answers.specs.Answers.{given, plain_cut, cut_of, cut_causes, accepts, told}
+use Rattle.newmm_answers.specs.Answers.{accepted_with, given, plain_cut, cut_of, cut_causes, accepts, told}
 use Rattle.newmm_answers.specs.Calls.{Call, call}
 use Rattle.newmm_answers.proofs.Cuts.{few_edges}
 use Rattle.newmm_answers.proofs.Told.{told_ends, told_refused}
@@ -88,14 +86,14 @@ abbrev EachText : List Cause → Type 0
 EachText [] = Unit {0}
 EachText (q ∷ qs) = ((1 ≤ number_of q.refusal) × (number_of q.refusal ≤ 6)) × EachText qs
 
-number_fits : (rs : List Cause) (n : ℕ) (r : Refusal) → EachText rs → answer rs n ≡ Refused r → (1 ≤ number_of r) × (number_of r ≤ 6)
+number_fits : (rs : List Cause) (n : ℕ) (r : Refusal) → EachText rs → answer rs n ≡ Err r → (1 ≤ number_of r) × (number_of r ≤ 6)
 number_fits [] n r e h = not_both h
 number_fits (q ∷ rs) n r e h = go q.holds h (number_fits rs n r e.1)
   where
-    same : Refused q.refusal ≡ Refused r → q.refusal ≡ r
+    same : Err q.refusal ≡ Err r → q.refusal ≡ r
     same k = cc
 
-    go : (b : Bool) → cond b (Refused q.refusal) (answer rs n) ≡ Refused r → (answer rs n ≡ Refused r → (1 ≤ number_of r) × (number_of r ≤ 6)) → (1 ≤ number_of r) × (number_of r ≤ 6)
+    go : (b : Bool) → cond b (Err q.refusal) (answer rs n) ≡ Err r → (answer rs n ≡ Err r → (1 ≤ number_of r) × (number_of r ≤ 6)) → (1 ≤ number_of r) × (number_of r ≤ 6)
     go true k ih = subst (λ (x : Refusal). (1 ≤ number_of x) × (number_of x ≤ 6)) (same k) e.0
     go false k ih = ih k
 
@@ -106,15 +104,15 @@ module _ (mode : Mode) (text pool : List ℕ) (cells room : ℕ) where
   each : EachText (cut_causes mode text (meaning pool) cells room)
   each = ((omega arith, omega arith), ((omega arith, omega arith), ((omega arith, omega arith), ((omega arith, omega arith), ((omega arith, omega arith), tt)))))
 
-  number_in_bounds : (r : Refusal) → accepts mode text (meaning pool) cells room ≡ Refused r → (1 ≤ number_of r) × (number_of r ≤ 6)
+  number_in_bounds : (r : Refusal) → accepts mode text (meaning pool) cells room ≡ Err r → (1 ≤ number_of r) × (number_of r ≤ 6)
   number_in_bounds r h = number_fits (cut_causes mode text (meaning pool) cells room) (length (cut_of mode words text).ends) r each h
 
   -- the outcome of a text
   outcome_fits : OfText (outcome (accepts mode text (meaning pool) cells room) (length text) (reasons_told (told_of mode words text)) (cut_of mode words text).edges)
   outcome_fits = go (accepts mode text (meaning pool) cells room) refl
     where
-      go : (x : Answer) → accepts mode text (meaning pool) cells room ≡ x → OfText (outcome x (length text) (reasons_told (told_of mode words text)) (cut_of mode words text).edges)
-      go (Accepted n) h =
+      go : (x : Result ℕ Refusal) → accepts mode text (meaning pool) cells room ≡ x → OfText (outcome x (length text) (reasons_told (told_of mode words text)) (cut_of mode words text).edges)
+      go (Ok n) h =
           let q = none_of (cut_causes mode text (meaning pool) cells room) (length (cut_of mode words text).ends) n h in
           let short = ltb-false 65535 (length text) q.0 in (
             short,
@@ -122,7 +120,7 @@ module _ (mode : Mode) (text pool : List ℕ) (cells room : ℕ) where
             omega (arith, short, few_edges mode words text),
             told_reasons words mode text,
           )
-      go (Refused r) h = number_in_bounds r h
+      go (Err r) h = number_in_bounds r h
 
 -- every outcome of a call is a text's
 pub outcome_of_text : (c : Call) → OfText (outcome_of c)
@@ -137,17 +135,17 @@ module _ (mode : Mode) (text pool scratch : List ℕ) (room : ℕ) where
   abbrev edges : ℕ
   edges = (cut_of mode (held (meaning pool)) text).edges
 
-  abbrev took : Answer
+  abbrev took : Result ℕ Refusal
   took = accepts mode text (meaning pool) (length scratch) room
 
-  module _ {after : List ℕ} {told' : CutAnswer} (t : Tells text (meaning pool) scratch room mode told' after) where
-    took_k : (k e : ℕ) → told' ≡ variants.Ends k e → (took ≡ Accepted k) × (edges ≡ e)
+  module _ {after : List ℕ} {told' : Result Ends Refusal} (t : Tells text (meaning pool) scratch room mode told' after) where
+    took_k : (k e : ℕ) → told' ≡ accepted_with k e → (took ≡ Ok k) × (edges ≡ e)
     took_k k e h = told_ends took edges k e (sym t.0 ∙ h)
 
-    here : (k e : ℕ) → told' ≡ variants.Ends k e → Came mode text (meaning pool) scratch after room k
+    here : (k e : ℕ) → told' ≡ accepted_with k e → Came mode text (meaning pool) scratch after room k
     here k e h = came t (sym (ap ends_told h))
 
-    reasons_here : (k e : ℕ) → told' ≡ variants.Ends k e → reasons_in (take k after) ≡ reasons_told toks
+    reasons_here : (k e : ℕ) → told' ≡ accepted_with k e → reasons_in (take k after) ≡ reasons_told toks
     reasons_here k e h = ap reasons_in (told_cells (here k e h) k (took_k k e h).0) ∙ in_cells toks (told_small (held (meaning pool)) mode text)
 
     pub countable : Countable told' after
@@ -161,10 +159,10 @@ module _ (mode : Mode) (text pool scratch : List ℕ) (room : ℕ) where
     pub figures_are : figures_in told' (length text) after ≡ of_outcome (outcome took (length text) (reasons_told toks) edges)
     figures_are = go told' refl
       where
-        go : (x : CutAnswer) → told' ≡ x → figures_in told' (length text) after ≡ of_outcome (outcome took (length text) (reasons_told toks) edges)
-        go (variants.Ends k e) h =
-            ap (λ (x : CutAnswer). figures_in x (length text) after) h ∙ (λ i. of_cut (length text) (reasons_here k e h i) (sym (took_k k e h).1 i))
-            ∙ sym (ap (λ (x : Answer). of_outcome (outcome x (length text) (reasons_told toks) edges)) (took_k k e h).0)
-        go (variants.Refused r) h =
-            ap (λ (x : CutAnswer). figures_in x (length text) after) h
-            ∙ sym (ap (λ (x : Answer). of_outcome (outcome x (length text) (reasons_told toks) edges)) (told_refused took edges r (sym t.0 ∙ h)))
+        go : (x : Result Ends Refusal) → told' ≡ x → figures_in told' (length text) after ≡ of_outcome (outcome took (length text) (reasons_told toks) edges)
+        go (accepted_with k e) h =
+            ap (λ (x : Result Ends Refusal). figures_in x (length text) after) h ∙ (λ i. of_cut (length text) (reasons_here k e h i) (sym (took_k k e h).1 i))
+            ∙ sym (ap (λ (x : Result ℕ Refusal). of_outcome (outcome x (length text) (reasons_told toks) edges)) (took_k k e h).0)
+        go (Err r) h =
+            ap (λ (x : Result Ends Refusal). figures_in x (length text) after) h
+            ∙ sym (ap (λ (x : Result ℕ Refusal). of_outcome (outcome x (length text) (reasons_told toks) edges)) (told_refused took edges r (sym t.0 ∙ h)))

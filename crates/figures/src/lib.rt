@@ -8,24 +8,23 @@ ghost use Rattle.figures.specs.inner.Counting.{Countable, figures_in};
 
 use cells::{clear_first, wide};
 use figures_cells::{Figures, is_full, join_cells, of_cut, of_refused};
-use newmm_answers::CutAnswer;
 use newmm_many_answers::ends_told;
 use newmm_reasons::put_pairs;
-use newmm_rules::Mode;
+use newmm_rules::{Ends, Mode};
 use newmm_told::tell;
-use refusal::{Answer, Refusal, number};
+use refusal::{Refusal, number};
 
 // The texts' refusals are 1 to 6.
 const LAST_REFUSAL: u32 = 6;
 
 // The figures of a text of so many characters, by what was answered and the cells of its tokens.
-fn of_told(told: CutAnswer, characters: usize, cells: &[u32]) -> Figures
+fn of_told(told: Result<Ends, Refusal>, characters: usize, cells: &[u32]) -> Figures
     requires { Countable told cells.now }
     ensures { result ≡ figures_in told characters cells.now }
 {
     match told {
-        CutAnswer::Ends(k, edges) => of_cut(characters, cells, k, edges),
-        CutAnswer::Refused(r) => of_refused(number(r) as usize),
+        Ok(Ends { ends: k, edges }) => of_cut(characters, cells, k, edges),
+        Err(r) => of_refused(number(r) as usize),
     }
 }
 
@@ -39,7 +38,7 @@ pub fn feed(
     out: &mut [u32],
     scratch: &mut [u32],
     mode: Mode,
-) -> CutAnswer
+) -> Result<Ends, Refusal>
     ensures { Feeds figures.old
         (call text.now pool.now out.old scratch.old mode)
         result figures.new out.new scratch.new }
@@ -49,7 +48,7 @@ pub fn feed(
     let one = of_told(told, text.len(), scratch);
     if is_full(figures, &one) {
         clear_first(scratch, k);
-        return CutAnswer::Refused(Refusal::FiguresFull);
+        return Err(Refusal::FiguresFull);
     }
     join_cells(figures, &one);
     put_pairs(scratch, out, k);
@@ -59,26 +58,26 @@ pub fn feed(
 
 // Adds a text that was refused before it could be fed, by the number of its refusal, 1 to 6. No
 // other number is a text's: it changes nothing. Refusal 13.
-pub fn feed_refused(figures: &mut Figures, number: u32) -> Answer
+pub fn feed_refused(figures: &mut Figures, number: u32) -> Result<usize, Refusal>
     ensures { FeedsRefused figures.old number result figures.new }
 {
     if number < 1 {
-        return Answer::Accepted(0);
+        return Ok(0);
     }
     if LAST_REFUSAL < number {
-        return Answer::Accepted(0);
+        return Ok(0);
     }
     let one = of_refused(wide(number));
     join(figures, &one)
 }
 
 // Adds the figures of another batch. Refusal 13.
-pub fn join(figures: &mut Figures, more: &Figures) -> Answer
+pub fn join(figures: &mut Figures, more: &Figures) -> Result<usize, Refusal>
     ensures { Joins figures.old more.now result figures.new }
 {
     if is_full(figures, more) {
-        return Answer::Refused(Refusal::FiguresFull);
+        return Err(Refusal::FiguresFull);
     }
     join_cells(figures, more);
-    Answer::Accepted(0)
+    Ok(0)
 }

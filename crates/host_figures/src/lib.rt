@@ -11,7 +11,7 @@ use figures::{feed, join};
 use figures_cells::Figures;
 use host_telling::{tell, tell_cut};
 use newmm_rules::Mode;
-use refusal::Answer;
+use refusal::Refusal;
 
 // Cuts a text plainly, with reasons, and adds what became of it to the figures: as the cut with
 // reasons, and refusal 13 before all others.
@@ -75,7 +75,7 @@ pub fn feed_sheet(
 }
 
 // Tells an answer that is refused or accepted with 0.
-fn tell_only(a: Answer, detail: &mut usize) -> u32
+fn tell_only(a: Result<usize, Refusal>, detail: &mut usize) -> u32
     requires { (tells a).count ≡ 0 }
     ensures { told result 0 detail.new ≡ tells a }
 {

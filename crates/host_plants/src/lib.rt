@@ -7,7 +7,7 @@ ghost use Rattle.host_plants.specs.Calls.{plant_of, StartTold, PlantAddTold, Pla
 ghost use Rattle.host_plants.specs.Calls.{PlantContainsTold, PlantPrefixesTold, PlantWordCountTold};
 
 use host_telling::tell;
-use refusal::Answer;
+use refusal::Refusal;
 use trie_char_answers::WordAnswer;
 use trie_plants::Plant;
 use trie_plants_change::{add_in, remove_in};
@@ -86,11 +86,11 @@ pub fn contains(
     match answer {
         WordAnswer::Held(n, told) => {
             *class = told;
-            tell(Answer::Accepted(n), count, detail)
+            tell(Ok(n), count, detail)
         }
         WordAnswer::Refused(r) => {
             *class = 0;
-            tell(Answer::Refused(r), count, detail)
+            tell(Err(r), count, detail)
         }
     }
 }

@@ -1,12 +1,9 @@
 -- 01, "Numbers the host sees": what a host is told of an answer.
-use Rattle.std.specs.Prelude.{ℕ}
+use Rattle.std.specs.Prelude.{ℕ, Result, Ok, Err}
+use Rattle.newmm_answers.specs.Answers.{accepted_with}
+use Rattle.newmm_rules.specs.declared.Ends.{Ends}
 use Rattle.refusal.specs.declared.Refusal.{Refusal}
-use Rattle.refusal.specs.declared.Answer.{Answer}
-use Rattle.refusal.specs.declared.Answer.TheVariants.{Accepted, Refused}
 use Rattle.refusal.specs.Numbers.{number_of, detail_of}
-use Rattle.newmm_answers.specs.declared.CutAnswer.{CutAnswer}
-use Rattle.newmm_answers.specs.declared.CutAnswer.TheVariants.{Ends}
-use Rattle.newmm_answers.specs.declared.CutAnswer.TheVariants as variants
 
 -- The number that a call returns, and the numbers that it sets. A cut alone has edges: for any
 -- other call they are 0.
@@ -32,10 +29,10 @@ abbrev pub refused : Refusal → Told
 refused r = told_cut (number_of r) 0 0 (detail_of r)
 
 -- What is to be told of an answer.
-abbrev pub tells : Answer → Told
-tells (Accepted n) = accepted n 0
-tells (Refused r) = refused r
+abbrev pub tells : Result ℕ Refusal → Told
+tells (Ok n) = accepted n 0
+tells (Err r) = refused r
 
-abbrev pub tells_cut : CutAnswer → Told
-tells_cut (Ends n edges) = accepted n edges
-tells_cut (variants.Refused r) = refused r
+abbrev pub tells_cut : Result Ends Refusal → Told
+tells_cut (accepted_with n edges) = accepted n edges
+tells_cut (Err r) = refused r

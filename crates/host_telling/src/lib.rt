@@ -5,8 +5,8 @@
 ghost use Rattle.std.specs.Prelude.{◌≡◌};
 ghost use Rattle.host_telling.specs.Told.{told, told_cut, tells, tells_cut};
 
-use newmm_answers::CutAnswer;
-use refusal::{Answer, number};
+use newmm_rules::Ends;
+use refusal::{Refusal, number};
 
 pub fn wide(x: u8) -> u32
     ensures { result ≡ x }
@@ -15,16 +15,16 @@ pub fn wide(x: u8) -> u32
 }
 
 // Tells an answer that is one number.
-pub fn tell(a: Answer, count: &mut usize, detail: &mut usize) -> u32
+pub fn tell(a: Result<usize, Refusal>, count: &mut usize, detail: &mut usize) -> u32
     ensures { told result count.new detail.new ≡ tells a }
 {
     match a {
-        Answer::Accepted(n) => {
+        Ok(n) => {
             *count = n;
             *detail = 0;
             0
         }
-        Answer::Refused(r) => {
+        Err(r) => {
             *count = 0;
             *detail = refusal::detail(r);
             wide(number(r))
@@ -33,17 +33,17 @@ pub fn tell(a: Answer, count: &mut usize, detail: &mut usize) -> u32
 }
 
 // Tells the answer of a cut.
-pub fn tell_cut(a: CutAnswer, count: &mut usize, edges: &mut usize, detail: &mut usize) -> u32
+pub fn tell_cut(a: Result<Ends, Refusal>, count: &mut usize, edges: &mut usize, detail: &mut usize) -> u32
     ensures { told_cut result count.new edges.new detail.new ≡ tells_cut a }
 {
     match a {
-        CutAnswer::Ends(n, e) => {
+        Ok(Ends { ends: n, edges: e }) => {
             *count = n;
             *edges = e;
             *detail = 0;
             0
         }
-        CutAnswer::Refused(r) => {
+        Err(r) => {
             *count = 0;
             *edges = 0;
             *detail = refusal::detail(r);

@@ -1,8 +1,9 @@
 -- Telling of a call with two rows, and of an end in bytes. Assumes nothing.
+use Rattle.std.specs.Prelude.{Result}
+use Rattle.refusal.specs.declared.Refusal.{Refusal}
 use Prim.Native.Nat.{ℕ}
 use mathlib.Core.Path.{◌≡◌, sym, ap, ◌∙◌}
 use mathlib.Core.List.{List}
-use Rattle.refusal.specs.declared.Answer.{Answer}
 use Rattle.refusal.specs.Answers.{output}
 use Rattle.utf8.specs.declared.InBytes.{InBytes}
 use Rattle.utf8.specs.declared.InBytes.TheVariants.{At, Nothing}
@@ -10,7 +11,7 @@ use Rattle.host_telling.specs.Told.{Told, tells}
 use Rattle.host_telling.proofs.Answers.{with_output}
 use Rattle.host_texts.specs.Calls.{told_end, tells_end}
 
-pub with_outputs : {a b : Answer} {t : Told} → a ≡ b → t ≡ tells a → (w old w' old' : List ℕ) {new new' : List ℕ} → new ≡ output a w old → new' ≡ output a w' old'
+pub with_outputs : {a b : Result ℕ Refusal} {t : Told} → a ≡ b → t ≡ tells a → (w old w' old' : List ℕ) {new new' : List ℕ} → new ≡ output a w old → new' ≡ output a w' old'
     → (t ≡ tells b) × ((new ≡ output b w old) × (new' ≡ output b w' old'))
 with_outputs is e w old w' old' h h' =
     let p = with_output is e w old h in

@@ -1,8 +1,7 @@
 -- What a host is told of its dictionary, and what becomes of the rows that it lends: the answer and
 -- the row of the library function, as its contract gives them.
-use Rattle.std.specs.Prelude.{ℕ, ◌≡◌, List}
-use Rattle.refusal.specs.declared.Answer.{Answer}
-use Rattle.refusal.specs.declared.Answer.TheVariants.{Accepted, Refused}
+use Rattle.std.specs.Prelude.{ℕ, ◌≡◌, List, Result, Ok, Err}
+use Rattle.refusal.specs.declared.Refusal.{Refusal}
 use Rattle.refusal.specs.Answers.{output}
 use Rattle.trie_pool.specs.Meaning.{no_term}
 use Rattle.trie_char_answers.specs.declared.WordAnswer.{WordAnswer}
@@ -28,9 +27,9 @@ RemoveTold word pool t left =
     (t ≡ tells (remove_answer word pool)) × After (remove_answer word pool) pool left (removed word pool)
 
 -- A word's answer without its class, and the class alone: 0 where the call is refused.
-abbrev pub held_answer : WordAnswer → Answer
-held_answer (Held n class) = Accepted n
-held_answer (words.Refused r) = Refused r
+abbrev pub held_answer : WordAnswer → Result ℕ Refusal
+held_answer (Held n class) = Ok n
+held_answer (words.Refused r) = Err r
 
 abbrev pub class_told : WordAnswer → ℕ
 class_told (Held n class) = class

@@ -7,7 +7,7 @@ ghost use Rattle.host_words.specs.Calls.{FreshTold, AddTold, RemoveTold, held_an
 ghost use Rattle.host_words.specs.Calls.{ContainsClassTold, PrefixesTold, WordCountTold};
 
 use host_telling::tell;
-use refusal::Answer;
+use refusal::Refusal;
 use trie_char_answers::WordAnswer;
 use trie_char_read::{amount_of_words, contain};
 
@@ -55,12 +55,12 @@ pub fn remove(pool: &mut [u32], word: &[u32], count: &mut usize, detail: &mut us
 }
 
 // Whether a word is held, without its class.
-fn held(a: WordAnswer) -> Answer
+fn held(a: WordAnswer) -> Result<usize, Refusal>
     ensures { result ≡ held_answer a }
 {
     match a {
-        WordAnswer::Held(n, _) => Answer::Accepted(n),
-        WordAnswer::Refused(r) => Answer::Refused(r),
+        WordAnswer::Held(n, _) => Ok(n),
+        WordAnswer::Refused(r) => Err(r),
     }
 }
 
@@ -89,11 +89,11 @@ pub fn contains_class(
     match answer {
         WordAnswer::Held(n, told) => {
             *class = told;
-            tell(Answer::Accepted(n), count, detail)
+            tell(Ok(n), count, detail)
         }
         WordAnswer::Refused(r) => {
             *class = 0;
-            tell(Answer::Refused(r), count, detail)
+            tell(Err(r), count, detail)
         }
     }
 }

@@ -1,4 +1,5 @@
 -- What the tests on the bytes of a word tell. Assumes nothing.
+use Rattle.std.specs.Prelude.{Result, Ok, Err}
 use mathlib.Core.Path.{◌≡◌, refl, sym, ap, subst, ◌∙◌}
 use mathlib.Core.Bool.{Bool, true, false, not, cond, ◌&&◌}
 use mathlib.Core.List.{List, [], ◌∷◌, ◌++◌}
@@ -10,8 +11,6 @@ use lib.Dec.{leb, ltb}
 use lib.ListN.{length, get_or, take, drop, length-append, get_or-append}
 use lib.Seq.{take_at}
 use Rattle.refusal.specs.declared.Refusal.{Refusal}
-use Rattle.refusal.specs.declared.Answer.{Answer}
-use Rattle.refusal.specs.declared.Answer.TheVariants.{Accepted, Refused}
 use Rattle.refusal.specs.Answers.{answer, output}
 use Rattle.refusal.proofs.Causes.{none_of, again}
 use Rattle.refusal.proofs.Firsts.{accepted_if_none}
@@ -78,7 +77,7 @@ module _ (before w : List ℕ) where
 
 module _ (bytes row positions : List ℕ) (h : Rows row positions) where
   -- bytes that aren't taken to the row aren't a word
-  pub refused_no : (row' : List ℕ) {a : Answer} {r : Refusal} → a ≡ decoded bytes (room_in row positions) → a ≡ Refused r → Decodes bytes row' 0
+  pub refused_no : (row' : List ℕ) {a : Result ℕ Refusal} {r : Refusal} → a ≡ decoded bytes (room_in row positions) → a ≡ Err r → Decodes bytes row' 0
   refused_no row' {a} {r} is e = record { none = λ z before. go before (run_all bytes).whole refl (dec_lt 255 (length (scalars_of bytes))); word = λ l. absurd (omega arith) }
     where
       go : (before : List ℕ) (b : Bool) → (run_all bytes).whole ≡ b → Dec (255 < length (scalars_of bytes)) → is_next bytes before ≡ false
@@ -89,13 +88,13 @@ module _ (bytes row positions : List ℕ) (h : Rows row positions) where
           let q = accepted_if_none (decode_causes bytes (room_in row positions)) n (ap not g, (le-ltb 65535 n (omega arith), (le-ltb (length row) n (omega (arith, h.scalars)), (le-ltb (length positions) (n + 1) (omega (arith, h.places)), tt)))) in
           not_both (sym q ∙ sym is ∙ e)
 
-  module _ {a : Answer} {n : ℕ} {row' : List ℕ} (is : a ≡ decoded bytes (room_in row positions)) (e : a ≡ Accepted n) (f : row' ≡ output a (scalars_of bytes) row) where
-    passed : decoded bytes (room_in row positions) ≡ Accepted n
+  module _ {a : Result ℕ Refusal} {n : ℕ} {row' : List ℕ} (is : a ≡ decoded bytes (room_in row positions)) (e : a ≡ Ok n) (f : row' ≡ output a (scalars_of bytes) row) where
+    passed : decoded bytes (room_in row positions) ≡ Ok n
     passed = sym is ∙ e
 
     count : n ≡ length (scalars_of bytes)
     count =
-        let z : Accepted n ≡ Accepted (length (scalars_of bytes)) = sym passed ∙ sym (again (decode_causes bytes (room_in row positions)) (length (scalars_of bytes)) (length (scalars_of bytes)) passed) in
+        let z : ◌≡◌ {A = Result ℕ Refusal} (Ok n) (Ok (length (scalars_of bytes))) = sym passed ∙ sym (again (decode_causes bytes (room_in row positions)) (length (scalars_of bytes)) (length (scalars_of bytes)) passed) in
         cc
 
     good : (not (run_all bytes).whole ≡ false) × (length (scalars_of bytes) ≤ 255)
@@ -107,7 +106,7 @@ module _ (bytes row positions : List ℕ) (h : Rows row positions) where
     few = omega (arith, count, good.1)
 
     front : row' ≡ scalars_of bytes ++ drop (length (scalars_of bytes)) row
-    front = f ∙ ap (λ (z : Answer). output z (scalars_of bytes) row) e
+    front = f ∙ ap (λ (z : Result ℕ Refusal). output z (scalars_of bytes) row) e
 
     spelt : take n row' ≡ scalars_of bytes
     spelt = ap (take n) front ∙ take_at (scalars_of bytes) (drop (length (scalars_of bytes)) row) n (sym count)

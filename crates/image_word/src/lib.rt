@@ -7,7 +7,7 @@ ghost use Rattle.image_word.specs.inner.Words.{Rows, Decodes, Takes};
 
 use cells::copy;
 use char_string_white_space::is_trimmed;
-use refusal::Answer;
+use refusal::Refusal;
 use utf8::decode;
 
 // A word that may stand where it does, its length and how many characters it shares with the word
@@ -55,7 +55,7 @@ fn word_in(bytes: &[u8], row: &mut [u32], positions: &mut [u32]) -> usize
     requires { Rows row.old positions.old }
     ensures { Decodes bytes.now row.new result }
 {
-    let Answer::Accepted(n) = decode(bytes, row, positions) else {
+    let Ok(n) = decode(bytes, row, positions) else {
         return 0;
     };
     if n == 0 {

@@ -5,7 +5,7 @@
 #![tactic(auto)]
 
 use image_record::{Record, record_at};
-use refusal::{Answer, Refusal};
+use refusal::Refusal;
 use sheet_bytes::front;
 use sheet_io::{Got, read_some, write_whole};
 use std::io::{Read, Write};
@@ -38,10 +38,10 @@ fn main(rt: HostRuntime) {
     trie_char::fresh(&mut pool);
     let answer = read_image(&mut pool, front(&image, n));
     match answer {
-        Answer::Accepted(_) => {
+        Ok(_) => {
             list(&told, &mut output, front(&image, n));
         }
-        Answer::Refused(r) => tell_refusal(&told, r),
+        Err(r) => tell_refusal(&told, r),
     }
 }
 

@@ -1,5 +1,6 @@
 -- What a cut by the words in a view of a pool answers and leaves, and what a refused one does.
 -- Assumes nothing.
+use Rattle.std.specs.Prelude.{Result, Ok, Err}
 use Prim.Native.Nat.{ℕ, zero, suc, ◌+◌, ◌-◌, ◌*◌, ◌/◌, ◌≤◌, ◌<◌, min}
 use native.Mathlib.Omega.{arith}
 use native.Mathlib.Decide.{dec_lt}
@@ -13,8 +14,6 @@ use lib.Dec.{ltb}
 use borrow.Author.Tests.{lt-ltb, le-ltb}
 use Rattle.refusal.specs.declared.Refusal.{Refusal}
 use Rattle.refusal.specs.declared.Refusal.TheVariants.{OutputTooShort}
-use Rattle.refusal.specs.declared.Answer.{Answer}
-use Rattle.refusal.specs.declared.Answer.TheVariants.{Accepted, Refused}
 use Rattle.refusal.specs.Answers.{Cause, answer, output}
 use Rattle.refusal.proofs.Order.{refused_first, accepted_first}
 use Rattle.trie_pool.specs.Words.{holds}
@@ -22,13 +21,11 @@ use Rattle.trie_pool.specs.Meaning.{Words}
 use Rattle.trie_check.specs.Refusals.{held}
 use Rattle.refusal.proofs.Causes.{still}
 use Rattle.newmm_rules.specs.Cutting.{Cut}
-use Rattle.newmm_one_cut.specs.declared.Ends.{Ends}
+use Rattle.newmm_rules.specs.declared.Ends.{Ends}
 use Rattle.newmm_rules.specs.declared.Mode.{Mode}
 use Rattle.newmm_answers.proofs.Checks.{at_most, room}
 use Rattle.newmm_answers.proofs.Cuts.{few_ends}
-use Rattle.newmm_answers.specs.declared.CutAnswer.{CutAnswer}
-use Rattle.newmm_answers.specs.declared.CutAnswer.TheVariants as variants
-use Rattle.newmm_answers.specs.Answers.{cut_of, scratch_for, out_causes, first_causes, accepts, told, cut_answer, out_after, cleared, scratch_after}
+use Rattle.newmm_answers.specs.Answers.{accepted_with, cut_of, scratch_for, out_causes, first_causes, accepts, told, cut_answer, out_after, cleared, scratch_after}
 use Rattle.newmm_segment.specs.inner.Written.{Ready, Written}
 use Rattle.newmm_segment.proofs.Samples.{front, behind, fits}
 use Rattle.newmm_answers.specs.inner.Passing.{Passes, in_view, Sees, Blank, CutsBy}
@@ -117,29 +114,29 @@ module _ {made : Mode → Words → List ℕ → Cut} {mode : Mode} {text view r
   late room =
       accepted_first (first_causes text (in_view view) cells) (out_causes (cut_of mode (holds view) text).ends room) 0 (length (cut_of mode (holds view) text).ends) z.lent.sees.passes.accepted
 
-  tested : (room : ℕ) {b : Bool} → ltb room r.ends ≡ b → accepts mode text (in_view view) cells room ≡ cond b (Refused (OutputTooShort r.ends)) (Accepted r.ends)
+  tested : (room : ℕ) {b : Bool} → ltb room r.ends ≡ b → accepts mode text (in_view view) cells room ≡ cond b (Err (OutputTooShort r.ends)) (Ok r.ends)
   tested room e =
-      late room ∙ ap (λ (n : ℕ). cond (ltb room n) (Refused (OutputTooShort n)) (Accepted n)) (sym ends_are)
-      ∙ ap (λ (b : Bool). cond b (Refused (OutputTooShort r.ends)) (Accepted r.ends)) e
+      late room ∙ ap (λ (n : ℕ). cond (ltb room n) (Err (OutputTooShort n)) (Ok n)) (sym ends_are)
+      ∙ ap (λ (b : Bool). cond b (Err (OutputTooShort r.ends)) (Ok r.ends)) e
 
-  pub accepts_no : (room : ℕ) → room < r.ends → accepts mode text (in_view view) cells room ≡ Refused (OutputTooShort r.ends)
+  pub accepts_no : (room : ℕ) → room < r.ends → accepts mode text (in_view view) cells room ≡ Err (OutputTooShort r.ends)
   accepts_no room h = tested room (lt-ltb room r.ends h)
 
-  pub accepts_yes : (room : ℕ) → r.ends ≤ room → accepts mode text (in_view view) cells room ≡ Accepted r.ends
+  pub accepts_yes : (room : ℕ) → r.ends ≤ room → accepts mode text (in_view view) cells room ≡ Ok r.ends
   accepts_yes room h = tested room (le-ltb room r.ends h)
 
   -- what is answered with room enough, and without
-  pub answers_yes : (room : ℕ) → r.ends ≤ room → variants.Ends r.ends r.edges ≡ cut_answer mode text (in_view view) cells room
+  pub answers_yes : (room : ℕ) → r.ends ≤ room → accepted_with r.ends r.edges ≡ cut_answer mode text (in_view view) cells room
   answers_yes room h =
-      ap (variants.Ends r.ends) (v.edges ∙ z.like.edges mode (holds view) text)
-      ∙ sym (ap (λ (a : Answer). told a (cut_of mode (holds view) text).edges) (accepts_yes room h))
+      ap (accepted_with r.ends) (v.edges ∙ z.like.edges mode (holds view) text)
+      ∙ sym (ap (λ (a : Result ℕ Refusal). told a (cut_of mode (holds view) text).edges) (accepts_yes room h))
 
-  pub answers_no : (room : ℕ) → room < r.ends → variants.Refused (OutputTooShort r.ends) ≡ cut_answer mode text (in_view view) cells room
-  answers_no room h = sym (ap (λ (a : Answer). told a (cut_of mode (holds view) text).edges) (accepts_no room h))
+  pub answers_no : (room : ℕ) → room < r.ends → Err (OutputTooShort r.ends) ≡ cut_answer mode text (in_view view) cells room
+  answers_no room h = sym (ap (λ (a : Result ℕ Refusal). told a (cut_of mode (holds view) text).edges) (accepts_no room h))
 
 -- scratch of a call that passes
 pub scratch_zero : {text : List ℕ} {m : Option Words} (scratch : List ℕ) → Passes text m (length scratch) → scratch_after text m scratch ≡ replicate {A = ℕ} (length scratch) 0
-scratch_zero scratch p = ap (λ (x : Answer). cleared x scratch) p.accepted
+scratch_zero scratch p = ap (λ (x : Result ℕ Refusal). cleared x scratch) p.accepted
 
 -- refusal 6, and an accepted call: what is answered and left
 module _ {mode : Mode} {text view row : List ℕ} (scratch out : List ℕ) {r : Ends} (z : Ended cut_of mode text view row (length scratch) r) where
@@ -147,21 +144,21 @@ module _ {mode : Mode} {text view row : List ℕ} (scratch out : List ℕ) {r : 
   zeroed e = all_zero z e ∙ sym (scratch_zero scratch z.lent.sees.passes)
 
   pub short_cuts : {row' : List ℕ} → length out < r.ends → row' ≡ replicate {A = ℕ} r.ends 0 ++ drop r.ends row
-      → CutsBy (in_view view) text out scratch mode (variants.Refused (OutputTooShort r.ends)) out row'
+      → CutsBy (in_view view) text out scratch mode (Err (OutputTooShort r.ends)) out row'
   short_cuts h e = (
     answers_no z (length out) h,
-    (sym (ap (λ (a : Answer). output a (whole z).ends out) (accepts_no z (length out) h)), zeroed e),
+    (sym (ap (λ (a : Result ℕ Refusal). output a (whole z).ends out) (accepts_no z (length out) h)), zeroed e),
   )
 
   pub done_cuts : {out' row' : List ℕ} → r.ends ≤ length out → out' ≡ take r.ends (take r.ends row) ++ drop r.ends out
-      → row' ≡ replicate {A = ℕ} r.ends 0 ++ drop r.ends row → CutsBy (in_view view) text out scratch mode (variants.Ends r.ends r.edges) out' row'
+      → row' ≡ replicate {A = ℕ} r.ends 0 ++ drop r.ends row → CutsBy (in_view view) text out scratch mode (accepted_with r.ends r.edges) out' row'
   done_cuts h f e = (
     answers_yes z (length out) h,
     (
       f ∙ ap (λ (x : List ℕ). take r.ends x ++ drop r.ends out) (front (v z))
           ∙ ap (λ (x : List ℕ). x ++ drop r.ends out) (ap (λ (k : ℕ). take k (whole z).ends) (v z).ends ∙ take-length (whole z).ends)
           ∙ ap (λ (k : ℕ). (whole z).ends ++ drop k out) (v z).ends
-          ∙ sym (ap (λ (a : Answer). output a (whole z).ends out) (accepts_yes z (length out) h)),
+          ∙ sym (ap (λ (a : Result ℕ Refusal). output a (whole z).ends out) (accepts_yes z (length out) h)),
       zeroed e,
     ),
   )
@@ -179,7 +176,7 @@ module _ (scratch : List ℕ) {row : List ℕ} (e : row ≡ replicate {A = ℕ} 
   now_blank = e ∙ ap (λ (k : ℕ). replicate {A = ℕ} k 0) (sym as_long)
 
   -- what scratch held before decides nothing
-  pub cleared_cuts : {text view : List ℕ} → Sees text view (length scratch) → (out : List ℕ) (mode : Mode) {r : CutAnswer} {out' row' : List ℕ}
+  pub cleared_cuts : {text view : List ℕ} → Sees text view (length scratch) → (out : List ℕ) (mode : Mode) {r : Result Ends Refusal} {out' row' : List ℕ}
       → CutsBy (in_view view) text out row mode r out' row' → CutsBy (in_view view) text out scratch mode r out' row'
   cleared_cuts {text} {view} p out mode c = (
     c.0 ∙ ap (λ (k : ℕ). cut_answer mode text (in_view view) k (length out)) as_long,
@@ -191,23 +188,23 @@ module _ (scratch : List ℕ) {row : List ℕ} (e : row ≡ replicate {A = ℕ} 
 
 -- ---- refusals 2 to 5
 
-module _ (mode : Mode) (text : List ℕ) (m : Option Words) (scratch : List ℕ) {a : Answer} (is : a ≡ answer (first_causes text m (length scratch)) (length text)) where
-  module _ {r : Refusal} (no' : a ≡ Refused r) where
-    refused : (n : ℕ) → answer (first_causes text m (length scratch)) n ≡ Refused r
+module _ (mode : Mode) (text : List ℕ) (m : Option Words) (scratch : List ℕ) {a : Result ℕ Refusal} (is : a ≡ answer (first_causes text m (length scratch)) (length text)) where
+  module _ {r : Refusal} (no' : a ≡ Err r) where
+    refused : (n : ℕ) → answer (first_causes text m (length scratch)) n ≡ Err r
     refused n = sym (still (first_causes text m (length scratch)) (length text) n (sym is ∙ no'))
 
     -- whatever the room
-    pub refused_all : (room : ℕ) → accepts mode text m (length scratch) room ≡ Refused r
+    pub refused_all : (room : ℕ) → accepts mode text m (length scratch) room ≡ Err r
     refused_all room = refused_first (first_causes text m (length scratch)) (out_causes (cut_of mode (held m) text).ends room) 0 _ (refused 0)
 
-    pub refused_told : (room : ℕ) → variants.Refused r ≡ cut_answer mode text m (length scratch) room
-    refused_told room = sym (ap (λ (x : Answer). told x (cut_of mode (held m) text).edges) (refused_all room))
+    pub refused_told : (room : ℕ) → Err r ≡ cut_answer mode text m (length scratch) room
+    refused_told room = sym (ap (λ (x : Result ℕ Refusal). told x (cut_of mode (held m) text).edges) (refused_all room))
 
     pub scratch_kept : scratch ≡ scratch_after text m scratch
-    scratch_kept = sym (ap (λ (x : Answer). cleared x scratch) (refused 0))
+    scratch_kept = sym (ap (λ (x : Result ℕ Refusal). cleared x scratch) (refused 0))
 
-  pub early_cuts : (out : List ℕ) {r : Refusal} → a ≡ Refused r → CutsBy m text out scratch mode (variants.Refused r) out scratch
+  pub early_cuts : (out : List ℕ) {r : Refusal} → a ≡ Err r → CutsBy m text out scratch mode (Err r) out scratch
   early_cuts out no' = (
     refused_told no' (length out),
-    (sym (ap (λ (x : Answer). output x (cut_of mode (held m) text).ends out) (refused_all no' (length out))), scratch_kept no'),
+    (sym (ap (λ (x : Result ℕ Refusal). output x (cut_of mode (held m) text).ends out) (refused_all no' (length out))), scratch_kept no'),
   )

@@ -6,10 +6,10 @@ ghost use Rattle.newmm_answers.specs.Calls.{call, Cuts};
 ghost use Rattle.newmm_answers.specs.inner.Passing.{in_view, Sees, Blank, CutsBy};
 
 use cells::{clear_first, copy};
-use newmm_answers::{CutAnswer, check_cut};
-use newmm_rules::Mode;
+use newmm_answers::check_cut;
+use newmm_rules::{Ends, Mode};
 use newmm_segment::segment_single;
-use refusal::{Answer, Refusal};
+use refusal::Refusal;
 use trie_check::capacity;
 use trie_pool::NODE;
 
@@ -21,7 +21,7 @@ pub fn cut_ready(
     out: &mut [u32],
     scratch: &mut [u32],
     mode: Mode,
-) -> CutAnswer
+) -> Result<Ends, Refusal>
     requires { Sees text.now view.now (length scratch.old) × Blank scratch.old }
     ensures { CutsBy (in_view view.now)
         text.now out.old scratch.old mode
@@ -31,11 +31,11 @@ pub fn cut_ready(
     let n = r.ends;
     if out.len() < n {
         clear_first(scratch, n);
-        return CutAnswer::Refused(Refusal::OutputTooShort(n));
+        return Err(Refusal::OutputTooShort(n));
     }
     copy(&scratch[..n], out, n);
     clear_first(scratch, n);
-    CutAnswer::Ends(n, r.edges)
+    Ok(Ends { ends: n, edges: r.edges })
 }
 
 // The same, whatever scratch holds.
@@ -45,7 +45,7 @@ pub fn cut_checked(
     out: &mut [u32],
     scratch: &mut [u32],
     mode: Mode,
-) -> CutAnswer
+) -> Result<Ends, Refusal>
     requires { Sees text.now view.now (length scratch.old) }
     ensures { CutsBy (in_view view.now)
         text.now out.old scratch.old mode
@@ -65,14 +65,14 @@ pub fn cut(
     out: &mut [u32],
     scratch: &mut [u32],
     mode: Mode,
-) -> CutAnswer
+) -> Result<Ends, Refusal>
     ensures { Cuts (call text.now pool.now out.old scratch.old mode)
         result out.new scratch.new }
 {
     let checked = check_cut(text, pool, scratch.len());
     match checked {
-        Answer::Refused(r) => CutAnswer::Refused(r),
-        Answer::Accepted(_) => {
+        Err(r) => Err(r),
+        Ok(_) => {
             let cells = NODE * capacity(pool.len());
             cut_checked(text, &pool[..cells], out, scratch, mode)
         }

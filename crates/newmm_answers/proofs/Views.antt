@@ -1,4 +1,7 @@
 -- The words of a pool in a view of it. Assumes nothing.
+use Rattle.std.specs.Prelude.{Result}
+use Rattle.newmm_rules.specs.declared.Ends.{Ends}
+use Rattle.refusal.specs.declared.Refusal.{Refusal}
 use Prim.Native.Nat.{ℕ, ◌*◌, ◌/◌, min}
 use mathlib.Core.Path.{◌≡◌, sym, ◌∙◌, ap, subst}
 use mathlib.Core.Bool.{false}
@@ -10,7 +13,6 @@ use Rattle.trie_pool.specs.inner.Sound.{Readable}
 use Rattle.trie_check.specs.Refusals.{is_none}
 use Rattle.trie_check.proofs.Parts.{meaning_yes, known_is, cells_are, readable}
 use Rattle.newmm_rules.specs.declared.Mode.{Mode}
-use Rattle.newmm_answers.specs.declared.CutAnswer.{CutAnswer}
 use Rattle.newmm_answers.specs.inner.Passing.{Passes, in_view, Sees, CutsBy}
 
 -- the words that m knows stand in a view that can be read
@@ -30,5 +32,5 @@ module _ {m : Option Words} {view : List ℕ} (z : Viewed m view) where
   sees {text} {cells} p = record { passes = subst (λ (x : Option Words). Passes text x cells) z.means p; readable = z.readable }
 
   -- and what is cut by the view is cut by the pool
-  pub by_view : (text out scratch : List ℕ) (mode : Mode) {r : CutAnswer} {out' scratch' : List ℕ} → CutsBy (in_view view) text out scratch mode r out' scratch' → CutsBy m text out scratch mode r out' scratch'
+  pub by_view : (text out scratch : List ℕ) (mode : Mode) {r : Result Ends Refusal} {out' scratch' : List ℕ} → CutsBy (in_view view) text out scratch mode r out' scratch' → CutsBy m text out scratch mode r out' scratch'
   by_view text out scratch mode {r} {out'} {scratch'} = subst (λ (x : Option Words). CutsBy x text out scratch mode r out' scratch') (sym z.means)

@@ -1,10 +1,10 @@
 -- 01, "Numbers the host sees" and "Plain cutting": the answer of the public cut, and what becomes
 -- of the rows that it is lent.
-use Rattle.std.specs.Prelude.{ℕ, ◌+◌, ◌*◌, List, [], ◌∷◌, ◌++◌, ltb, length, replicate}
+use Rattle.std.specs.Prelude.{ℕ, ◌+◌, ◌*◌, List, [], ◌∷◌, ◌++◌, ltb, length, replicate, Result, Ok, Err}
 use Rattle.std.proofs.Math.Option.{Option}
+use Rattle.newmm_rules.specs.declared.Ends.{Ends}
+use Rattle.refusal.specs.declared.Refusal.{Refusal}
 use Rattle.refusal.specs.declared.Refusal.TheVariants.{ScratchTooShort}
-use Rattle.refusal.specs.declared.Answer.{Answer}
-use Rattle.refusal.specs.declared.Answer.TheVariants.{Accepted, Refused}
 use Rattle.refusal.specs.Answers.{Cause, answer, output, out_cause}
 use Rattle.trie_pool.specs.Meaning.{Words}
 use Rattle.trie_check.specs.Refusals.{held, read_causes}
@@ -13,9 +13,6 @@ use Rattle.newmm_rules.specs.Words.{Given}
 use Rattle.newmm_rules.specs.Cutting.{Cut, cut}
 use Rattle.newmm_rules.specs.declared.Mode.{Mode}
 use Rattle.newmm_rules.specs.Modes.{segmented}
-use Rattle.newmm_answers.specs.declared.CutAnswer.{CutAnswer}
-use Rattle.newmm_answers.specs.declared.CutAnswer.TheVariants.{Ends}
-use Rattle.newmm_answers.specs.declared.CutAnswer.TheVariants as variants
 
 -- a text with its own cluster ends, and the words held
 abbrev pub given : Words → List ℕ → Given
@@ -53,17 +50,21 @@ abbrev pub cut_causes : Mode → List ℕ → Option Words → ℕ → ℕ → L
 cut_causes mode text pool cells room = first_causes text pool cells ++ out_causes (cut_of mode (held pool) text).ends room
 
 -- The call is accepted with the number of ends, or refused.
-abbrev pub accepts : Mode → List ℕ → Option Words → ℕ → ℕ → Answer
+abbrev pub accepts : Mode → List ℕ → Option Words → ℕ → ℕ → Result ℕ Refusal
 accepts mode text pool cells room =
     answer (cut_causes mode text pool cells room) (length (cut_of mode (held pool) text).ends)
 
+-- accepted with n ends, of so many edges
+abbrev pub accepted_with : ℕ → ℕ → Result Ends Refusal
+accepted_with n edges = Ok (record { ends = n; edges = edges })
+
 -- The result carries the number of ends, and reports the number of edges recorded in the whole
 -- call.
-abbrev pub told : Answer → ℕ → CutAnswer
-told (Accepted n) edges = Ends n edges
-told (Refused r) edges = variants.Refused r
+abbrev pub told : Result ℕ Refusal → ℕ → Result Ends Refusal
+told (Ok n) edges = accepted_with n edges
+told (Err r) edges = Err r
 
-abbrev pub cut_answer : Mode → List ℕ → Option Words → ℕ → ℕ → CutAnswer
+abbrev pub cut_answer : Mode → List ℕ → Option Words → ℕ → ℕ → Result Ends Refusal
 cut_answer mode text pool cells room = told (accepts mode text pool cells room) (cut_of mode (held pool) text).edges
 
 -- A refusal changes no output. An accepted call writes the first cells of the output and keeps the
@@ -73,9 +74,9 @@ out_after mode text pool cells out =
     output (accepts mode text pool cells (length out)) (cut_of mode (held pool) text).ends out
 
 -- Scratch is untouched after 2 to 5, and all zero after 6 and after an accepted cutting call.
-abbrev pub cleared : Answer → List ℕ → List ℕ
-cleared (Accepted n) scratch = replicate (length scratch) 0
-cleared (Refused r) scratch = scratch
+abbrev pub cleared : Result ℕ Refusal → List ℕ → List ℕ
+cleared (Ok n) scratch = replicate (length scratch) 0
+cleared (Err r) scratch = scratch
 
 abbrev pub scratch_after : List ℕ → Option Words → List ℕ → List ℕ
 scratch_after text pool scratch = cleared (answer (first_causes text pool (length scratch)) 0) scratch

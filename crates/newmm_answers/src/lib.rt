@@ -7,16 +7,8 @@ ghost use Rattle.refusal.specs.Answers.{answer};
 ghost use Rattle.trie_pool.specs.Meaning.{meaning};
 ghost use Rattle.newmm_answers.specs.Answers.{scratch_for, first_causes};
 
-use refusal::{Answer, Refusal};
+use refusal::Refusal;
 use trie_check::check;
-
-// What a cut answers: the number of ends and the number of edges recorded in the whole call, or why
-// it was refused.
-#[derive(Clone, Copy)]
-pub enum CutAnswer {
-    Ends(usize, usize),
-    Refused(Refusal),
-}
 
 // The scratch cells that a cut of n characters asks for.
 pub fn scratch_for(n: usize) -> usize
@@ -27,17 +19,14 @@ pub fn scratch_for(n: usize) -> usize
 }
 
 // Refusals 2, 3, 4 and 5, by the number of scratch cells; accepted with the text's length.
-pub fn check_cut(text: &[u32], pool: &[u32], cells: usize) -> Answer
+pub fn check_cut(text: &[u32], pool: &[u32], cells: usize) -> Result<usize, Refusal>
     ensures { result ≡ answer (first_causes text.now (meaning pool.now) cells)
         (length text.now) }
 {
-    let checked = check(pool, text);
-    let Answer::Accepted(n) = checked else {
-        return checked;
-    };
+    let n = check(pool, text)?;
     let needed = scratch_for(n);
     if cells < needed {
-        return Answer::Refused(Refusal::ScratchTooShort(needed));
+        return Err(Refusal::ScratchTooShort(needed));
     }
-    Answer::Accepted(n)
+    Ok(n)
 }

@@ -1,4 +1,5 @@
 -- What the check of a claim answers and leaves. Assumes nothing.
+use Rattle.std.specs.Prelude.{Result, Err}
 use Prim.Native.Nat.{ℕ, ◌+◌, ◌*◌, ◌/◌, ◌<◌, min}
 use native.Mathlib.Omega.{arith}
 use mathlib.Core.Path.{◌≡◌, sym, ◌∙◌, ap}
@@ -7,8 +8,6 @@ use mathlib.Core.Option.{Option}
 use lib.ListN.{length, take, drop, replicate}
 use lib.Seq.{take_at, drop-length}
 use Rattle.refusal.specs.declared.Refusal.{Refusal}
-use Rattle.refusal.specs.declared.Answer.{Answer}
-use Rattle.refusal.specs.declared.Answer.TheVariants.{Refused}
 use Rattle.refusal.specs.Answers.{answer}
 use Rattle.refusal.proofs.Causes.{still}
 use Rattle.tcc.specs.Flags.{end_flags}
@@ -53,17 +52,17 @@ module _ (text pool claimed scratch : List ℕ) {n : ℕ} (p : Passes text (mean
       → (row : List ℕ) (k : ℕ) {row' : List ℕ} → length row ≡ length scratch → k ≡ length row → row' ≡ replicate {A = ℕ} k 0 ++ drop k row → Claims (claim text pool claimed scratch) r row'
   judged is row k long all e = (
     is ∙ ap (λ (f : Words). verdict_told (verdict (given f text) claimed)) (sym (held_part pool n nodes (known_is pool (known p))))
-        ∙ sym (ap (λ (x : Answer). claim_told x (verdict (given (held (meaning pool)) text) claimed)) p.accepted),
-    e ∙ all_zero row k long all ∙ sym (ap (λ (x : Answer). cleared x scratch) p.accepted),
+        ∙ sym (ap (λ (x : Result ℕ Refusal). claim_told x (verdict (given (held (meaning pool)) text) claimed)) p.accepted),
+    e ∙ all_zero row k long all ∙ sym (ap (λ (x : Result ℕ Refusal). cleared x scratch) p.accepted),
   )
 
 -- ---- a call that does not
 
-pub early_claims : (text pool claimed scratch : List ℕ) {a : Answer} {r : Refusal} → a ≡ answer (first_causes text (meaning pool) (length scratch)) (length text) → a ≡ Refused r
+pub early_claims : (text pool claimed scratch : List ℕ) {a : Result ℕ Refusal} {r : Refusal} → a ≡ answer (first_causes text (meaning pool) (length scratch)) (length text) → a ≡ Err r
     → Claims (claim text pool claimed scratch) (variants.Refused r) scratch
 early_claims text pool claimed scratch {a} {r} is no' =
-    let refused : answer (first_causes text (meaning pool) (length scratch)) 0 ≡ Refused r =
+    let refused : answer (first_causes text (meaning pool) (length scratch)) 0 ≡ Err r =
     sym (still (first_causes text (meaning pool) (length scratch)) (length text) 0 (sym is ∙ no')) in (
-      sym (ap (λ (x : Answer). claim_told x (verdict (given (held (meaning pool)) text) claimed)) refused),
-      sym (ap (λ (x : Answer). cleared x scratch) refused),
+      sym (ap (λ (x : Result ℕ Refusal). claim_told x (verdict (given (held (meaning pool)) text) claimed)) refused),
+      sym (ap (λ (x : Result ℕ Refusal). cleared x scratch) refused),
     )

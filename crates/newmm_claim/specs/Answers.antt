@@ -1,8 +1,7 @@
 -- 02, ticket 12: the answer of the check of a claim, and what becomes of scratch.
-use Rattle.std.specs.Prelude.{ℕ, ◌≡◌, List, length}
+use Rattle.std.specs.Prelude.{ℕ, ◌≡◌, List, length, Result, Ok, Err}
 use Rattle.std.proofs.Math.Option.{Option}
-use Rattle.refusal.specs.declared.Answer.{Answer}
-use Rattle.refusal.specs.declared.Answer.TheVariants.{Accepted, Refused}
+use Rattle.refusal.specs.declared.Refusal.{Refusal}
 use Rattle.refusal.specs.Answers.{Cause, answer}
 use Rattle.trie_pool.specs.Meaning.{Words, meaning}
 use Rattle.trie_check.specs.Refusals.{held}
@@ -17,9 +16,9 @@ verdict_told right = Right
 verdict_told (wrong k) = Wrong k
 
 -- "No" is an accepted answer.
-abbrev pub claim_told : Answer → Verdict → ClaimAnswer
-claim_told (Accepted n) v = verdict_told v
-claim_told (Refused r) v = variants.Refused r
+abbrev pub claim_told : Result ℕ Refusal → Verdict → ClaimAnswer
+claim_told (Ok n) v = verdict_told v
+claim_told (Err r) v = variants.Refused r
 
 -- Refusals: as cutting, without 6. `cells` is the number of scratch cells.
 abbrev pub claim_causes : List ℕ → Option Words → ℕ → List Cause

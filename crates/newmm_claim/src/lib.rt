@@ -14,7 +14,7 @@ use cells::{clear_first, wide};
 use newmm_answers::check_cut;
 use newmm_skip::token_end;
 use newmm_words_at::{Found, words_at};
-use refusal::{Answer, Refusal};
+use refusal::Refusal;
 use tcc::tcc_flags;
 use trie_check::capacity;
 use trie_pool::NODE;
@@ -92,7 +92,7 @@ pub fn check_claim(text: &[u32], pool: &[u32], claimed: &[u32], scratch: &mut [u
 {
     let checked = check_cut(text, pool, scratch.len());
     match checked {
-        Answer::Refused(r) => ClaimAnswer::Refused(r),
-        Answer::Accepted(_) => claim_checked(text, pool, claimed, scratch),
+        Err(r) => ClaimAnswer::Refused(r),
+        Ok(_) => claim_checked(text, pool, claimed, scratch),
     }
 }

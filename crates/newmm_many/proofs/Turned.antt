@@ -1,4 +1,6 @@
 -- The turns of the loop over the texts. Assumes nothing.
+use Rattle.std.specs.Prelude.{Result, Ok, Err}
+use Rattle.newmm_rules.specs.declared.Ends.{Ends}
 use Prim.Native.Nat.{ℕ, ◌+◌, ◌*◌, ◌-◌, ◌≤◌, ◌<◌}
 use native.Mathlib.Omega.{arith}
 use mathlib.Core.Path.{◌≡◌, refl, sym, ◌∙◌, ap, subst}
@@ -8,13 +10,10 @@ use mathlib.Core.Option.{Option}
 use lib.ListN.{length, get_or, take, drop, length-append, length-drop, length-take, drop_of_length-le, take-append-drop}
 use lib.Seq.{take_at, drop_at}
 use Rattle.lists.proofs.Parts.{tail_drop}
-use Rattle.refusal.specs.declared.Answer.{Answer}
-use Rattle.refusal.specs.declared.Answer.TheVariants.{Accepted, Refused}
 use Rattle.refusal.specs.declared.Refusal.{Refusal}
 use Rattle.refusal.specs.Answers.{output}
 use Rattle.trie_pool.specs.Meaning.{Words}
 use Rattle.newmm_rules.specs.declared.Mode.{Mode}
-use Rattle.newmm_answers.specs.declared.CutAnswer.{CutAnswer}
 use Rattle.newmm_segment.proofs.Behind.{behind}
 use Rattle.newmm_answers.specs.inner.Passing.{Blank}
 use Rattle.newmm_many_answers.specs.Texts.{texts_from}
@@ -34,7 +33,7 @@ use Rattle.newmm_many.specs.inner.Rows.{Left}
 -- front of the rows, and the other texts are answered with what is left
 pub record Turned (one : Singly) (c : ManyCall) (answers out scratch : List ℕ) (from used i : ℕ) (blank : Bool) : Type 0 where
   pub right : Right (length c.row) c.ends from i
-  pub told : List CutAnswer
+  pub told : List (Result Ends Refusal)
   pub number : length told ≡ i
   pub answers_are : answers ≡ all_cells told ++ drop (4 * i) c.answers
   pub written : List ℕ
@@ -88,7 +87,7 @@ module _ {one : Singly} {c : ManyCall} {answers out scratch : List ℕ} {from us
       lent_is : take (length out - used) (drop used out) ≡ t.rest
       lent_is = tail_drop out used ∙ ap (drop used) t.out_is ∙ drop_at t.written t.rest used (sym t.used_is)
 
-      module _ (st : Steady one) {told : CutAnswer} {out' scratch' : List ℕ} {e : ℕ} (is : e ≡ get_or c.ends i 0)
+      module _ (st : Steady one) {told : Result Ends Refusal} {out' scratch' : List ℕ} {e : ℕ} (is : e ≡ get_or c.ends i 0)
           (cuts : SingleIs (one (take (e - from) (drop from c.row)) (take (length out - used) (drop used out)) scratch) told out' scratch') where
         pub told_small : e ≤ 4294967295 → Small told
         told_small m =
@@ -109,7 +108,7 @@ module _ {one : Singly} {c : ManyCall} {answers out scratch : List ℕ} {from us
         -- the cells that were written for it
         module _ {n : ℕ} (number : n ≡ st.width * ends_told told) where
           cells_here : n ≡ here.cells
-          cells_here = number ∙ ap (λ (a : CutAnswer). st.width * ends_told a) is_here.0 ∙ sym (st.cells_are text t.rest scratch)
+          cells_here = number ∙ ap (λ (a : Result Ends Refusal). st.width * ends_told a) is_here.0 ∙ sym (st.cells_are text t.rest scratch)
 
           pub used_more : used + n ≤ length out
           used_more =
@@ -148,7 +147,7 @@ module _ {one : Singly} {c : ManyCall} {answers out scratch : List ℕ} {from us
                   let n : 4 * i ≡ length (all_cells t.told) = omega (arith, all_cells_long t.told, t.number) in
                   let k : 4 * i + 4 ≡ 4 * (i + 1) = omega arith in
                   behind c.answers answers cells (all_cells t.told) (cells_of told) (4 * i) 4 n t.answers_are (put ∙ ap (λ (x : List ℕ). cells_of told ++ drop 4 x) (tail_drop answers (4 * i)))
-                  ∙ ap (λ (x : List ℕ). x ++ drop (4 * i + 4) c.answers) (sym (cells_more t.told told) ∙ ap (λ (a : CutAnswer). all_cells (t.told ++ (a ∷ []))) is_here.0)
+                  ∙ ap (λ (x : List ℕ). x ++ drop (4 * i + 4) c.answers) (sym (cells_more t.told told) ∙ ap (λ (a : Result Ends Refusal). all_cells (t.told ++ (a ∷ []))) is_here.0)
                   ∙ ap (λ (x : ℕ). all_cells (t.told ++ (here.told ∷ [])) ++ drop x c.answers) k;
               written = t.written ++ wrote_of here;
               used_is = omega (arith, cells_here number, t.used_is, wrote_long st text t.rest scratch, length-append t.written (wrote_of here));
@@ -181,35 +180,35 @@ module _ {one : Singly} {c : ManyCall} {answers out scratch : List ℕ} {from us
       let f : (turns_by one c).told ≡ t.told = ap (λ (x : Turns). x.told) e ∙ append-nil t.told in (
         t.answers_are
             ∙ (let n : 4 * i ≡ length (all_cells t.told) = omega (arith, all_cells_long t.told, t.number) in ap (λ (k : ℕ). all_cells t.told ++ drop k c.answers) n)
-            ∙ ap (λ (x : List CutAnswer). all_cells x ++ drop (length (all_cells x)) c.answers) (sym f),
+            ∙ ap (λ (x : List (Result Ends Refusal)). all_cells x ++ drop (length (all_cells x)) c.answers) (sym f),
         (t.out_is ∙ sym (ap (λ (x : Turns). x.out) e), sym (ap (λ (x : Turns). x.scratch) e)),
       )
 
 -- ---- the whole call
 
-module _ (one : Singly) (c : ManyCall) {a : Answer} (is : a ≡ many_answer c) where
-  pub refused_many : {r : Refusal} → a ≡ Refused r → ManyBy one c a c.answers c.out c.scratch
+module _ (one : Singly) (c : ManyCall) {a : Result ℕ Refusal} (is : a ≡ many_answer c) where
+  pub refused_many : {r : Refusal} → a ≡ Err r → ManyBy one c a c.answers c.out c.scratch
   refused_many e =
       let q = sym is ∙ e in (
         is,
         (
-          sym (ap (λ (x : Answer). output x (all_cells (turns_by one c).told) c.answers) q),
-          (sym (ap (λ (x : Answer). unless x (turns_by one c).out c.out) q), sym (ap (λ (x : Answer). unless x (turns_by one c).scratch c.scratch) q)),
+          sym (ap (λ (x : Result ℕ Refusal). output x (all_cells (turns_by one c).told) c.answers) q),
+          (sym (ap (λ (x : Result ℕ Refusal). unless x (turns_by one c).out c.out) q), sym (ap (λ (x : Result ℕ Refusal). unless x (turns_by one c).scratch c.scratch) q)),
         ),
       )
 
-  pub accepted_many : {n : ℕ} {answers out scratch : List ℕ} → a ≡ Accepted n → Left one c answers out scratch → ManyBy one c (Accepted n) answers out scratch
+  pub accepted_many : {n : ℕ} {answers out scratch : List ℕ} → a ≡ Ok n → Left one c answers out scratch → ManyBy one c (Ok n) answers out scratch
   accepted_many e left =
       let q = sym is ∙ e in (
         sym q,
         (
-          left.0 ∙ sym (ap (λ (x : Answer). output x (all_cells (turns_by one c).told) c.answers) q),
-          (left.1.0 ∙ sym (ap (λ (x : Answer). unless x (turns_by one c).out c.out) q), left.1.1 ∙ sym (ap (λ (x : Answer). unless x (turns_by one c).scratch c.scratch) q)),
+          left.0 ∙ sym (ap (λ (x : Result ℕ Refusal). output x (all_cells (turns_by one c).told) c.answers) q),
+          (left.1.0 ∙ sym (ap (λ (x : Result ℕ Refusal). unless x (turns_by one c).out c.out) q), left.1.1 ∙ sym (ap (λ (x : Result ℕ Refusal). unless x (turns_by one c).scratch c.scratch) q)),
         ),
       )
 
 -- what is answered by words that stand in a view is answered by the pool that has them
-pub accepted_by : (wanted : Wanted) (mode : Mode) (c : ManyCall) {m m' : Option Words} → m ≡ m' → {a : Answer} → a ≡ many_answer c → {n : ℕ} → a ≡ Accepted n → {answers out scratch : List ℕ}
-    → Left (singly wanted mode m) c answers out scratch → ManyBy (singly wanted mode m') c (Accepted n) answers out scratch
+pub accepted_by : (wanted : Wanted) (mode : Mode) (c : ManyCall) {m m' : Option Words} → m ≡ m' → {a : Result ℕ Refusal} → a ≡ many_answer c → {n : ℕ} → a ≡ Ok n → {answers out scratch : List ℕ}
+    → Left (singly wanted mode m) c answers out scratch → ManyBy (singly wanted mode m') c (Ok n) answers out scratch
 accepted_by wanted mode c {m} {m'} same is yes' {answers} {out} {scratch} left =
     accepted_many (singly wanted mode m') c is yes' (subst (λ (x : Option Words). Left (singly wanted mode x) c answers out scratch) same left)

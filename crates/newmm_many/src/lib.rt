@@ -14,7 +14,7 @@ ghost use Rattle.newmm_many.specs.inner.Rows.{Left};
 use newmm_many_answers::{ANSWER, Wanted, cells_told, check_many, put_answer};
 use newmm_many_turn::answer_next;
 use newmm_rules::Mode;
-use refusal::Answer;
+use refusal::Refusal;
 use trie_check::{capacity, is_dictionary};
 use trie_pool::NODE;
 
@@ -80,16 +80,13 @@ fn answer_many(
     scratch: &mut [u32],
     mode: Mode,
     wanted: Wanted,
-) -> Answer
+) -> Result<usize, Refusal>
     ensures { ManyBy (singly wanted mode (meaning pool.now))
         (many_call texts.now text_ends.now pool.now
         answers.old out.old scratch.old mode)
         result answers.new out.new scratch.new }
 {
-    let checked = check_many(text_ends, texts.len(), answers.len());
-    let Answer::Accepted(n) = checked else {
-        return checked;
-    };
+    let n = check_many(text_ends, texts.len(), answers.len())?;
     let known = is_dictionary(pool);
     let cells = NODE * capacity(pool.len());
     answer_texts(
@@ -103,7 +100,7 @@ fn answer_many(
         wanted,
         known,
     );
-    Answer::Accepted(n)
+    Ok(n)
 }
 
 // Cuts many texts by the words of a pool. They stand joined in `texts`, and end there at
@@ -119,7 +116,7 @@ pub fn cut_many(
     out: &mut [u32],
     scratch: &mut [u32],
     mode: Mode,
-) -> Answer
+) -> Result<usize, Refusal>
     ensures { ManyCuts (many_call texts.now text_ends.now pool.now
         answers.old out.old scratch.old mode)
         result answers.new out.new scratch.new }
@@ -146,7 +143,7 @@ pub fn cut_reasons_many(
     pairs: &mut [u32],
     scratch: &mut [u32],
     mode: Mode,
-) -> Answer
+) -> Result<usize, Refusal>
     ensures { ManyReasons (many_call texts.now text_ends.now pool.now
         answers.old pairs.old scratch.old mode)
         result answers.new pairs.new scratch.new }

@@ -1,4 +1,6 @@
 -- The numbers of a text's answer fit cells of 32 bits. Assumes nothing.
+use Rattle.std.specs.Prelude.{Result, Err}
+use Rattle.newmm_rules.specs.declared.Ends.{Ends}
 use Prim.Native.Nat.{ℕ, ◌*◌, ◌≤◌}
 use native.Mathlib.Omega.{arith}
 use mathlib.Core.Path.{◌≡◌, refl, sym, ◌∙◌, ap, subst}
@@ -8,7 +10,6 @@ use mathlib.Core.Option.{Option}
 use lib.ListN.{length}
 use borrow.Author.Tests.{ltb-true, ltb-false}
 use Rattle.refusal.specs.declared.Refusal.{Refusal}
-use Rattle.refusal.specs.declared.Answer.TheVariants.{Refused}
 use Rattle.refusal.specs.Numbers.{detail_of}
 use Rattle.refusal.specs.Answers.{Cause, answer}
 use Rattle.refusal.proofs.Order.{not_both}
@@ -17,10 +18,7 @@ use Rattle.char_string_scalars.specs.Scalars.{first_non_scalar}
 use Rattle.trie_pool.specs.Meaning.{Words}
 use Rattle.trie_check.specs.Refusals.{held}
 use Rattle.newmm_rules.specs.declared.Mode.{Mode}
-use Rattle.newmm_answers.specs.declared.CutAnswer.{CutAnswer}
-use Rattle.newmm_answers.specs.declared.CutAnswer.TheVariants.{Ends}
-use Rattle.newmm_answers.specs.declared.CutAnswer.TheVariants as variants
-use Rattle.newmm_answers.specs.Answers.{cut_of, cut_causes, accepts, cut_answer}
+use Rattle.newmm_answers.specs.Answers.{accepted_with, cut_of, cut_causes, accepts, cut_answer}
 use Rattle.newmm_answers.proofs.Cuts.{few_ends, few_edges}
 use Rattle.newmm_answers.proofs.Told.{told_ends, told_refused, accepted_is}
 use Rattle.newmm_many_answers.specs.declared.Wanted.{Wanted}
@@ -34,14 +32,14 @@ abbrev EachFits : List Cause → Type 0
 EachFits [] = Unit {0}
 EachFits (q ∷ qs) = (q.holds ≡ true → detail_of q.refusal ≤ 4294967295) × (q.holds ≡ false → EachFits qs)
 
-detail_fits : (rs : List Cause) (n : ℕ) (r : Refusal) → EachFits rs → answer rs n ≡ Refused r → detail_of r ≤ 4294967295
+detail_fits : (rs : List Cause) (n : ℕ) (r : Refusal) → EachFits rs → answer rs n ≡ Err r → detail_of r ≤ 4294967295
 detail_fits [] n r e h = not_both h
 detail_fits (q ∷ rs) n r e h = go q.holds refl h (λ f k. detail_fits rs n r f k)
   where
-    same : Refused q.refusal ≡ Refused r → q.refusal ≡ r
+    same : Err q.refusal ≡ Err r → q.refusal ≡ r
     same e = cc
 
-    go : (b : Bool) → q.holds ≡ b → cond b (Refused q.refusal) (answer rs n) ≡ Refused r → (EachFits rs → answer rs n ≡ Refused r → detail_of r ≤ 4294967295) → detail_of r ≤ 4294967295
+    go : (b : Bool) → q.holds ≡ b → cond b (Err q.refusal) (answer rs n) ≡ Err r → (EachFits rs → answer rs n ≡ Err r → detail_of r ≤ 4294967295) → detail_of r ≤ 4294967295
     go true t k ih = subst (λ (x : Refusal). detail_of x ≤ 4294967295) (same k) (e.0 t)
     go false t k ih = ih (e.1 t) k
 
@@ -78,14 +76,14 @@ module _ (mode : Mode) (text : List ℕ) (m : Option Words) (cells room : ℕ) (
 
 -- ---- the cells that are written for an answer
 
-pub few_told : {told : CutAnswer} → Small told → ends_told told ≤ 4294967295
+pub few_told : {told : Result Ends Refusal} → Small told → ends_told told ≤ 4294967295
 few_told {told} s = go told refl
   where
-    go : (x : CutAnswer) → told ≡ x → ends_told x ≤ 4294967295
-    go (Ends n e) h = (s.counts n e h).0
-    go (variants.Refused r) h = omega arith
+    go : (x : Result Ends Refusal) → told ≡ x → ends_told x ≤ 4294967295
+    go (accepted_with n e) h = (s.counts n e h).0
+    go (Err r) h = omega arith
 
-module _ (told : CutAnswer) {wanted : Wanted} {n : ℕ} (is : n ≡ ends_told told) where
+module _ (told : Result Ends Refusal) {wanted : Wanted} {n : ℕ} (is : n ≡ ends_told told) where
   pub one_each : wanted ≡ wants.Ends → n ≡ width_of wanted * ends_told told
   one_each e = (let z : n ≡ 1 * ends_told told = omega arith in z) ∙ sym (ap (λ (x : Wanted). width_of x * ends_told told) e)
 

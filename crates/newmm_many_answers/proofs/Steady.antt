@@ -1,5 +1,8 @@
 -- Single calls that are steady: the rows come back as long as they were, and what is written fits.
 -- Assumes nothing.
+use Rattle.std.specs.Prelude.{Result}
+use Rattle.newmm_rules.specs.declared.Ends.{Ends}
+use Rattle.refusal.specs.declared.Refusal.{Refusal}
 use Prim.Native.Nat.{ℕ, ◌+◌, ◌*◌, ◌≤◌}
 use native.Mathlib.Omega.{arith}
 use mathlib.Core.Path.{◌≡◌, refl, sym, ◌∙◌, ap}
@@ -10,7 +13,6 @@ use lib.Seq.{length-take-le}
 use Rattle.trie_pool.specs.Meaning.{Words}
 use Rattle.trie_check.specs.Refusals.{held}
 use Rattle.newmm_rules.specs.declared.Mode.{Mode}
-use Rattle.newmm_answers.specs.declared.CutAnswer.{CutAnswer}
 use Rattle.newmm_reasons_answers.specs.Told.{told_of}
 use Rattle.newmm_reasons_answers.specs.Answers.{pairs, pair_room}
 use Rattle.newmm_reasons_answers.proofs.Told.{as_many}
@@ -68,7 +70,7 @@ module _ (mode : Mode) (m : Option Words) where
   steady_width Ends = refl
   steady_width Pairs = refl
 
-  pub by_width : (wanted : Wanted) (told : CutAnswer) {n : ℕ} → n ≡ width_of wanted * ends_told told → n ≡ (steady wanted).width * ends_told told
+  pub by_width : (wanted : Wanted) (told : Result Ends Refusal) {n : ℕ} → n ≡ width_of wanted * ends_told told → n ≡ (steady wanted).width * ends_told told
   by_width wanted told e = e ∙ ap (λ (w : ℕ). w * ends_told told) (sym (steady_width wanted))
 
 -- ---- what was written, and the rest

@@ -1,4 +1,5 @@
 -- The text ends of a call, tested from the left. Assumes nothing.
+use Rattle.std.specs.Prelude.{Ok, Err}
 use Prim.Native.Nat.{ℕ, suc, ◌+◌, ◌*◌, ◌-◌, ◌≤◌, ◌<◌}
 use native.Mathlib.Omega.{arith}
 use native.Mathlib.Decide.{dec_lt}
@@ -11,7 +12,6 @@ use lib.Dec.{leb, ltb}
 use borrow.Author.Tests.{leb-true, leb-false, le-leb, lt-leb, lt-ltb, le-ltb, ltb-false}
 use Rattle.lists.specs.Scans.{within}
 use Rattle.refusal.specs.declared.Refusal.TheVariants.{WrongPosition, OutputTooShort}
-use Rattle.refusal.specs.declared.Answer.TheVariants.{Accepted, Refused}
 use Rattle.refusal.specs.Answers.{Cause, answer, out_cause}
 use Rattle.refusal.proofs.Causes.{none_of, cause_yes, out_short, out_fits}
 use Rattle.newmm_many_answers.specs.Texts.{texts_from, right_from, first_wrong}
@@ -69,26 +69,26 @@ module _ (size : ℕ) (ends : List ℕ) (room : ℕ) where
   abbrev wrong : List Cause
   wrong = ends_cause size ends ∷ []
 
-  pub refused_wrong : {i : ℕ} → i ≡ first_wrong size ends → i < length ends → Refused (WrongPosition i) ≡ answer (many_causes size ends room) (length ends)
+  pub refused_wrong : {i : ℕ} → i ≡ first_wrong size ends → i < length ends → Err (WrongPosition i) ≡ answer (many_causes size ends room) (length ends)
   refused_wrong {i} e l =
-      ap (λ (k : ℕ). Refused (WrongPosition k)) e
-      ∙ sym (ap (λ (b : Bool). cond b (Refused (WrongPosition (first_wrong size ends))) (answer (out_cause (4 * length ends) room ∷ []) (length ends))) (lt-ltb (first_wrong size ends) (length ends) (omega arith)))
+      ap (λ (k : ℕ). Err (WrongPosition k)) e
+      ∙ sym (ap (λ (b : Bool). cond b (Err (WrongPosition (first_wrong size ends))) (answer (out_cause (4 * length ends) room ∷ []) (length ends))) (lt-ltb (first_wrong size ends) (length ends) (omega arith)))
 
   module _ {i : ℕ} (e : i ≡ first_wrong size ends) (l : length ends ≤ i) where
-    right : answer wrong 0 ≡ Accepted 0
-    right = ap (λ (b : Bool). cond b (Refused (WrongPosition (first_wrong size ends))) (Accepted 0)) (le-ltb (first_wrong size ends) (length ends) (omega arith))
+    right : answer wrong 0 ≡ Ok 0
+    right = ap (λ (b : Bool). cond b (Err (WrongPosition (first_wrong size ends))) (Ok 0)) (le-ltb (first_wrong size ends) (length ends) (omega arith))
 
-    pub refused_short : room < 4 * length ends → Refused (OutputTooShort (4 * length ends)) ≡ answer (many_causes size ends room) (length ends)
+    pub refused_short : room < 4 * length ends → Err (OutputTooShort (4 * length ends)) ≡ answer (many_causes size ends room) (length ends)
     refused_short h = out_short wrong (4 * length ends) room 0 (length ends) (4 * length ends) right refl h
 
-    pub accepted_all : 4 * length ends ≤ room → Accepted (length ends) ≡ answer (many_causes size ends room) (length ends)
+    pub accepted_all : 4 * length ends ≤ room → Ok (length ends) ≡ answer (many_causes size ends room) (length ends)
     accepted_all h =
-        sym (ap (λ (b : Bool). cond b (Refused (WrongPosition (first_wrong size ends))) (answer (out_cause (4 * length ends) room ∷ []) (length ends))) (le-ltb (first_wrong size ends) (length ends) (omega arith))
-        ∙ ap (λ (b : Bool). cond b (Refused (OutputTooShort (4 * length ends))) (Accepted (length ends))) (le-ltb room (4 * length ends) h))
+        sym (ap (λ (b : Bool). cond b (Err (WrongPosition (first_wrong size ends))) (answer (out_cause (4 * length ends) room ∷ []) (length ends))) (le-ltb (first_wrong size ends) (length ends) (omega arith))
+        ∙ ap (λ (b : Bool). cond b (Err (OutputTooShort (4 * length ends))) (Ok (length ends))) (le-ltb room (4 * length ends) h))
 
 -- ---- a call that is accepted
 
-pub whole_of : (size : ℕ) (ends : List ℕ) (room n : ℕ) {k : ℕ} → answer (many_causes size ends room) n ≡ Accepted k → Whole size ends room
+pub whole_of : (size : ℕ) (ends : List ℕ) (room n : ℕ) {k : ℕ} → answer (many_causes size ends room) n ≡ Ok k → Whole size ends room
 whole_of size ends room n {k} h =
     let q = none_of (many_causes size ends room) n k h in
     record { right_ends = ltb-false (first_wrong size ends) (length ends) q.0; cells = ltb-false room (4 * length ends) q.1.0 }

@@ -1,11 +1,13 @@
 -- Texts that are answered one after the other, met from the left. Assumes nothing.
+use Rattle.std.specs.Prelude.{Result, Err}
+use Rattle.newmm_answers.specs.Answers.{accepted_with}
+use Rattle.newmm_rules.specs.declared.Ends.{Ends}
+use Rattle.refusal.specs.declared.Refusal.{Refusal}
 use Prim.Native.Nat.{ℕ, ◌+◌, ◌*◌, ◌-◌}
 use native.Mathlib.Omega.{arith}
 use mathlib.Core.Path.{◌≡◌, refl, sym, ◌∙◌, ap}
 use mathlib.Core.List.{List, [], ◌∷◌, ◌++◌, append_assoc, append-nil}
 use lib.ListN.{length, length-append}
-use Rattle.newmm_answers.specs.declared.CutAnswer.{CutAnswer}
-use Rattle.newmm_answers.specs.declared.CutAnswer.TheVariants.{Ends, Refused}
 use Rattle.newmm_many_answers.specs.Turns.{Single, Singly, Turns, cells_of, all_cells, wrote_of, rest_of, before, in_turn}
 
 pub turn_first : (one : Singly) (text : List ℕ) (texts : List (List ℕ)) (out scratch : List ℕ)
@@ -18,11 +20,11 @@ unfolding in_turn
 turn_none one out scratch = refl
 
 -- the turns so far, and those that are left
-abbrev pub onward : List CutAnswer → List ℕ → Turns → Turns
+abbrev pub onward : List (Result Ends Refusal) → List ℕ → Turns → Turns
 onward told written t = record { told = told ++ t.told; out = written ++ t.out; scratch = t.scratch }
 
 -- one turn more is done
-pub onward_more : (told : List CutAnswer) (written : List ℕ) (s : Single) (later : Turns)
+pub onward_more : (told : List (Result Ends Refusal)) (written : List ℕ) (s : Single) (later : Turns)
     → onward told written (before s later) ≡ onward (told ++ (s.told ∷ [])) (written ++ wrote_of s) later
 onward_more told written s later =
     (λ i. record {
@@ -33,14 +35,14 @@ onward_more told written s later =
 
 -- ---- the answers' cells
 
-pub cells_long : (a : CutAnswer) → length (cells_of a) ≡ 4
-cells_long (Ends n edges) = refl
-cells_long (Refused r) = refl
+pub cells_long : (a : Result Ends Refusal) → length (cells_of a) ≡ 4
+cells_long (accepted_with n edges) = refl
+cells_long (Err r) = refl
 
-pub all_cells_long : (told : List CutAnswer) → length (all_cells told) ≡ 4 * length told
+pub all_cells_long : (told : List (Result Ends Refusal)) → length (all_cells told) ≡ 4 * length told
 all_cells_long [] = refl
 all_cells_long (a ∷ told) = omega (arith, length-append (cells_of a) (all_cells told), cells_long a, all_cells_long told)
 
-pub cells_more : (told : List CutAnswer) (a : CutAnswer) → all_cells (told ++ (a ∷ [])) ≡ all_cells told ++ cells_of a
+pub cells_more : (told : List (Result Ends Refusal)) (a : Result Ends Refusal) → all_cells (told ++ (a ∷ [])) ≡ all_cells told ++ cells_of a
 cells_more [] a = append-nil (cells_of a)
 cells_more (b ∷ told) a = ap (λ (l : List ℕ). cells_of b ++ l) (cells_more told a) ∙ sym (append_assoc (cells_of b) (all_cells told) (cells_of a))

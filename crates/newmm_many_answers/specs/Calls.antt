@@ -1,7 +1,6 @@
 -- A call with many texts, and what its contract says of it.
-use Rattle.std.specs.Prelude.{ℕ, ◌*◌, ◌≡◌, List, [], ◌∷◌, length, ltb}
-use Rattle.refusal.specs.declared.Answer.{Answer}
-use Rattle.refusal.specs.declared.Answer.TheVariants.{Accepted, Refused}
+use Rattle.std.specs.Prelude.{ℕ, ◌*◌, ◌≡◌, List, [], ◌∷◌, length, ltb, Result, Ok, Err}
+use Rattle.refusal.specs.declared.Refusal.{Refusal}
 use Rattle.refusal.specs.declared.Refusal.TheVariants.{WrongPosition}
 use Rattle.refusal.specs.Answers.{Cause, answer, output, out_cause}
 use Rattle.trie_pool.specs.Meaning.{meaning}
@@ -36,7 +35,7 @@ abbrev pub many_causes : ℕ → List ℕ → ℕ → List Cause
 many_causes size ends room = ends_cause size ends ∷ out_cause (4 * length ends) room ∷ []
 
 -- It is accepted with the number of texts.
-abbrev pub many_answer : ManyCall → Answer
+abbrev pub many_answer : ManyCall → Result ℕ Refusal
 many_answer c = answer (many_causes (length c.row) c.ends (length c.answers)) (length c.ends)
 
 -- What single calls answer and leave, one for each text.
@@ -44,9 +43,9 @@ abbrev pub turns_by : Singly → ManyCall → Turns
 turns_by one c = in_turn one (texts_of c.row c.ends) c.out c.scratch
 
 -- A refusal of the whole call changes no row.
-abbrev pub unless : Answer → List ℕ → List ℕ → List ℕ
-unless (Accepted n) new old = new
-unless (Refused r) new old = old
+abbrev pub unless : Result ℕ Refusal → List ℕ → List ℕ → List ℕ
+unless (Ok n) new old = new
+unless (Err r) new old = old
 
 -- The answers, the output and the scratch afterwards.
 abbrev pub answers_by : Singly → ManyCall → List ℕ
@@ -60,7 +59,7 @@ scratch_by one c = unless (many_answer c) (turns_by one c).scratch c.scratch
 
 -- MANY TEXTS IN ONE CALL: what it answers, and what it leaves in the three rows, by the single
 -- calls that it stands for.
-abbrev pub ManyBy : Singly → ManyCall → Answer → (answers out scratch : List ℕ) → Type 0
+abbrev pub ManyBy : Singly → ManyCall → Result ℕ Refusal → (answers out scratch : List ℕ) → Type 0
 ManyBy one c answer answers out scratch =
     (answer ≡ many_answer c) × ((answers ≡ answers_by one c) × ((out ≡ out_by one c) × (scratch ≡ scratch_by one c)))
 
@@ -68,12 +67,12 @@ ManyBy one c answer answers out scratch =
 abbrev pub cuts_one : ManyCall → Singly
 cuts_one c = cut_singly c.mode (meaning c.pool)
 
-abbrev pub ManyCuts : ManyCall → Answer → (answers out scratch : List ℕ) → Type 0
+abbrev pub ManyCuts : ManyCall → Result ℕ Refusal → (answers out scratch : List ℕ) → Type 0
 ManyCuts c = ManyBy (cuts_one c) c
 
 -- THE SAME WITH REASONS: by the cut with reasons. The output is for pairs.
 abbrev pub reasons_one : ManyCall → Singly
 reasons_one c = reasons_singly c.mode (meaning c.pool)
 
-abbrev pub ManyReasons : ManyCall → Answer → (answers out scratch : List ℕ) → Type 0
+abbrev pub ManyReasons : ManyCall → Result ℕ Refusal → (answers out scratch : List ℕ) → Type 0
 ManyReasons c = ManyBy (reasons_one c) c

@@ -1,30 +1,31 @@
 -- Texts that are answered one after the other: what single calls, one for each text, answer and
 -- leave.
-use Rattle.std.specs.Prelude.{ℕ, List, [], ◌∷◌, ◌++◌, take, drop}
+use Rattle.std.specs.Prelude.{ℕ, List, [], ◌∷◌, ◌++◌, take, drop, Result, Err}
+use Rattle.newmm_answers.specs.Answers.{accepted_with}
+use Rattle.newmm_rules.specs.declared.Ends.{Ends}
+use Rattle.refusal.specs.declared.Refusal.{Refusal}
 use Rattle.refusal.specs.Numbers.{number_of, detail_of}
-use Rattle.newmm_answers.specs.declared.CutAnswer.{CutAnswer}
-use Rattle.newmm_answers.specs.declared.CutAnswer.TheVariants.{Ends, Refused}
 
 -- The four cells of an answer: number, count, edges, detail. 0 is no refusal's number, and stands
 -- for an accepted text, which has no detail. A refused text has no count and no edges.
-abbrev pub cells_of : CutAnswer → List ℕ
-cells_of (Ends n edges) = 0 ∷ n ∷ edges ∷ 0 ∷ []
-cells_of (Refused r) = number_of r ∷ 0 ∷ 0 ∷ detail_of r ∷ []
+abbrev pub cells_of : Result Ends Refusal → List ℕ
+cells_of (accepted_with n edges) = 0 ∷ n ∷ edges ∷ 0 ∷ []
+cells_of (Err r) = number_of r ∷ 0 ∷ 0 ∷ detail_of r ∷ []
 
 -- the answers' cells, one answer behind the other
-abbrev pub all_cells : List CutAnswer → List ℕ
+abbrev pub all_cells : List (Result Ends Refusal) → List ℕ
 all_cells [] = []
 all_cells (a ∷ as') = cells_of a ++ all_cells as'
 
 -- the number of ends that an answer tells; a refused text has none
-abbrev pub ends_told : CutAnswer → ℕ
-ends_told (Ends n edges) = n
-ends_told (Refused r) = 0
+abbrev pub ends_told : Result Ends Refusal → ℕ
+ends_told (accepted_with n edges) = n
+ends_told (Err r) = 0
 
 -- A single call: what it answers, what stands in the output and in scratch behind it, and how many
 -- cells of the output it wrote.
 pub record Single : Type 0 where
-  pub told : CutAnswer
+  pub told : Result Ends Refusal
   pub out : List ℕ
   pub scratch : List ℕ
   pub cells : ℕ
@@ -42,7 +43,7 @@ rest_of s = drop s.cells s.out
 
 -- What a row of calls answered, and what stands in the output and in scratch after the last one.
 pub record Turns : Type 0 where
-  pub told : List CutAnswer
+  pub told : List (Result Ends Refusal)
   pub out : List ℕ
   pub scratch : List ℕ
 

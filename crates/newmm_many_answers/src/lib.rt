@@ -10,9 +10,9 @@ ghost use Rattle.newmm_many_answers.specs.Calls.{many_causes};
 ghost use Rattle.newmm_many_answers.specs.inner.Small.{Small};
 ghost use Rattle.newmm_many_answers.specs.inner.Singles.{width_of};
 
+use newmm_rules::Ends;
 use cells::wide;
-use newmm_answers::CutAnswer;
-use refusal::{Answer, Refusal, detail, number};
+use refusal::{Refusal, detail, number};
 
 // The cells of a text's answer.
 pub const ANSWER: usize = 4;
@@ -47,19 +47,19 @@ pub fn first_wrong(ends: &[u32], size: usize) -> usize
 
 // Refusals 10 and 6 of the whole call, by the cells of the row of texts and of the row of answers;
 // accepted with the number of texts.
-pub fn check_many(ends: &[u32], size: usize, room: usize) -> Answer
+pub fn check_many(ends: &[u32], size: usize, room: usize) -> Result<usize, Refusal>
     ensures { result ≡ answer (many_causes size ends.now room) (length ends.now) }
 {
     let n = ends.len();
     let wrong = first_wrong(ends, size);
     if wrong < n {
-        return Answer::Refused(Refusal::WrongPosition(wrong));
+        return Err(Refusal::WrongPosition(wrong));
     }
     let needed = ANSWER * n;
     if room < needed {
-        return Answer::Refused(Refusal::OutputTooShort(needed));
+        return Err(Refusal::OutputTooShort(needed));
     }
-    Answer::Accepted(n)
+    Ok(n)
 }
 
 // A number as a cell.
@@ -87,28 +87,28 @@ fn put_cells(row: &mut [u32], number: u32, count: u32, edges: u32, detail: u32)
 }
 
 // The four cells of an answer, at the front of the row.
-pub fn put_answer(row: &mut [u32], told: CutAnswer)
+pub fn put_answer(row: &mut [u32], told: Result<Ends, Refusal>)
     requires { (4 ≤ length row.old) × Small told }
     ensures { row.new ≡ cells_of told ++ drop 4 row.old }
 {
     match told {
-        CutAnswer::Ends(n, edges) => put_cells(row, 0, cell(n), cell(edges), 0),
-        CutAnswer::Refused(r) => put_cells(row, short_cell(number(r)), 0, 0, cell(detail(r))),
+        Ok(Ends { ends: n, edges }) => put_cells(row, 0, cell(n), cell(edges), 0),
+        Err(r) => put_cells(row, short_cell(number(r)), 0, 0, cell(detail(r))),
     }
 }
 
 // The number of ends that an answer tells; a refused text has none.
-pub fn ends_told(told: CutAnswer) -> usize
+pub fn ends_told(told: Result<Ends, Refusal>) -> usize
     ensures { result ≡ ends_told told }
 {
     match told {
-        CutAnswer::Ends(n, _) => n,
-        CutAnswer::Refused(_) => 0,
+        Ok(Ends { ends: n, edges: _ }) => n,
+        Err(_) => 0,
     }
 }
 
 // The number of cells that are written for an answer.
-pub fn cells_told(told: CutAnswer, wanted: Wanted) -> usize
+pub fn cells_told(told: Result<Ends, Refusal>, wanted: Wanted) -> usize
     requires { Small told }
     ensures { result ≡ width_of wanted * ends_told told }
 {

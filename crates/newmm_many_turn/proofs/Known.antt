@@ -1,10 +1,11 @@
 -- The refusals of a text where it is known whether the pool has words. Assumes nothing.
+use Rattle.std.specs.Prelude.{Result}
+use Rattle.refusal.specs.declared.Refusal.{Refusal}
 use Prim.Native.Nat.{ℕ}
 use native.Mathlib.Omega.{arith}
 use mathlib.Core.Path.{◌≡◌, refl, ap}
 use mathlib.Core.Bool.{Bool, true, false}
 use mathlib.Core.List.{List}
-use Rattle.refusal.specs.declared.Answer.{Answer}
 use Rattle.refusal.specs.Answers.{answer}
 use Rattle.trie_pool.specs.inner.Sound.{Readable}
 use Rattle.trie_check.specs.Refusals.{is_none}
@@ -19,7 +20,7 @@ pub none_no : (b : Bool) → b ≡ true → is_none (known_as b) ≡ false
 none_no b e = ap (λ (x : Bool). is_none (known_as x)) e
 
 -- the causes speak of the pool by refusal 4 alone
-pub as_seen : (text view : List ℕ) (b : Bool) (cells n : ℕ) {a : Answer} → a ≡ answer (first_causes text (known_as b) cells) n → a ≡ answer (first_causes text (seen_as b view) cells) n
+pub as_seen : (text view : List ℕ) (b : Bool) (cells n : ℕ) {a : Result ℕ Refusal} → a ≡ answer (first_causes text (known_as b) cells) n → a ≡ answer (first_causes text (seen_as b view) cells) n
 as_seen text view true cells n is = is
 as_seen text view false cells n is = is
 

@@ -14,37 +14,34 @@ ghost use Rattle.newmm_many_turn.specs.inner.Knowing.{known_as, seen_as};
 use cells::clear_first;
 use char_string_scalars::check_text;
 use newmm::cut_ready;
-use newmm_answers::{CutAnswer, scratch_for};
+use newmm_answers::scratch_for;
 use newmm_many_answers::{Wanted, ends_told};
 use newmm_reasons::put_pairs;
-use newmm_rules::Mode;
+use newmm_rules::{Ends, Mode};
 use newmm_told::tell_ready;
-use refusal::{Answer, Refusal};
+use refusal::Refusal;
 
 // A text's answer, and whether scratch is known to be all 0 behind it.
 #[derive(Clone, Copy)]
 pub struct Turn {
-    pub told: CutAnswer,
+    pub told: Result<Ends, Refusal>,
     pub blank: bool,
 }
 
 // Refusals 2, 3, 4 and 5 of a text, by whether the pool is a dictionary and by the number of
 // scratch cells; accepted with the text's length.
-fn check_known(text: &[u32], known: bool, cells: usize) -> Answer
+fn check_known(text: &[u32], known: bool, cells: usize) -> Result<usize, Refusal>
     ensures { result ≡ answer (first_causes text.now (known_as known) cells) (length text.now) }
 {
-    let checked = check_text(text);
-    let Answer::Accepted(n) = checked else {
-        return checked;
-    };
+    let n = check_text(text)?;
     if !known {
-        return Answer::Refused(Refusal::NotADictionary);
+        return Err(Refusal::NotADictionary);
     }
     let needed = scratch_for(n);
     if cells < needed {
-        return Answer::Refused(Refusal::ScratchTooShort(needed));
+        return Err(Refusal::ScratchTooShort(needed));
     }
-    Answer::Accepted(n)
+    Ok(n)
 }
 
 // Sets all cells to 0, which takes no step where they are known to be so.
@@ -67,7 +64,7 @@ fn pairs_ready(
     out: &mut [u32],
     scratch: &mut [u32],
     mode: Mode,
-) -> CutAnswer
+) -> Result<Ends, Refusal>
     requires { Sees text.now view.now (length scratch.old) × Blank scratch.old }
     ensures { SingleIs (reasons_singly mode (in_view view.now)
         text.now out.old scratch.old)
@@ -88,7 +85,7 @@ fn answer_ready(
     scratch: &mut [u32],
     mode: Mode,
     wanted: Wanted,
-) -> CutAnswer
+) -> Result<Ends, Refusal>
     requires { Sees text.now view.now (length scratch.old) × Blank scratch.old }
     ensures { SingleIs (singly wanted mode (in_view view.now)
         text.now out.old scratch.old)
@@ -120,11 +117,11 @@ pub fn answer_next(
 {
     let checked = check_known(text, known, scratch.len());
     match checked {
-        Answer::Refused(r) => Turn {
-            told: CutAnswer::Refused(r),
+        Err(r) => Turn {
+            told: Err(r),
             blank,
         },
-        Answer::Accepted(_) => {
+        Ok(_) => {
             blank_all(scratch, blank);
             let told = answer_ready(text, view, out, scratch, mode, wanted);
             Turn { told, blank: true }

@@ -17,7 +17,7 @@ use Rattle.tcc.specs.Flags.{end_flags}
 use Rattle.tcc.proofs.Marks.{ends_long}
 use Rattle.newmm_word_step.specs.inner.Walks.{given_by}
 use Rattle.newmm_edges.specs.declared.Progress.{Progress}
-use Rattle.newmm_one_cut.specs.declared.Ends.{Ends}
+use Rattle.newmm_rules.specs.declared.Ends.{Ends}
 use Rattle.newmm_one_cut.specs.inner.Strips.{Fresh, Marked, Done}
 use Rattle.newmm_one_cut.proofs.Rounds.{Round, b_inside, ends_few, committed_low}
 

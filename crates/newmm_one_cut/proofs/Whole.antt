@@ -11,7 +11,7 @@ use Rattle.newmm_rules.specs.Cutting.{cut}
 use Rattle.newmm_rules.proofs.Result.{ends_most}
 use Rattle.newmm_bfs.specs.inner.Strips.{cells_for}
 use Rattle.newmm_word_step.specs.inner.Walks.{given_by}
-use Rattle.newmm_one_cut.specs.declared.Ends.{Ends}
+use Rattle.newmm_rules.specs.declared.Ends.{Ends}
 use Rattle.newmm_one_cut.specs.inner.Strips.{Fresh, Lent, Done}
 
 -- 9n + 128 CELLS ARE ALWAYS ENOUGH.

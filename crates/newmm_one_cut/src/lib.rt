@@ -10,16 +10,9 @@ ghost use Rattle.newmm_one_cut.specs.inner.Strips.{NextIs, TokenAt, OneLeft, Fre
 use cells::{clear_from, narrow, wide};
 use newmm_bfs::{CANDIDATES, CLUSTER_ENDS, EDGE_ENDS, STRIPS, bfs_paths_graph};
 use newmm_edges::{Progress, record_words};
-use newmm_rules::MAX_GRAPH_SIZE;
+use newmm_rules::{Ends, MAX_GRAPH_SIZE};
 use newmm_skip::token_end;
 use tcc::mark_ends;
-
-// The number of ends, and the number of edges recorded in the whole call.
-#[derive(Clone, Copy)]
-pub struct Ends {
-    pub ends: usize,
-    pub edges: usize,
-}
 
 // Where a path leads, and the number of ends then.
 #[derive(Clone, Copy)]

@@ -9,28 +9,25 @@ ghost use Rattle.newmm_answers.specs.Calls.{call};
 ghost use Rattle.newmm_plants.specs.Calls.{PlantCuts};
 
 use newmm::cut_checked;
-use newmm_answers::{CutAnswer, scratch_for};
-use newmm_rules::Mode;
-use refusal::{Answer, Refusal};
+use newmm_answers::scratch_for;
+use newmm_rules::{Ends, Mode};
+use refusal::Refusal;
 use trie_check::capacity;
 use trie_plants::{Plant, half_at};
 use trie_plants_check::check_plant;
 use trie_pool::NODE;
 
 // Refusals 2, 3, 4 and 5, by the number of scratch cells; accepted with the text's length.
-pub fn check_plant_cut(text: &[u32], pool: &[u32], plant: Plant, cells: usize) -> Answer
+pub fn check_plant_cut(text: &[u32], pool: &[u32], plant: Plant, cells: usize) -> Result<usize, Refusal>
     ensures { result ≡ answer (first_causes text.now (plant_meaning plant pool.now) cells)
         (length text.now) }
 {
-    let checked = check_plant(pool, plant, text);
-    let Answer::Accepted(n) = checked else {
-        return checked;
-    };
+    let n = check_plant(pool, plant, text)?;
     let needed = scratch_for(n);
     if cells < needed {
-        return Answer::Refused(Refusal::ScratchTooShort(needed));
+        return Err(Refusal::ScratchTooShort(needed));
     }
-    Answer::Accepted(n)
+    Ok(n)
 }
 
 // Cuts a text by a plant's words, in a mode: the ends of the tokens, rising, at the front of the
@@ -42,15 +39,15 @@ pub fn cut_in(
     out: &mut [u32],
     scratch: &mut [u32],
     mode: Mode,
-) -> CutAnswer
+) -> Result<Ends, Refusal>
     ensures { PlantCuts plant
         (call text.now pool.now out.old scratch.old mode)
         result out.new scratch.new }
 {
     let checked = check_plant_cut(text, pool, plant, scratch.len());
     match checked {
-        Answer::Refused(r) => CutAnswer::Refused(r),
-        Answer::Accepted(_) => {
+        Err(r) => Err(r),
+        Ok(_) => {
             let cells = NODE * capacity(pool.len());
             let a = half_at(plant);
             cut_checked(text, &pool[a..cells], out, scratch, mode)

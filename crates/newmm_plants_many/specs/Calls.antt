@@ -1,7 +1,7 @@
 -- A call with many texts by a plant's words, and what its contract says of it. It is given what a
 -- call with many texts is given; the pool's meaning is the plant's.
-use Rattle.std.specs.Prelude.{ℕ, List}
-use Rattle.refusal.specs.declared.Answer.{Answer}
+use Rattle.std.specs.Prelude.{ℕ, List, Result}
+use Rattle.refusal.specs.declared.Refusal.{Refusal}
 use Rattle.trie_plants.specs.declared.Plant.{Plant}
 use Rattle.trie_plants.specs.Meaning.{plant_meaning}
 use Rattle.newmm_many_answers.specs.Turns.{Singly}
@@ -12,12 +12,12 @@ use Rattle.newmm_many_answers.specs.Calls.{ManyCall, ManyBy}
 abbrev pub plant_cuts_one : Plant → ManyCall → Singly
 plant_cuts_one plant c = cut_singly c.mode (plant_meaning plant c.pool)
 
-abbrev pub PlantManyCuts : Plant → ManyCall → Answer → (answers out scratch : List ℕ) → Type 0
+abbrev pub PlantManyCuts : Plant → ManyCall → Result ℕ Refusal → (answers out scratch : List ℕ) → Type 0
 PlantManyCuts plant c = ManyBy (plant_cuts_one plant c) c
 
 -- THE SAME WITH REASONS: by the cut of the plant with reasons. The output is for pairs.
 abbrev pub plant_reasons_one : Plant → ManyCall → Singly
 plant_reasons_one plant c = reasons_singly c.mode (plant_meaning plant c.pool)
 
-abbrev pub PlantManyReasons : Plant → ManyCall → Answer → (answers out scratch : List ℕ) → Type 0
+abbrev pub PlantManyReasons : Plant → ManyCall → Result ℕ Refusal → (answers out scratch : List ℕ) → Type 0
 PlantManyReasons plant c = ManyBy (plant_reasons_one plant c) c

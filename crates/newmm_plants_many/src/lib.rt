@@ -12,7 +12,7 @@ ghost use Rattle.newmm_plants_many.specs.Calls.{PlantManyCuts, PlantManyReasons}
 use newmm_many::answer_texts;
 use newmm_many_answers::{Wanted, check_many};
 use newmm_rules::Mode;
-use refusal::Answer;
+use refusal::Refusal;
 use trie_check::capacity;
 use trie_plants::{Plant, half_at};
 use trie_plants_check::is_plants;
@@ -40,16 +40,13 @@ fn answer_many_in(
     scratch: &mut [u32],
     mode: Mode,
     wanted: Wanted,
-) -> Answer
+) -> Result<usize, Refusal>
     ensures { ManyBy (singly wanted mode (plant_meaning plant pool.now))
         (many_call texts.now text_ends.now pool.now
         answers.old out.old scratch.old mode)
         result answers.new out.new scratch.new }
 {
-    let checked = check_many(text_ends, texts.len(), answers.len());
-    let Answer::Accepted(n) = checked else {
-        return checked;
-    };
+    let n = check_many(text_ends, texts.len(), answers.len())?;
     let known = is_plants(pool);
     let cells = NODE * capacity(pool.len());
     let a = view_from(plant, cells);
@@ -64,7 +61,7 @@ fn answer_many_in(
         wanted,
         known,
     );
-    Answer::Accepted(n)
+    Ok(n)
 }
 
 // Cuts many texts by a plant's words. They stand joined in `texts`, and end there at `text_ends`.
@@ -81,7 +78,7 @@ pub fn cut_many_in(
     out: &mut [u32],
     scratch: &mut [u32],
     mode: Mode,
-) -> Answer
+) -> Result<usize, Refusal>
     ensures { PlantManyCuts plant
         (many_call texts.now text_ends.now pool.now
         answers.old out.old scratch.old mode)
@@ -111,7 +108,7 @@ pub fn cut_reasons_many_in(
     pairs: &mut [u32],
     scratch: &mut [u32],
     mode: Mode,
-) -> Answer
+) -> Result<usize, Refusal>
     ensures { PlantManyReasons plant
         (many_call texts.now text_ends.now pool.now
         answers.old pairs.old scratch.old mode)

@@ -8,13 +8,12 @@ ghost use Rattle.newmm_reasons_answers.specs.inner.Cells.{Tells};
 ghost use Rattle.newmm_plants_reasons.specs.Calls.{PlantReasons};
 
 use cells::clear_first;
-use newmm_answers::CutAnswer;
 use newmm_many_answers::ends_told;
 use newmm_plants::check_plant_cut;
 use newmm_reasons::put_pairs;
-use newmm_rules::Mode;
+use newmm_rules::{Ends, Mode};
 use newmm_told::tell_checked;
-use refusal::Answer;
+use refusal::Refusal;
 use trie_check::capacity;
 use trie_plants::{Plant, half_at};
 use trie_pool::NODE;
@@ -29,14 +28,14 @@ fn tell_in(
     scratch: &mut [u32],
     room: usize,
     mode: Mode,
-) -> CutAnswer
+) -> Result<Ends, Refusal>
     ensures { Tells text.now (plant_meaning plant pool.now) scratch.old room mode
         result scratch.new }
 {
     let checked = check_plant_cut(text, pool, plant, scratch.len());
     match checked {
-        Answer::Refused(r) => CutAnswer::Refused(r),
-        Answer::Accepted(_) => {
+        Err(r) => Err(r),
+        Ok(_) => {
             let cells = NODE * capacity(pool.len());
             let a = half_at(plant);
             tell_checked(text, &pool[a..cells], scratch, room, mode)
@@ -54,7 +53,7 @@ pub fn cut_reasons_in(
     out: &mut [u32],
     scratch: &mut [u32],
     mode: Mode,
-) -> CutAnswer
+) -> Result<Ends, Refusal>
     ensures { PlantReasons plant
         (call text.now pool.now out.old scratch.old mode)
         result out.new scratch.new }

@@ -1,4 +1,6 @@
 -- The pairs that are written. Assumes nothing.
+use Rattle.std.specs.Prelude.{Result}
+use Rattle.refusal.specs.declared.Refusal.{Refusal}
 use Prim.Native.Nat.{ℕ, zero, suc, ◌+◌, ◌*◌, ◌/◌, ◌%◌, ◌≤◌, ◌<◌}
 use native.Mathlib.Omega.{arith}
 use mathlib.Core.Path.{◌≡◌, refl, sym, ◌∙◌, ap}
@@ -7,7 +9,6 @@ use mathlib.Core.Option.{Option}
 use lib.ListN.{length, get_or, set, take, drop, length-map, length-set}
 use lib.Seq.{length-take-le, take-length, take_at, get_or-take}
 use Rattle.cells.proofs.Filling.{Filled, filled_none, filled_more, filled_all, long}
-use Rattle.refusal.specs.declared.Answer.{Answer}
 use Rattle.refusal.specs.Answers.{output}
 use Rattle.trie_pool.specs.Meaning.{Words}
 use Rattle.trie_check.specs.Refusals.{held}
@@ -83,7 +84,7 @@ module _ {mode : Mode} {text : List ℕ} {m : Option Words} {scratch after : Lis
       let n : 2 * k ≡ length (pairs ts) = omega (arith, c, length-map ts cell_of, pairs_long ts) in
       e ∙ ap (λ (x : List ℕ). unpacked x ++ drop (2 * k) out) (ap (take k) w ∙ take_at (cells_of ts) _ k (sym c))
       ∙ (λ i. unpack ts (told_small (held m) mode text) i ++ drop (n i) out)
-      ∙ sym (ap (λ (a : Answer). output a (pairs ts) out) h)
+      ∙ sym (ap (λ (a : Result ℕ Refusal). output a (pairs ts) out) h)
   wrote (refused h c w) e =
       e ∙ ap (λ (j : ℕ). unpacked (take j after) ++ drop (2 * j) out) c
-      ∙ sym (ap (λ (a : Answer). output a (pairs (told_of mode (held m) text)) out) h)
+      ∙ sym (ap (λ (a : Result ℕ Refusal). output a (pairs (told_of mode (held m) text)) out) h)

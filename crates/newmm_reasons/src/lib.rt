@@ -7,11 +7,11 @@ ghost use Rattle.newmm_answers.specs.Calls.{call};
 ghost use Rattle.newmm_reasons_answers.specs.Calls.{Reasons};
 ghost use Rattle.newmm_reasons_answers.specs.inner.Cells.{unpacked};
 
+use refusal::Refusal;
 use cells::clear_first;
-use newmm_answers::CutAnswer;
 use newmm_many_answers::ends_told;
 use newmm_reasons_answers::REASONS;
-use newmm_rules::Mode;
+use newmm_rules::{Ends, Mode};
 use newmm_told::tell;
 
 // The ends and reasons of the first k cells, at the front of the output.
@@ -37,7 +37,7 @@ pub fn cut_reasons(
     out: &mut [u32],
     scratch: &mut [u32],
     mode: Mode,
-) -> CutAnswer
+) -> Result<Ends, Refusal>
     ensures { Reasons
         (call text.now pool.now out.old scratch.old mode)
         result out.new scratch.new }

@@ -1,12 +1,13 @@
 -- The answer of the cut with reasons, and what becomes of the rows that it is lent.
-use Rattle.std.specs.Prelude.{ℕ, ◌/◌, List, [], ◌∷◌, length}
+use Rattle.std.specs.Prelude.{ℕ, ◌/◌, List, [], ◌∷◌, length, Result}
 use Rattle.std.proofs.Math.Option.{Option}
+use Rattle.newmm_rules.specs.declared.Ends.{Ends}
+use Rattle.refusal.specs.declared.Refusal.{Refusal}
 use Rattle.refusal.specs.Answers.{output}
 use Rattle.trie_pool.specs.Meaning.{Words}
 use Rattle.trie_check.specs.Refusals.{held}
 use Rattle.newmm_rules.specs.declared.Mode.{Mode}
 use Rattle.newmm_reason_rules.specs.Reasons.{Told}
-use Rattle.newmm_answers.specs.declared.CutAnswer.{CutAnswer}
 use Rattle.newmm_answers.specs.Answers.{accepts, cut_answer}
 use Rattle.newmm_reasons_answers.specs.Told.{told_of}
 
@@ -21,7 +22,7 @@ pair_room out = length out / 2
 
 -- Refusals: as cutting, with 6 counting records. So the answer is that of a cut whose output has as
 -- many cells as there is room for records: their number is the number of ends.
-abbrev pub reasons_answer : Mode → List ℕ → Option Words → ℕ → ℕ → CutAnswer
+abbrev pub reasons_answer : Mode → List ℕ → Option Words → ℕ → ℕ → Result Ends Refusal
 reasons_answer mode text pool cells room = cut_answer mode text pool cells room
 
 -- A refusal changes no output. An accepted call writes the first cells of the output and keeps the

@@ -1,16 +1,17 @@
 -- What the cut with records answers and leaves. Assumes nothing.
+use Rattle.std.specs.Prelude.{Result}
+use Rattle.newmm_rules.specs.declared.Ends.{Ends}
+use Rattle.refusal.specs.declared.Refusal.{Refusal}
 use Prim.Native.Nat.{ℕ, zero, suc, ◌≤◌, ◌<◌}
 use native.Mathlib.Omega.{arith}
 use mathlib.Core.Path.{◌≡◌, refl, sym, ◌∙◌, ap}
 use mathlib.Core.List.{List, [], ◌∷◌, ◌++◌, map}
 use lib.ListN.{length, get_or, take, drop, replicate, length-map}
 use lib.Seq.{take-suc, take_at}
-use Rattle.refusal.specs.declared.Answer.{Answer}
 use Rattle.trie_pool.specs.Meaning.{meaning}
 use Rattle.trie_check.specs.Refusals.{held}
 use Rattle.newmm_rules.specs.declared.Mode.{Mode}
 use Rattle.newmm_reason_rules.specs.Reasons.{Told}
-use Rattle.newmm_answers.specs.declared.CutAnswer.{CutAnswer}
 use Rattle.newmm_many_answers.specs.Turns.{ends_told}
 use Rattle.newmm_reasons_answers.specs.Told.{told_of}
 use Rattle.newmm_reasons_answers.specs.inner.Cells.{cell_of, cells_of, Tells}
@@ -40,7 +41,7 @@ cell_record : (ts : List Told) → Small ts → map record_of (cells_of ts) ≡ 
 cell_record [] s = refl
 cell_record (t ∷ ts) s = (λ i. record { end = end_back t s.0 i; reason = reason_back t s.0 i } ∷ cell_record ts s.1 i)
 
-module _ (mode : Mode) (text pool scratch : List ℕ) (rows : List Record) {told : CutAnswer} {after : List ℕ} {k : ℕ}
+module _ (mode : Mode) (text pool scratch : List ℕ) (rows : List Record) {told : Result Ends Refusal} {after : List ℕ} {k : ℕ}
     (t : Tells text (meaning pool) scratch (length rows) mode told after) (kept : length after ≡ length scratch) (is : k ≡ ends_told told) where
   at : Came mode text (meaning pool) scratch after (length rows) k
   at = came t is
@@ -61,8 +62,8 @@ module _ (mode : Mode) (text pool scratch : List ℕ) (rows : List Record) {told
           e ∙ ap (λ (x : List Record). x ++ drop k rows)
           (records_are after k fill_fits.1 ∙ ap (map record_of) (ap (take k) w ∙ take_at (cells_of ts) _ k (sym c)) ∙ cell_record ts (told_small (held (meaning pool)) mode text))
           ∙ ap (λ (j : ℕ). map record_told ts ++ drop j rows) n
-          ∙ sym (ap (λ (a : Answer). record_rows a (map record_told ts) rows) h)
-      go (refused h c w) e = e ∙ none c ∙ sym (ap (λ (a : Answer). record_rows a (map record_told ts) rows) h)
+          ∙ sym (ap (λ (a : Result ℕ Refusal). record_rows a (map record_told ts) rows) h)
+      go (refused h c w) e = e ∙ none c ∙ sym (ap (λ (a : Result ℕ Refusal). record_rows a (map record_told ts) rows) h)
         where
           none : k ≡ 0 → records after k ++ drop k rows ≡ rows
           none c = ap (λ (j : ℕ). records after j ++ drop j rows) c ∙ at_none after rows

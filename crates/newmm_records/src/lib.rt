@@ -5,10 +5,10 @@ ghost use Rattle.std.specs.Prelude.{◌≡◌, ◌++◌, ◌≤◌, length, repl
 ghost use Rattle.newmm_records.specs.Calls.{records_call, Records};
 ghost use Rattle.newmm_records.specs.inner.Cells.{records as records_in};
 
-use newmm_answers::CutAnswer;
+use refusal::Refusal;
 use newmm_many_answers::ends_told;
 use newmm_reasons_answers::REASONS;
-use newmm_rules::Mode;
+use newmm_rules::{Ends, Mode};
 use newmm_told::tell;
 
 // A token's end and its reason. Two cells without padding.
@@ -46,7 +46,7 @@ pub fn cut_records(
     records: &mut [Record],
     scratch: &mut [u32],
     mode: Mode,
-) -> CutAnswer
+) -> Result<Ends, Refusal>
     ensures { Records
         (records_call text.now pool.now records.old scratch.old mode)
         result records.new scratch.new }

@@ -18,3 +18,10 @@ pub enum Mode {
     Safe,
     Sheet,
 }
+
+// What a cut made: the number of ends, and the number of edges recorded in the whole call.
+#[derive(Clone, Copy)]
+pub struct Ends {
+    pub ends: usize,
+    pub edges: usize,
+}

@@ -9,7 +9,7 @@ use lib.Dec.{ltb}
 use borrow.Author.Tests.{lt-ltb}
 use Rattle.trie_pool.specs.Meaning.{Words}
 use Rattle.newmm_rules.specs.Cutting.{Cut}
-use Rattle.newmm_one_cut.specs.declared.Ends.{Ends}
+use Rattle.newmm_rules.specs.declared.Ends.{Ends}
 use Rattle.newmm_rules.specs.declared.Mode.{Mode}
 use Rattle.newmm_rules.specs.declared.Mode.TheVariants.{Plain, Safe, Sheet}
 use Rattle.newmm_rules.specs.Parts.{runs_of}

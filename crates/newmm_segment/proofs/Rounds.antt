@@ -15,7 +15,7 @@ use Rattle.char_string_last_space.specs.declared.Found.TheVariants.{At, Nothing}
 use Rattle.char_string_last_space.specs.Spaces.{last_space}
 use Rattle.trie_pool.specs.Meaning.{Words}
 use Rattle.newmm_rules.specs.Cutting.{Cut}
-use Rattle.newmm_one_cut.specs.declared.Ends.{Ends}
+use Rattle.newmm_rules.specs.declared.Ends.{Ends}
 use Rattle.newmm_rules.specs.Parts.{Cutter, sample_of, cut_at, sampled, Runs, last_part, one_part, first, runs_of}
 use Rattle.newmm_rules.specs.Modes.{part_ends, edges_of, joined, in_parts}
 use Rattle.newmm_rules.proofs.Climbing.{few, no_ends}

@@ -10,7 +10,7 @@ use Rattle.char_string_last_space.specs.declared.Found.TheVariants.{At, Nothing}
 use Rattle.char_string_last_space.specs.Spaces.{last_space}
 use Rattle.trie_pool.specs.Words.{holds}
 use Rattle.newmm_rules.specs.Cutting.{Cut}
-use Rattle.newmm_one_cut.specs.declared.Ends.{Ends}
+use Rattle.newmm_rules.specs.declared.Ends.{Ends}
 use Rattle.newmm_word_step.specs.inner.Walks.{given_by}
 use Rattle.newmm_one_cut.specs.inner.Strips.{Lent, Done}
 use Rattle.cells.proofs.Filling.{map_long}

@@ -11,8 +11,8 @@ ghost use Rattle.newmm_segment.specs.inner.Written.{Rising, Ready, Written, shif
 
 use cells::{shift, wide};
 use char_string_last_space::{Found, rfind_space_char_index};
-use newmm_one_cut::{Ends, one_cut};
-use newmm_rules::{Mode, TEXT_SCAN_BEGIN, TEXT_SCAN_END};
+use newmm_one_cut::one_cut;
+use newmm_rules::{Ends, Mode, TEXT_SCAN_BEGIN, TEXT_SCAN_END};
 
 // Safe mode cuts right behind the index of the last space in the sample, which isn't shifted by the
 // sample's begin.

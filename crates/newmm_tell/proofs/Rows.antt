@@ -12,7 +12,7 @@ use Rattle.newmm_answers.specs.Answers.{plain_cut}
 use Rattle.newmm_answers.proofs.Plain.{plain_right}
 use Rattle.newmm_bfs.specs.inner.Strips.{cells_for}
 use Rattle.newmm_word_step.specs.inner.Walks.{given_by}
-use Rattle.newmm_one_cut.specs.declared.Ends.{Ends}
+use Rattle.newmm_rules.specs.declared.Ends.{Ends}
 use Rattle.newmm_one_cut.specs.inner.Strips.{Fresh, Lent, Marked}
 use Rattle.newmm_one_cut.proofs.Bounds.{cleared_behind}
 use Rattle.newmm_one_cut.proofs.Whole.{in_front}

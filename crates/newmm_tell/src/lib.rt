@@ -14,10 +14,10 @@ ghost use Rattle.newmm_tell.specs.inner.Telling.{CutPart};
 
 use cells::{clear_from, narrow, wide};
 use newmm_bfs::{CLUSTER_ENDS, EDGE_ENDS, STRIPS};
-use newmm_one_cut::{Ends, cut_marked};
+use newmm_one_cut::cut_marked;
 use newmm_reason_at::reason_at;
 use newmm_reasons_answers::REASONS;
-use newmm_rules::{MAX_GRAPH_SIZE, Mode, TEXT_SCAN_END};
+use newmm_rules::{Ends, MAX_GRAPH_SIZE, Mode, TEXT_SCAN_END};
 use newmm_segment::{BEHIND_SPACE, Part, UNSHIFTED, cut_at};
 
 // Tells each of the k tokens of a part whose ends stand at the front of the row, and the flags of

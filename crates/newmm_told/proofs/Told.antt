@@ -1,4 +1,6 @@
 -- What stands in scratch when a text is told, whatever was answered. Assumes nothing.
+use Rattle.std.specs.Prelude.{Result, Ok, Err}
+use Rattle.newmm_rules.specs.declared.Ends.{Ends}
 use Prim.Native.Nat.{ℕ, ◌+◌, ◌*◌, ◌-◌, ◌≤◌, ◌<◌}
 use native.Mathlib.Omega.{arith}
 use mathlib.Core.Path.{◌≡◌, refl, sym, ◌∙◌, ap}
@@ -8,15 +10,12 @@ use lib.ListN.{length, take, drop, replicate, length-append, length-drop, length
 use lib.Seq.{take_at, drop_at, drop-length}
 use borrow.Author.Tests.{ltb-false}
 use Rattle.refusal.specs.declared.Refusal.{Refusal}
-use Rattle.refusal.specs.declared.Answer.{Answer}
-use Rattle.refusal.specs.declared.Answer.TheVariants.{Accepted, Refused}
 use Rattle.refusal.specs.Answers.{answer, output}
 use Rattle.refusal.proofs.Order.{not_both, refused_first}
 use Rattle.refusal.proofs.Causes.{none_of}
 use Rattle.trie_pool.specs.Meaning.{Words}
 use Rattle.trie_check.specs.Refusals.{held}
 use Rattle.newmm_rules.specs.declared.Mode.{Mode}
-use Rattle.newmm_answers.specs.declared.CutAnswer.{CutAnswer}
 use Rattle.newmm_answers.specs.Answers.{cut_of, out_causes, first_causes, cut_causes, accepts, told, cleared, scratch_after}
 use Rattle.newmm_answers.proofs.Told.{accepted_is}
 use Rattle.newmm_many_answers.specs.Turns.{ends_told}
@@ -27,15 +26,15 @@ use Rattle.newmm_reasons_answers.proofs.Told.{as_many}
 -- an accepted call with k cells at the front of scratch, which is else all 0; or a refused one,
 -- which tells none
 pub data Came (mode : Mode) (text : List ℕ) (m : Option Words) (scratch after : List ℕ) (room k : ℕ) : Type 0 where
-  accepted : accepts mode text m (length scratch) room ≡ Accepted k
+  accepted : accepts mode text m (length scratch) room ≡ Ok k
       → k ≡ length (cells_of (told_of mode (held m) text))
       → k ≤ room
       → scratch_after text m scratch ≡ replicate {A = ℕ} (length scratch) 0
       → after ≡ cells_of (told_of mode (held m) text) ++ drop k (scratch_after text m scratch)
       → Came mode text m scratch after room k
-  refused : {r : Refusal} → accepts mode text m (length scratch) room ≡ Refused r → k ≡ 0 → after ≡ scratch_after text m scratch → Came mode text m scratch after room k
+  refused : {r : Refusal} → accepts mode text m (length scratch) room ≡ Err r → k ≡ 0 → after ≡ scratch_after text m scratch → Came mode text m scratch after room k
 
-module _ {mode : Mode} {text : List ℕ} {m : Option Words} {scratch after : List ℕ} {room k : ℕ} {told' : CutAnswer} where
+module _ {mode : Mode} {text : List ℕ} {m : Option Words} {scratch after : List ℕ} {room k : ℕ} {told' : Result Ends Refusal} where
   pub came : Tells text m scratch room mode told' after → k ≡ ends_told told' → Came mode text m scratch after room k
   came t e = go (accepts mode text m (length scratch) room) refl
     where
@@ -46,26 +45,26 @@ module _ {mode : Mode} {text : List ℕ} {m : Option Words} {scratch after : Lis
       many = length (cut_of mode (held m) text).ends
 
       -- scratch was cleared
-      zero_left : {n : ℕ} → accepts mode text m (length scratch) room ≡ Accepted n → scratch_after text m scratch ≡ replicate {A = ℕ} (length scratch) 0
+      zero_left : {n : ℕ} → accepts mode text m (length scratch) room ≡ Ok n → scratch_after text m scratch ≡ replicate {A = ℕ} (length scratch) 0
       zero_left h = past (answer (first_causes text m (length scratch)) 0) refl
         where
-          past : (x : Answer) → answer (first_causes text m (length scratch)) 0 ≡ x → scratch_after text m scratch ≡ replicate {A = ℕ} (length scratch) 0
-          past (Accepted n) q = ap (λ (x : Answer). cleared x scratch) q
-          past (Refused r) q = not_both (sym h ∙ refused_first (first_causes text m (length scratch)) (out_causes (cut_of mode (held m) text).ends room) 0 many q)
+          past : (x : Result ℕ Refusal) → answer (first_causes text m (length scratch)) 0 ≡ x → scratch_after text m scratch ≡ replicate {A = ℕ} (length scratch) 0
+          past (Ok n) q = ap (λ (x : Result ℕ Refusal). cleared x scratch) q
+          past (Err r) q = not_both (sym h ∙ refused_first (first_causes text m (length scratch)) (out_causes (cut_of mode (held m) text).ends room) 0 many q)
 
-      go : (x : Answer) → accepts mode text m (length scratch) room ≡ x → Came mode text m scratch after room k
-      go (Accepted n) h =
-          let told_n : k ≡ n = e ∙ ap ends_told t.0 ∙ ap (λ (x : Answer). ends_told (told x edges)) h in
+      go : (x : Result ℕ Refusal) → accepts mode text m (length scratch) room ≡ x → Came mode text m scratch after room k
+      go (Ok n) h =
+          let told_n : k ≡ n = e ∙ ap ends_told t.0 ∙ ap (λ (x : Result ℕ Refusal). ends_told (told x edges)) h in
           let is : n ≡ many = sym (accepted_is (cut_causes mode text m (length scratch) room) many n h) in
           let c : k ≡ length (cells_of (told_of mode (held m) text)) =
           told_n ∙ is ∙ sym (as_many (held m) text mode) ∙ sym (length-map (told_of mode (held m) text) cell_of) in
           let due = none_of (cut_causes mode text m (length scratch) room) many n h in
-          accepted (h ∙ ap Accepted (sym told_n)) c (omega (arith, told_n, is, ltb-false room many due.1.1.1.1.0)) (zero_left h)
-          (t.1 ∙ ap (λ (x : Answer). output x (cells_of (told_of mode (held m) text)) (scratch_after text m scratch)) h
+          accepted (h ∙ ap Ok (sym told_n)) c (omega (arith, told_n, is, ltb-false room many due.1.1.1.1.0)) (zero_left h)
+          (t.1 ∙ ap (λ (x : Result ℕ Refusal). output x (cells_of (told_of mode (held m) text)) (scratch_after text m scratch)) h
           ∙ ap (λ (j : ℕ). cells_of (told_of mode (held m) text) ++ drop j (scratch_after text m scratch)) (sym c))
-      go (Refused r) h =
-          refused h (e ∙ ap ends_told t.0 ∙ ap (λ (x : Answer). ends_told (told x edges)) h)
-          (t.1 ∙ ap (λ (x : Answer). output x (cells_of (told_of mode (held m) text)) (scratch_after text m scratch)) h)
+      go (Err r) h =
+          refused h (e ∙ ap ends_told t.0 ∙ ap (λ (x : Result ℕ Refusal). ends_told (told x edges)) h)
+          (t.1 ∙ ap (λ (x : Result ℕ Refusal). output x (cells_of (told_of mode (held m) text)) (scratch_after text m scratch)) h)
 
 -- the cells, and behind them what a cut leaves
 behind_told : (cells left : List ℕ) (k : ℕ) → k ≡ length cells → left ≡ replicate {A = ℕ} (length left) 0 → k ≤ length left → replicate {A = ℕ} k 0 ++ drop k (cells ++ drop k left) ≡ left
@@ -96,6 +95,6 @@ module _ {mode : Mode} {text : List ℕ} {m : Option Words} {scratch after : Lis
   cleared_told (refused h c w) kept e = e ∙ ap (λ (j : ℕ). replicate {A = ℕ} j 0 ++ drop j after) c ∙ w
 
   -- what is told: the cells of an accepted call, none of a refused one
-  pub told_cells : Came mode text m scratch after room k → (n : ℕ) → accepts mode text m (length scratch) room ≡ Accepted n → take k after ≡ cells_of (told_of mode (held m) text)
+  pub told_cells : Came mode text m scratch after room k → (n : ℕ) → accepts mode text m (length scratch) room ≡ Ok n → take k after ≡ cells_of (told_of mode (held m) text)
   told_cells (accepted h c l z w) n q = ap (take k) w ∙ take_at (cells_of (told_of mode (held m) text)) (drop k (scratch_after text m scratch)) k (sym c)
   told_cells (refused h c w) n q = not_both (sym q ∙ h)

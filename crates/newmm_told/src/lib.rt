@@ -7,10 +7,10 @@ ghost use Rattle.newmm_answers.specs.inner.Passing.{in_view, Sees, Blank};
 ghost use Rattle.newmm_reasons_answers.specs.inner.Cells.{Tells};
 
 use cells::clear_first;
-use newmm_answers::{CutAnswer, check_cut};
-use newmm_rules::Mode;
+use newmm_answers::check_cut;
+use newmm_rules::{Ends, Mode};
 use newmm_tell::tell_text;
-use refusal::{Answer, Refusal};
+use refusal::Refusal;
 use trie_check::capacity;
 use trie_pool::NODE;
 
@@ -22,7 +22,7 @@ pub fn tell_ready(
     scratch: &mut [u32],
     room: usize,
     mode: Mode,
-) -> CutAnswer
+) -> Result<Ends, Refusal>
     requires { Sees text.now view.now (length scratch.old) × Blank scratch.old }
     ensures { Tells text.now (in_view view.now) scratch.old room mode
         result scratch.new }
@@ -31,9 +31,9 @@ pub fn tell_ready(
     let n = r.ends;
     if room < n {
         clear_first(scratch, n);
-        return CutAnswer::Refused(Refusal::OutputTooShort(n));
+        return Err(Refusal::OutputTooShort(n));
     }
-    CutAnswer::Ends(n, r.edges)
+    Ok(Ends { ends: n, edges: r.edges })
 }
 
 // The same, whatever scratch holds.
@@ -43,7 +43,7 @@ pub fn tell_checked(
     scratch: &mut [u32],
     room: usize,
     mode: Mode,
-) -> CutAnswer
+) -> Result<Ends, Refusal>
     requires { Sees text.now view.now (length scratch.old) }
     ensures { Tells text.now (in_view view.now) scratch.old room mode
         result scratch.new }
@@ -56,14 +56,14 @@ pub fn tell_checked(
 // Tells a text by the words of a pool, in a mode, for a row with room for so many records. What is
 // told stands at the front of scratch then, one cell a token; a refused call leaves scratch as a
 // refused cut does.
-pub fn tell(text: &[u32], pool: &[u32], scratch: &mut [u32], room: usize, mode: Mode) -> CutAnswer
+pub fn tell(text: &[u32], pool: &[u32], scratch: &mut [u32], room: usize, mode: Mode) -> Result<Ends, Refusal>
     ensures { Tells text.now (meaning pool.now) scratch.old room mode
         result scratch.new }
 {
     let checked = check_cut(text, pool, scratch.len());
     match checked {
-        Answer::Refused(r) => CutAnswer::Refused(r),
-        Answer::Accepted(_) => {
+        Err(r) => Err(r),
+        Ok(_) => {
             let cells = NODE * capacity(pool.len());
             tell_checked(text, &pool[..cells], scratch, room, mode)
         }

@@ -1,9 +1,7 @@
 -- What a call answers, and what becomes of a lent output, by the refusals that are due.
-use Rattle.std.specs.Prelude.{ℕ, Bool, cond, List, [], ◌∷◌, ◌++◌, map, ltb, length, drop}
+use Rattle.std.specs.Prelude.{ℕ, Bool, cond, List, [], ◌∷◌, ◌++◌, map, ltb, length, drop, Result, Ok, Err}
 use Rattle.refusal.specs.declared.Refusal.{Refusal}
 use Rattle.refusal.specs.declared.Refusal.TheVariants.{TooManyScalars, OutputTooShort}
-use Rattle.refusal.specs.declared.Answer.{Answer}
-use Rattle.refusal.specs.declared.Answer.TheVariants.{Accepted, Refused}
 use Rattle.refusal.specs.Numbers.{number_of}
 use Rattle.refusal.specs.Limits.{max_text}
 
@@ -14,9 +12,9 @@ pub record Cause : Type 0 where
 
 -- An operation's causes stand in its stated order. The first whose condition holds is given;
 -- with none, the call is accepted with n. (proofs/Firsts.antt has both as theorems.)
-abbrev pub answer : List Cause → ℕ → Answer
-answer [] n = Accepted n
-answer (r ∷ rs) n = cond r.holds (Refused r.refusal) (answer rs n)
+abbrev pub answer : List Cause → ℕ → Result ℕ Refusal
+answer [] n = Ok n
+answer (r ∷ rs) n = cond r.holds (Err r.refusal) (answer rs n)
 
 -- The numbers of an operation's causes, in order, as 01 lists them.
 abbrev pub numbers : List Cause → List ℕ
@@ -33,6 +31,6 @@ out_cause needed room = record { refusal = OutputTooShort needed; holds = ltb ro
 
 -- A refusal changes no output. An accepted call writes the first cells of the output and keeps the
 -- rest.
-abbrev pub output : Answer → List ℕ → List ℕ → List ℕ
-output (Accepted n) written old = written ++ drop (length written) old
-output (Refused r) written old = old
+abbrev pub output : Result ℕ Refusal → List ℕ → List ℕ → List ℕ
+output (Ok n) written old = written ++ drop (length written) old
+output (Err r) written old = old

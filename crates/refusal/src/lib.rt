@@ -38,13 +38,6 @@ pub enum Refusal {
     FiguresFull,
 }
 
-// What an operation answers whose accepted answer is one number.
-#[derive(Clone, Copy)]
-pub enum Answer {
-    Accepted(usize),
-    Refused(Refusal),
-}
-
 // The refusal's number.
 pub fn number(r: Refusal) -> u8
     ensures { result ≡ number_of r }

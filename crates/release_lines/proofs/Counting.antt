@@ -1,4 +1,6 @@
 -- What is counted of a text, and of a line. Assumes nothing.
+use Rattle.std.specs.Prelude.{Result, Ok, Err}
+use Rattle.newmm_rules.specs.declared.Ends.{Ends}
 use Prim.Native.Nat.{ℕ}
 use native.Mathlib.Omega.{arith}
 use mathlib.Core.Path.{◌≡◌, refl, sym, ◌∙◌, ap, subst}
@@ -7,15 +9,11 @@ use mathlib.Core.List.{List, [], ◌∷◌, ◌++◌, append-nil}
 use lib.Dec.{eqb}
 use lib.ListN.{length, take, drop}
 use Rattle.refusal.specs.declared.Refusal.{Refusal}
-use Rattle.refusal.specs.declared.Answer.{Answer}
-use Rattle.refusal.specs.declared.Answer.TheVariants.{Accepted, Refused}
 use Rattle.refusal.specs.Numbers.{number_of}
 use Rattle.refusal.specs.Answers.{output}
 use Rattle.utf8.specs.Decoding.{scalars_of, Room, room_in, decoded}
 use Rattle.utf8.specs.Positions.{positions_of}
 use Rattle.newmm_rules.specs.declared.Mode.{Mode}
-use Rattle.newmm_answers.specs.declared.CutAnswer.{CutAnswer}
-use Rattle.newmm_answers.specs.declared.CutAnswer.TheVariants as cuts
 use Rattle.newmm_answers.specs.Calls.{Call, call}
 use Rattle.figures_rules.specs.Figures.{after}
 use Rattle.figures.specs.Calls.{text_figures, feed_answer, refused_answer, refused_after}
@@ -31,7 +29,7 @@ use Rattle.release_lines.specs.Counting.{fed_full, refused_full, figures_by, ful
 
 -- ---- 13
 
-pub by_number : {told : CutAnswer} {r : Refusal} → told ≡ cuts.Refused r → {n : ℕ} → n ≡ number_of r → eqb n 13 ≡ fed_full told
+pub by_number : {told : Result Ends Refusal} {r : Refusal} → told ≡ Err r → {n : ℕ} → n ≡ number_of r → eqb n 13 ≡ fed_full told
 by_number h e = ap (λ (k : ℕ). eqb k 13) e ∙ sym (ap fed_full h)
 
 -- ---- a text, which is decoded first
@@ -40,41 +38,41 @@ alone : (w : List ℕ) → w ++ drop (length w) [] ≡ w
 alone [] = refl
 alone (x ∷ w) = append-nil (x ∷ w)
 
-module _ (text scalars positions : List ℕ) {scalars₁ positions₁ : List ℕ} {d : Answer}
+module _ (text scalars positions : List ℕ) {scalars₁ positions₁ : List ℕ} {d : Result ℕ Refusal}
     (g : (d ≡ decoded text (room_in scalars positions)) × ((scalars₁ ≡ output d (scalars_of text) scalars) × (positions₁ ≡ output d (positions_of text) positions)))
     (figures pool pairs scratch : List ℕ) (mode : Mode) where
   abbrev asks : List ℕ → Call
   asks w = call w pool pairs scratch mode
 
-  abbrev answered : Answer
+  abbrev answered : Result ℕ Refusal
   answered = decoded text (room_in scalars positions)
 
   -- decoding refuses it
-  module _ {r : Refusal} (h : d ≡ Refused r) {n : ℕ} (e : n ≡ number_of r) where
-    stopped : Refused r ≡ answered
+  module _ {r : Refusal} (h : d ≡ Err r) {n : ℕ} (e : n ≡ number_of r) where
+    stopped : Err r ≡ answered
     stopped = sym h ∙ g.0
 
     pub stopped_figures : {new : List ℕ} → new ≡ refused_after figures n → new ≡ figures_by answered figures (asks (scalars_of text))
-    stopped_figures f = f ∙ ap (λ (k : ℕ). refused_after figures k) e ∙ ap (λ (a : Answer). figures_by a figures (asks (scalars_of text))) stopped
+    stopped_figures f = f ∙ ap (λ (k : ℕ). refused_after figures k) e ∙ ap (λ (a : Result ℕ Refusal). figures_by a figures (asks (scalars_of text))) stopped
 
-    pub stopped_full : {a : Answer} → a ≡ refused_answer figures n → {full : Bool} → full ≡ refused_full a → full ≡ full_by answered figures (asks (scalars_of text))
-    stopped_full f w = w ∙ ap refused_full (f ∙ ap (λ (k : ℕ). refused_answer figures k) e) ∙ ap (λ (a : Answer). full_by a figures (asks (scalars_of text))) stopped
+    pub stopped_full : {a : Result ℕ Refusal} → a ≡ refused_answer figures n → {full : Bool} → full ≡ refused_full a → full ≡ full_by answered figures (asks (scalars_of text))
+    stopped_full f w = w ∙ ap refused_full (f ∙ ap (λ (k : ℕ). refused_answer figures k) e) ∙ ap (λ (a : Result ℕ Refusal). full_by a figures (asks (scalars_of text))) stopped
 
   -- it is fed
-  module _ {n : ℕ} (h : d ≡ Accepted n) where
-    passed : Accepted n ≡ answered
+  module _ {n : ℕ} (h : d ≡ Ok n) where
+    passed : Ok n ≡ answered
     passed = sym h ∙ g.0
 
     lent : take n scalars₁ ≡ scalars_of text
     lent =
-        out_text text scalars positions g h (λ (w : List ℕ). Accepted 0) (λ (w : List ℕ). w) [] (sym (alone (take n scalars₁)))
-        ∙ ap (λ (a : Answer). output (lines.next a (Accepted 0)) (scalars_of text) []) (sym passed) ∙ alone (scalars_of text)
+        out_text text scalars positions g h (λ (w : List ℕ). Ok 0) (λ (w : List ℕ). w) [] (sym (alone (take n scalars₁)))
+        ∙ ap (λ (a : Result ℕ Refusal). output (lines.next a (Ok 0)) (scalars_of text) []) (sym passed) ∙ alone (scalars_of text)
 
     pub fed_figures : {new : List ℕ} → new ≡ after figures (text_figures (asks (take n scalars₁))) → new ≡ figures_by answered figures (asks (scalars_of text))
-    fed_figures f = f ∙ ap (λ (w : List ℕ). after figures (text_figures (asks w))) lent ∙ ap (λ (a : Answer). figures_by a figures (asks (scalars_of text))) passed
+    fed_figures f = f ∙ ap (λ (w : List ℕ). after figures (text_figures (asks w))) lent ∙ ap (λ (a : Result ℕ Refusal). figures_by a figures (asks (scalars_of text))) passed
 
-    pub full_once_fed : {a : CutAnswer} → a ≡ feed_answer figures (asks (take n scalars₁)) → {full : Bool} → full ≡ fed_full a → full ≡ full_by answered figures (asks (scalars_of text))
-    full_once_fed f w = w ∙ ap fed_full (f ∙ ap (λ (l : List ℕ). feed_answer figures (asks l)) lent) ∙ ap (λ (a : Answer). full_by a figures (asks (scalars_of text))) passed
+    pub full_once_fed : {a : Result Ends Refusal} → a ≡ feed_answer figures (asks (take n scalars₁)) → {full : Bool} → full ≡ fed_full a → full ≡ full_by answered figures (asks (scalars_of text))
+    full_once_fed f w = w ∙ ap fed_full (f ∙ ap (λ (l : List ℕ). feed_answer figures (asks l)) lent) ∙ ap (λ (a : Result ℕ Refusal). full_by a figures (asks (scalars_of text))) passed
 
 -- ---- a line
 

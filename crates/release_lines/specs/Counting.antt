@@ -1,12 +1,11 @@
 -- 02, ticket 14: what a line of a release does to its figures.
-use Rattle.std.specs.Prelude.{ℕ, Bool, true, false, List, eqb}
-use Rattle.refusal.specs.declared.Answer.{Answer}
-use Rattle.refusal.specs.declared.Answer.TheVariants as answers
+use Rattle.std.specs.Prelude.{ℕ, Bool, true, false, List, eqb, Result, Ok, Err}
+use Rattle.newmm_answers.specs.Answers.{accepted_with}
+use Rattle.newmm_rules.specs.declared.Ends.{Ends}
+use Rattle.refusal.specs.declared.Refusal.{Refusal}
 use Rattle.refusal.specs.Numbers.{number_of}
 use Rattle.utf8.specs.Decoding.{scalars_of, Room, decoded}
 use Rattle.newmm_rules.specs.declared.Mode.{Mode}
-use Rattle.newmm_answers.specs.declared.CutAnswer.{CutAnswer}
-use Rattle.newmm_answers.specs.declared.CutAnswer.TheVariants as cuts
 use Rattle.newmm_answers.specs.Calls.{Call, call}
 use Rattle.figures_rules.specs.Figures.{after}
 use Rattle.figures.specs.Calls.{text_figures, feed_answer, refused_answer, refused_after}
@@ -14,23 +13,23 @@ use Rattle.sheet_replies.specs.declared.Asked.{Asked}
 use Rattle.sheet_replies.specs.declared.Asked.TheVariants.{Nothing, Add, Remove, Cut}
 
 -- A text that is fed, or that was refused before, is answered with 13: the figures are full.
-abbrev pub fed_full : CutAnswer → Bool
-fed_full (cuts.Ends n edges) = false
-fed_full (cuts.Refused r) = eqb (number_of r) 13
+abbrev pub fed_full : Result Ends Refusal → Bool
+fed_full (accepted_with n edges) = false
+fed_full (Err r) = eqb (number_of r) 13
 
-abbrev pub refused_full : Answer → Bool
-refused_full (answers.Accepted n) = false
-refused_full (answers.Refused r) = true
+abbrev pub refused_full : Result ℕ Refusal → Bool
+refused_full (Ok n) = false
+refused_full (Err r) = true
 
 -- A text is decoded first. One that decoding refuses is counted by the number of its refusal, any
 -- other is fed.
-abbrev pub figures_by : Answer → List ℕ → Call → List ℕ
-figures_by (answers.Accepted n) figures c = after figures (text_figures c)
-figures_by (answers.Refused r) figures c = refused_after figures (number_of r)
+abbrev pub figures_by : Result ℕ Refusal → List ℕ → Call → List ℕ
+figures_by (Ok n) figures c = after figures (text_figures c)
+figures_by (Err r) figures c = refused_after figures (number_of r)
 
-abbrev pub full_by : Answer → List ℕ → Call → Bool
-full_by (answers.Accepted n) figures c = fed_full (feed_answer figures c)
-full_by (answers.Refused r) figures c = refused_full (refused_answer figures (number_of r))
+abbrev pub full_by : Result ℕ Refusal → List ℕ → Call → Bool
+full_by (Ok n) figures c = fed_full (feed_answer figures c)
+full_by (Err r) figures c = refused_full (refused_answer figures (number_of r))
 
 -- Only a text that is to be cut is counted: the figures after a line, and whether they are full.
 unfoldable pub figures_after : Asked → (figures text pool pairs scratch : List ℕ) → Room → List ℕ

@@ -10,30 +10,29 @@ ghost use Rattle.release_lines.specs.Counting.{fed_full, refused_full, figures_b
 
 use figures::{feed, feed_refused};
 use figures_cells::Figures;
-use newmm_answers::CutAnswer;
-use newmm_rules::Mode;
-use refusal::{Answer, number};
+use newmm_rules::{Ends, Mode};
+use refusal::{Refusal, number};
 use sheet_replies::answer_line;
 use why_replies::{Cutting, cutting_in, text_in};
 
 // The refusal of figures that are full.
 const FULL: u8 = 13;
 
-fn is_fed_full(told: CutAnswer) -> bool
+fn is_fed_full(told: Result<Ends, Refusal>) -> bool
     ensures { result ≡ fed_full told }
 {
     match told {
-        CutAnswer::Ends(_, _) => false,
-        CutAnswer::Refused(r) => number(r) == FULL,
+        Ok(Ends { ends: _, edges: _ }) => false,
+        Err(r) => number(r) == FULL,
     }
 }
 
-fn is_refused_full(told: Answer) -> bool
+fn is_refused_full(told: Result<usize, Refusal>) -> bool
     ensures { result ≡ refused_full told }
 {
     match told {
-        Answer::Accepted(_) => false,
-        Answer::Refused(_) => true,
+        Ok(_) => false,
+        Err(_) => true,
     }
 }
 
@@ -57,8 +56,8 @@ fn count_text(
 {
     let decoded = utf8::decode(text, scalars, positions);
     match decoded {
-        Answer::Refused(r) => is_refused_full(feed_refused(figures, number(r) as u32)),
-        Answer::Accepted(n) => is_fed_full(feed(
+        Err(r) => is_refused_full(feed_refused(figures, number(r) as u32)),
+        Ok(n) => is_fed_full(feed(
             figures,
             &scalars[..n],
             pool,

@@ -1,7 +1,7 @@
 -- 01, "Program": what a line asks, the reply to it, and what becomes of the rows that are lent.
-use Rattle.std.specs.Prelude.{ℕ, ◌≡◌, cond, List, eqb, ltb, length, get_or, drop}
-use Rattle.refusal.specs.declared.Answer.{Answer}
-use Rattle.refusal.specs.declared.Answer.TheVariants as answers
+use Rattle.std.specs.Prelude.{ℕ, ◌≡◌, cond, List, eqb, ltb, length, get_or, drop, Result, Ok, Err}
+use Rattle.newmm_rules.specs.declared.Ends.{Ends}
+use Rattle.refusal.specs.declared.Refusal.{Refusal}
 use Rattle.refusal.specs.Answers.{answer, output}
 use Rattle.utf8.specs.Decoding.{scalars_of, Room, room_in, decoded}
 use Rattle.utf8.specs.Positions.{positions_of}
@@ -11,9 +11,7 @@ use Rattle.trie_char_answers.specs.Answers.{add_answer, added, remove_answer, re
 use Rattle.trie_char_answers.specs.Changes.{After}
 use Rattle.newmm_rules.specs.declared.Mode.{Mode}
 use Rattle.newmm_rules.specs.declared.Mode.TheVariants.{Plain, Safe}
-use Rattle.newmm_answers.specs.declared.CutAnswer.{CutAnswer}
-use Rattle.newmm_answers.specs.declared.CutAnswer.TheVariants as cuts
-use Rattle.newmm_answers.specs.Answers.{cut_of, first_causes, accepts, cleared}
+use Rattle.newmm_answers.specs.Answers.{accepted_with, cut_of, first_causes, accepts, cleared}
 use Rattle.sheet_replies.specs.declared.Asked.{Asked}
 use Rattle.sheet_replies.specs.declared.Asked.TheVariants.{Nothing, Add, Remove, Cut}
 use Rattle.sheet_texts.specs.declared.Reply.{Reply}
@@ -30,35 +28,35 @@ abbrev pub asked : List ℕ → Asked
 asked line = cond (eqb (length line) 0) Nothing (cond (ltb 1024 (length line)) Nothing (asked_by (get_or line 0 0)))
 
 -- The text is decoded first. `room` is the number of cells for its scalars and for their positions.
-abbrev pub next : Answer → Answer → Answer
-next (answers.Accepted n) a = a
-next (answers.Refused r) a = answers.Refused r
+abbrev pub next : Result ℕ Refusal → Result ℕ Refusal → Result ℕ Refusal
+next (Ok n) a = a
+next (Err r) a = Err r
 
 -- An addition, without a class, and a removal: the answer of the dictionary's own call for the
 -- decoded text.
-abbrev pub add_text : List ℕ → List ℕ → Room → Answer
+abbrev pub add_text : List ℕ → List ℕ → Room → Result ℕ Refusal
 add_text text pool room = next (decoded text room) (add_answer (scalars_of text) 0 pool)
 
-abbrev pub remove_text : List ℕ → List ℕ → Room → Answer
+abbrev pub remove_text : List ℕ → List ℕ → Room → Result ℕ Refusal
 remove_text text pool room = next (decoded text room) (remove_answer (scalars_of text) pool)
 
 -- A cut: accepted with the number of ends.
-abbrev pub cut_text : Mode → List ℕ → List ℕ → Room → ℕ → ℕ → Answer
+abbrev pub cut_text : Mode → List ℕ → List ℕ → Room → ℕ → ℕ → Result ℕ Refusal
 cut_text mode text pool room cells places =
     next (decoded text room) (accepts mode (scalars_of text) (meaning pool) cells places)
 
 -- It writes 0 or 1, the ends, or `! number detail`.
-abbrev pub reported : Answer → Reply
-reported (answers.Accepted n) = Report n
-reported (answers.Refused r) = Refused r
+abbrev pub reported : Result ℕ Refusal → Reply
+reported (Ok n) = Report n
+reported (Err r) = Refused r
 
-abbrev pub ended : Answer → Reply
-ended (answers.Accepted n) = Ends n
-ended (answers.Refused r) = Refused r
+abbrev pub ended : Result ℕ Refusal → Reply
+ended (Ok n) = Ends n
+ended (Err r) = Refused r
 
-abbrev pub ended_by : CutAnswer → Reply
-ended_by (cuts.Ends n e) = Ends n
-ended_by (cuts.Refused r) = Refused r
+abbrev pub ended_by : Result Ends Refusal → Reply
+ended_by (accepted_with n e) = Ends n
+ended_by (Err r) = Refused r
 
 -- the reply to a text by what is asked; the rows for decoding, scratch and ends have so many cells
 unfoldable pub reply_to : Asked → List ℕ → List ℕ → Room → ℕ → ℕ → Reply

@@ -14,9 +14,8 @@ ghost use Rattle.sheet_replies.specs.Replies.{asked as asked_of, next, add_text,
 ghost use Rattle.sheet_replies.specs.Replies.{reported as reported_of, ended as ended_of, ended_by, text_of, reply_of};
 ghost use Rattle.sheet_replies.specs.Replies.{RowsAfter};
 
-use newmm_answers::CutAnswer;
-use newmm_rules::Mode;
-use refusal::Answer;
+use newmm_rules::{Ends, Mode};
+use refusal::Refusal;
 use sheet_texts::Reply;
 
 // The most bytes that a line may have, without its line feed.
@@ -58,21 +57,21 @@ pub fn asks(line: &[u8]) -> Asked
     Asked::Nothing
 }
 
-fn reported(answer: Answer) -> Reply
+fn reported(answer: Result<usize, Refusal>) -> Reply
     ensures { result ≡ reported_of answer }
 {
     match answer {
-        Answer::Accepted(n) => Reply::Report(n),
-        Answer::Refused(r) => Reply::Refused(r),
+        Ok(n) => Reply::Report(n),
+        Err(r) => Reply::Refused(r),
     }
 }
 
-pub fn ended(answer: CutAnswer) -> Reply
+pub fn ended(answer: Result<Ends, Refusal>) -> Reply
     ensures { result ≡ ended_by answer }
 {
     match answer {
-        CutAnswer::Ends(n, _) => Reply::Ends(n),
-        CutAnswer::Refused(r) => Reply::Refused(r),
+        Ok(Ends { ends: n, edges: _ }) => Reply::Ends(n),
+        Err(r) => Reply::Refused(r),
     }
 }
 
@@ -92,8 +91,8 @@ fn add(text: &[u8], pool: &mut [u32], scalars: &mut [u32], positions: &mut [u32]
 {
     let decoded = utf8::decode(text, scalars, positions);
     match decoded {
-        Answer::Refused(r) => Reply::Refused(r),
-        Answer::Accepted(n) => reported(trie_char::add(pool, &scalars[..n])),
+        Err(r) => Reply::Refused(r),
+        Ok(n) => reported(trie_char::add(pool, &scalars[..n])),
     }
 }
 
@@ -114,8 +113,8 @@ fn remove(text: &[u8], pool: &mut [u32], scalars: &mut [u32], positions: &mut [u
 {
     let decoded = utf8::decode(text, scalars, positions);
     match decoded {
-        Answer::Refused(r) => Reply::Refused(r),
-        Answer::Accepted(n) => reported(trie_char::remove(pool, &scalars[..n])),
+        Err(r) => Reply::Refused(r),
+        Ok(n) => reported(trie_char::remove(pool, &scalars[..n])),
     }
 }
 
@@ -149,8 +148,8 @@ fn cut(
 {
     let decoded = utf8::decode(text, scalars, positions);
     match decoded {
-        Answer::Refused(r) => Reply::Refused(r),
-        Answer::Accepted(n) => ended(newmm::cut(&scalars[..n], pool, ends, scratch, mode)),
+        Err(r) => Reply::Refused(r),
+        Ok(n) => ended(newmm::cut(&scalars[..n], pool, ends, scratch, mode)),
     }
 }
 

@@ -1,5 +1,6 @@
 -- With the rows of a run, and a pool of 2,048 nodes that holds the words, a line is answered by the
 -- words alone. Assumes nothing.
+use Rattle.std.specs.Prelude.{Result, Ok, Err}
 use Prim.Native.Nat.{ℕ, suc, ◌+◌, ◌-◌, ◌*◌, ◌/◌, ◌≤◌, ◌<◌, min}
 use native.Mathlib.Omega.{arith}
 use native.Mathlib.Decide.{dec_lt}
@@ -13,8 +14,6 @@ use lib.Seq.{take-append_seam, take_all}
 use borrow.Author.Tests.{lt-ltb, le-ltb}
 use Rattle.refusal.specs.declared.Refusal.{Refusal}
 use Rattle.refusal.specs.declared.Refusal.TheVariants.{IllFormed, TooManyScalars, OutputTooShort, WordTooLong, TooFewNodes}
-use Rattle.refusal.specs.declared.Answer.{Answer}
-use Rattle.refusal.specs.declared.Answer.TheVariants as answers
 use Rattle.refusal.specs.Answers.{output}
 use Rattle.utf8_sequences.specs.Utf8.{Utf8, empty, next}
 use Rattle.utf8.specs.Decoding.{run_all, scalars_of, Room, decoded}
@@ -90,12 +89,12 @@ climbs text words mode = modes_climb (plain_cut (among words)) (plain_right (amo
 
 -- ---- causes that don't hold
 
-two_no : {a b : Bool} (r s : Refusal) (rest : Answer) → a ≡ false → b ≡ false → cond a (answers.Refused r) (cond b (answers.Refused s) rest) ≡ rest
-two_no {a} {b} r s rest e f = ap (λ (x : Bool). cond x (answers.Refused r) (cond b (answers.Refused s) rest)) e ∙ ap (λ (x : Bool). cond x (answers.Refused s) rest) f
+two_no : {a b : Bool} (r s : Refusal) (rest : Result ℕ Refusal) → a ≡ false → b ≡ false → cond a (Err r) (cond b (Err s) rest) ≡ rest
+two_no {a} {b} r s rest e f = ap (λ (x : Bool). cond x (Err r) (cond b (Err s) rest)) e ∙ ap (λ (x : Bool). cond x (Err s) rest) f
 
-three_no : {a b c : Bool} (r s t : Refusal) (rest : Answer) → a ≡ false → b ≡ false → c ≡ false
-    → cond a (answers.Refused r) (cond b (answers.Refused s) (cond c (answers.Refused t) rest)) ≡ rest
-three_no {a} {b} {c} r s t rest e f g = two_no r s (cond c (answers.Refused t) rest) e f ∙ ap (λ (x : Bool). cond x (answers.Refused t) rest) g
+three_no : {a b c : Bool} (r s t : Refusal) (rest : Result ℕ Refusal) → a ≡ false → b ≡ false → c ≡ false
+    → cond a (Err r) (cond b (Err s) (cond c (Err t) rest)) ≡ rest
+three_no {a} {b} {c} r s t rest e f g = two_no r s (cond c (Err t) rest) e f ∙ ap (λ (x : Bool). cond x (Err t) rest) g
 
 -- ---- a text of at most 1,023 bytes
 
@@ -120,22 +119,22 @@ module _ (text : List ℕ) (short : length text ≤ 1023) where
   abbrev many : ℕ
   many = length (scalars_of text)
 
-  decodes : (a : Answer) → replies'.next (decoded text lent) a ≡ cond (not (run_all text).whole) (answers.Refused (IllFormed (run_all text).taken)) a
+  decodes : (a : Result ℕ Refusal) → replies'.next (decoded text lent) a ≡ cond (not (run_all text).whole) (Err (IllFormed (run_all text).taken)) a
   decodes a = go (run_all text).whole refl
     where
       go : (b : Bool) → (run_all text).whole ≡ b
-          → replies'.next (cond (not b) (answers.Refused (IllFormed (run_all text).taken)) (cond (ltb 65535 many) (answers.Refused (TooManyScalars many)) (cond (ltb 1023 many) (answers.Refused (OutputTooShort many)) (cond (ltb 1024 (many + 1)) (answers.Refused (OutputTooShort (many + 1))) (answers.Accepted many))))) a ≡ cond (not b) (answers.Refused (IllFormed (run_all text).taken)) a
+          → replies'.next (cond (not b) (Err (IllFormed (run_all text).taken)) (cond (ltb 65535 many) (Err (TooManyScalars many)) (cond (ltb 1023 many) (Err (OutputTooShort many)) (cond (ltb 1024 (many + 1)) (Err (OutputTooShort (many + 1))) (Ok many))))) a ≡ cond (not b) (Err (IllFormed (run_all text).taken)) a
       go true e =
           let k = few_scalars e in
-          ap (λ (x : Answer). replies'.next x a) (three_no _ _ _ _ (no_two e) (le-ltb 1023 many (omega arith)) (le-ltb 1024 (many + 1) (omega arith)))
+          ap (λ (x : Result ℕ Refusal). replies'.next x a) (three_no _ _ _ _ (no_two e) (le-ltb 1023 many (omega arith)) (le-ltb 1024 (many + 1) (omega arith)))
       go false e = refl
 
   -- the causes before a word's own don't hold, where the text is decoded
-  goes_on : (rest rest' : Answer) → ((run_all text).whole ≡ true → rest ≡ rest')
-      → cond (not (run_all text).whole) (answers.Refused (IllFormed (run_all text).taken)) rest ≡ cond (not (run_all text).whole) (answers.Refused (IllFormed (run_all text).taken)) rest'
+  goes_on : (rest rest' : Result ℕ Refusal) → ((run_all text).whole ≡ true → rest ≡ rest')
+      → cond (not (run_all text).whole) (Err (IllFormed (run_all text).taken)) rest ≡ cond (not (run_all text).whole) (Err (IllFormed (run_all text).taken)) rest'
   goes_on rest rest' f = go (run_all text).whole refl
     where
-      go : (b : Bool) → (run_all text).whole ≡ b → cond (not b) (answers.Refused (IllFormed (run_all text).taken)) rest ≡ cond (not b) (answers.Refused (IllFormed (run_all text).taken)) rest'
+      go : (b : Bool) → (run_all text).whole ≡ b → cond (not b) (Err (IllFormed (run_all text).taken)) rest ≡ cond (not b) (Err (IllFormed (run_all text).taken)) rest'
       go true e = f e
       go false e = refl
 
@@ -158,8 +157,8 @@ module _ (text : List ℕ) (short : length text ≤ 1023) where
         w : List ℕ
         w = word_of text
 
-        late : ℕ → ℕ → ℕ → Answer
-        late k c n = cond (ltb 255 (length w)) (answers.Refused (WordTooLong (length w))) (cond (ltb c k) (answers.Refused (TooFewNodes (k - c))) (answers.Accepted n))
+        late : ℕ → ℕ → ℕ → Result ℕ Refusal
+        late k c n = cond (ltb 255 (length w)) (Err (WordTooLong (length w))) (cond (ltb c k) (Err (TooFewNodes (k - c))) (Ok n))
 
         old : ℕ
         old = report_term w (terms_of pool) (with_term w 0 (terms_of pool))
@@ -178,8 +177,8 @@ module _ (text : List ℕ) (short : length text ≤ 1023) where
         w : List ℕ
         w = word_of text
 
-        late : ℕ → Answer
-        late n = cond (ltb 255 (length w)) (answers.Refused (WordTooLong (length w))) (answers.Accepted n)
+        late : ℕ → Result ℕ Refusal
+        late n = cond (ltb 255 (length w)) (Err (WordTooLong (length w))) (Ok n)
 
         told' : report_term w (terms_of pool) (without_term w (terms_of pool)) ≡ report w (among words) (among (excluding w words))
         told' = less_told pool (among words) m w ∙ ap (report w (among words)) (sym (among_without w words))
@@ -193,10 +192,10 @@ module _ (text : List ℕ) (short : length text ≤ 1023) where
         ends_are : (cut_of mode (held (meaning pool)) (scalars_of text)).ends ≡ ends_in mode text words
         ends_are = ap (λ (f : Words). (cut_of mode f (scalars_of text)).ends) words_are
 
-        here : (run_all text).whole ≡ true → accepts mode (scalars_of text) (meaning pool) 9335 1023 ≡ answers.Accepted (length (ends_in mode text words))
+        here : (run_all text).whole ≡ true → accepts mode (scalars_of text) (meaning pool) 9335 1023 ≡ Ok (length (ends_in mode text words))
         here e =
             let n = few_scalars e in
             let k = few (climbs text words mode) in
             three_no _ _ _ _ (no_two e) (no_three e) no_four
             ∙ two_no _ _ _ (le-ltb 9335 (9 * length (scalars_of text) + 128) (omega arith)) (le-ltb 1023 (length (cut_of mode (held (meaning pool)) (scalars_of text)).ends) (omega (arith, n, k, ap length ends_are)))
-            ∙ ap (λ (l : List ℕ). answers.Accepted (length l)) ends_are
+            ∙ ap (λ (l : List ℕ). Ok (length l)) ends_are

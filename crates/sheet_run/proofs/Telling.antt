@@ -1,4 +1,5 @@
 -- What is written for a line, and the words behind it, with the rows of a run. Assumes nothing.
+use Rattle.std.specs.Prelude.{Result, Ok, Err}
 use Prim.Native.Nat.{ℕ, zero, suc, ◌+◌, ◌-◌, ◌*◌, ◌/◌, ◌%◌, ◌^◌, ◌≤◌, ◌<◌}
 use native.Mathlib.Omega.{arith}
 use native.Mathlib.Nat.{pow-suc}
@@ -14,8 +15,6 @@ use lib.Seq.{take-append_seam, take_all, length-take-le}
 use borrow.Author.Tests.{ltb-true, ltb-false}
 use Rattle.refusal.specs.declared.Refusal.{Refusal}
 use Rattle.refusal.specs.declared.Refusal.TheVariants.{IllFormed, WordTooLong, TooFewNodes}
-use Rattle.refusal.specs.declared.Answer.{Answer}
-use Rattle.refusal.specs.declared.Answer.TheVariants as answers
 use Rattle.refusal.specs.Numbers.{number_of, detail_of}
 use Rattle.refusal.specs.Answers.{output}
 use Rattle.utf8.specs.Decoding.{run_all, scalars_of}
@@ -41,29 +40,29 @@ use Rattle.sheet_run.proofs.ByWords.{lent, among_with, among_without, words_are,
 
 -- ---- a line's text
 
-report_told : (a : Answer) (row : List ℕ) → line_of (reported a) row ≡ line_of (reported a) []
-report_told (answers.Accepted n) row = refl
-report_told (answers.Refused r) row = refl
+report_told : (a : Result ℕ Refusal) (row : List ℕ) → line_of (reported a) row ≡ line_of (reported a) []
+report_told (Ok n) row = refl
+report_told (Err r) row = refl
 
 -- the pool behind an answer
-after_holds : (a : Answer) (old new : List ℕ) (f : Terms) (more words : List (List ℕ)) → After a old new f → f ≡ classless (among more) → terms old ≡ some (classless (among words)) → length old ≡ 16384
+after_holds : (a : Result ℕ Refusal) (old new : List ℕ) (f : Terms) (more words : List (List ℕ)) → After a old new f → f ≡ classless (among more) → terms old ≡ some (classless (among words)) → length old ≡ 16384
     → (terms new ≡ some (classless (among (if_accepted a more words)))) × (length new ≡ 16384)
-after_holds (answers.Accepted n) old new f more words b e m s = (b.means ∙ ap some e, b.kept ∙ s)
-after_holds (answers.Refused r) old new f more words b e m s = (ap terms b ∙ m, ap length b ∙ s)
+after_holds (Ok n) old new f more words b e m s = (b.means ∙ ap some e, b.kept ∙ s)
+after_holds (Err r) old new f more words b e m s = (ap terms b ∙ m, ap length b ∙ s)
 
 module _ (text : List ℕ) (short : length text ≤ 1023) (pool : List ℕ) (words : List (List ℕ)) (m : terms pool ≡ some (classless (among words))) (size : length pool ≡ 16384) where
   cut_told : (mode : Mode) (row : List ℕ) → length row ≡ 1023
       → line_of (ended (cut_text mode text pool lent 9335 (length row))) (output (cut_text mode text pool lent 9335 (length row)) (cut_of mode (held (meaning pool)) (scalars_of text)).ends row)
       ≡ line_of (ended (cut_in mode text words)) (ends_in mode text words)
   cut_told mode row r =
-      ap (λ (a : Answer). line_of (ended a) (output a (cut_of mode (held (meaning pool)) (scalars_of text)).ends row)) (ap (cut_text mode text pool lent 9335) r ∙ cut_is text short pool words m size mode)
+      ap (λ (a : Result ℕ Refusal). line_of (ended a) (output a (cut_of mode (held (meaning pool)) (scalars_of text)).ends row)) (ap (cut_text mode text pool lent 9335) r ∙ cut_is text short pool words m size mode)
       ∙ ap (λ (f : Words). line_of (ended (cut_in mode text words)) (output (cut_in mode text words) (cut_of mode f (scalars_of text)).ends row)) (words_are text short pool words m size)
       ∙ go (run_all text).whole
     where
       ends : List ℕ
       ends = ends_in mode text words
 
-      go : (b : Bool) → let a = cond (not b) (answers.Refused (IllFormed (run_all text).taken)) (answers.Accepted (length ends)) in line_of (ended a) (output a ends row) ≡ line_of (ended a) ends
+      go : (b : Bool) → let a = cond (not b) (Err (IllFormed (run_all text).taken)) (Ok (length ends)) in line_of (ended a) (output a ends row) ≡ line_of (ended a) ends
       go true = ap (λ (l : List ℕ). spaced l ++ (10 ∷ [])) (take-append_seam ends (drop (length ends) row) ∙ sym (take_all (length ends) ends (omega arith)))
       go false = refl
 
@@ -71,8 +70,8 @@ module _ (text : List ℕ) (short : length text ≤ 1023) (pool : List ℕ) (wor
       → line_of (reply_to k text pool lent 9335 (length row)) (ends_after k text pool lent 9335 row) ≡ line_of (reply_in k text words) (told_ends k text words)
   unfolding reply_to ends_after reply_in told_ends
   text_told Nothing row r = refl
-  text_told Add row r = report_told (add_text text pool lent) row ∙ ap (λ (a : Answer). line_of (reported a) []) (add_is text short pool words m size)
-  text_told Remove row r = report_told (remove_text text pool lent) row ∙ ap (λ (a : Answer). line_of (reported a) []) (remove_is text short pool words m size)
+  text_told Add row r = report_told (add_text text pool lent) row ∙ ap (λ (a : Result ℕ Refusal). line_of (reported a) []) (add_is text short pool words m size)
+  text_told Remove row r = report_told (remove_text text pool lent) row ∙ ap (λ (a : Result ℕ Refusal). line_of (reported a) []) (remove_is text short pool words m size)
   text_told (Cut mode) row r = cut_told mode row r
 
   text_pool : (k : Asked) (new : List ℕ) → PoolAfter k text pool new lent → (terms new ≡ some (classless (among (words_in k text words)))) × (length new ≡ 16384)
@@ -81,11 +80,11 @@ module _ (text : List ℕ) (short : length text ≤ 1023) (pool : List ℕ) (wor
   text_pool (Cut mode) new e = (ap terms e ∙ m, ap length e ∙ size)
   text_pool Add new a =
       after_holds (added_in text words) pool new (added (scalars_of text) 0 pool) (including (word_of text) words) words
-      (subst (λ (x : Answer). After x pool new (added (scalars_of text) 0 pool)) (add_is text short pool words m size) a)
+      (subst (λ (x : Result ℕ Refusal). After x pool new (added (scalars_of text) 0 pool)) (add_is text short pool words m size) a)
       (more_are pool (among words) m (word_of text) ∙ ap classless (sym (among_with (word_of text) words))) m size
   text_pool Remove new a =
       after_holds (removed_in text words) pool new (removed (scalars_of text) pool) (excluding (word_of text) words) words
-      (subst (λ (x : Answer). After x pool new (removed (scalars_of text) pool)) (remove_is text short pool words m size) a)
+      (subst (λ (x : Result ℕ Refusal). After x pool new (removed (scalars_of text) pool)) (remove_is text short pool words m size) a)
       (less_are pool (among words) m (word_of text) ∙ ap classless (sym (among_without (word_of text) words))) m size
 
 -- a line that asks nothing is answered alike, whatever its text
@@ -166,9 +165,9 @@ refusal_size r ends =
       length-append (33 ∷ 32 ∷ []) a,
     )
 
-pub report_size : (a : Answer) → length (line_of (reported a) []) ≤ 5115
-report_size (answers.Accepted n) = number_size n
-report_size (answers.Refused r) = refusal_size r []
+pub report_size : (a : Result ℕ Refusal) → length (line_of (reported a) []) ≤ 5115
+report_size (Ok n) = number_size n
+report_size (Err r) = refusal_size r []
 
 text_size : (text : List ℕ) → length text ≤ 1023 → (words : List (List ℕ)) (k : Asked) → length (line_of (reply_in k text words) (told_ends k text words)) ≤ 5115
 unfolding reply_in told_ends
@@ -181,7 +180,7 @@ text_size text short words (Cut mode) = go (run_all text).whole refl
     ends = ends_in mode text words
 
     go : (b : Bool) → (run_all text).whole ≡ b
-        → length (line_of (ended (cond (not b) (answers.Refused (IllFormed (run_all text).taken)) (answers.Accepted (length ends)))) ends) ≤ 5115
+        → length (line_of (ended (cond (not b) (Err (IllFormed (run_all text).taken)) (Ok (length ends)))) ends) ≤ 5115
     go true e =
         subst (λ (l : List ℕ). length (spaced l ++ (10 ∷ [])) ≤ 5115) (sym (take_all (length ends) ends (omega arith))) (ends_size ends (climbs text words mode) (few_scalars text short e))
     go false e = refusal_size (IllFormed (run_all text).taken) ends
@@ -260,12 +259,12 @@ unfolding reply_in
 only_these Nothing text words r e = absurd (let z : ◌≡◌ {A = ℕ} 0 1 = cc in omega arith)
 only_these (Cut mode) text words r e = go (run_all text).whole e
   where
-    go : (b : Bool) → ended (cond (not b) (answers.Refused (IllFormed (run_all text).taken)) (answers.Accepted (length (ends_in mode text words)))) ≡ Refused r → Possible (number_of r)
+    go : (b : Bool) → ended (cond (not b) (Err (IllFormed (run_all text).taken)) (Ok (length (ends_in mode text words)))) ≡ Refused r → Possible (number_of r)
     go true e = absurd (let z : ◌≡◌ {A = ℕ} 0 1 = cc in omega arith)
     go false e = subst (λ (s : Refusal). Possible (number_of s)) (refused_inj e) one
 only_these Remove text words r e = go (run_all text).whole (ltb 255 (length (word_of text))) e
   where
-    go : (a b : Bool) → reported (cond (not a) (answers.Refused (IllFormed (run_all text).taken)) (cond b (answers.Refused (WordTooLong (length (word_of text)))) (answers.Accepted (report (word_of text) (among words) (among (excluding (word_of text) words)))))) ≡ Refused r
+    go : (a b : Bool) → reported (cond (not a) (Err (IllFormed (run_all text).taken)) (cond b (Err (WordTooLong (length (word_of text)))) (Ok (report (word_of text) (among words) (among (excluding (word_of text) words)))))) ≡ Refused r
         → Possible (number_of r)
     go false b e = subst (λ (s : Refusal). Possible (number_of s)) (refused_inj e) one
     go true true e = subst (λ (s : Refusal). Possible (number_of s)) (refused_inj e) seven
@@ -273,7 +272,7 @@ only_these Remove text words r e = go (run_all text).whole (ltb 255 (length (wor
 only_these Add text words r e = go (run_all text).whole (ltb 255 (length (word_of text))) (ltb 2048 (nodes (including (word_of text) words))) e
   where
     go : (a b c : Bool)
-        → reported (cond (not a) (answers.Refused (IllFormed (run_all text).taken)) (cond b (answers.Refused (WordTooLong (length (word_of text)))) (cond c (answers.Refused (TooFewNodes (nodes (including (word_of text) words) - 2048))) (answers.Accepted (report (word_of text) (among words) (among (including (word_of text) words))))))) ≡ Refused r
+        → reported (cond (not a) (Err (IllFormed (run_all text).taken)) (cond b (Err (WordTooLong (length (word_of text)))) (cond c (Err (TooFewNodes (nodes (including (word_of text) words) - 2048))) (Ok (report (word_of text) (among words) (among (including (word_of text) words))))))) ≡ Refused r
         → Possible (number_of r)
     go false b c e = subst (λ (s : Refusal). Possible (number_of s)) (refused_inj e) one
     go true true c e = subst (λ (s : Refusal). Possible (number_of s)) (refused_inj e) seven

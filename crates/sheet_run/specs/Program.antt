@@ -1,11 +1,9 @@
 -- 01, "Program": a whole run, from all bytes that are read to all bytes that are written.
-use Rattle.std.specs.Prelude.{ℕ, suc, ◌-◌, Bool, true, false, not, cond, ◌||◌, ◌≡◌, List, [], ◌∷◌, ◌++◌, map, eqb, ltb, length, take, drop}
+use Rattle.std.specs.Prelude.{ℕ, suc, ◌-◌, Bool, true, false, not, cond, ◌||◌, ◌≡◌, List, [], ◌∷◌, ◌++◌, map, eqb, ltb, length, take, drop, Result, Ok, Err}
 use Rattle.std.proofs.Math.Option.{some}
 use Rattle.refusal.specs.declared.Refusal.{Refusal}
 use Rattle.refusal.specs.declared.Refusal.TheVariants.{IllFormed, TooFewNodes}
 use Rattle.refusal.specs.Numbers.{number_of}
-use Rattle.refusal.specs.declared.Answer.{Answer}
-use Rattle.refusal.specs.declared.Answer.TheVariants as answers
 use Rattle.refusal.specs.Answers.{Cause, answer}
 use Rattle.utf8.specs.Decoding.{run_all, scalars_of}
 use Rattle.char_string_trim.specs.Trimming.{trimmed_of}
@@ -90,12 +88,12 @@ abbrev pub word_of : List ℕ → List ℕ
 word_of text = trimmed_of (scalars_of text)
 
 -- An addition can be refused with 1, 7 and 8 alone, a removal with 1 and 7, a cut with 1.
-abbrev pub added_in : List ℕ → List (List ℕ) → Answer
+abbrev pub added_in : List ℕ → List (List ℕ) → Result ℕ Refusal
 added_in text words =
     answer (form_causes text ++ (length_causes (scalars_of text) ++ room_causes (word_of text) words))
     (report (word_of text) (among words) (among (including (word_of text) words)))
 
-abbrev pub removed_in : List ℕ → List (List ℕ) → Answer
+abbrev pub removed_in : List ℕ → List (List ℕ) → Result ℕ Refusal
 removed_in text words =
     answer (form_causes text ++ length_causes (scalars_of text))
     (report (word_of text) (among words) (among (excluding (word_of text) words)))
@@ -103,7 +101,7 @@ removed_in text words =
 abbrev pub ends_in : Mode → List ℕ → List (List ℕ) → List ℕ
 ends_in mode text words = (cut_of mode (among words) (scalars_of text)).ends
 
-abbrev pub cut_in : Mode → List ℕ → List (List ℕ) → Answer
+abbrev pub cut_in : Mode → List ℕ → List (List ℕ) → Result ℕ Refusal
 cut_in mode text words = answer (form_causes text) (length (ends_in mode text words))
 
 unfoldable pub reply_in : Asked → List ℕ → List (List ℕ) → Reply
@@ -120,9 +118,9 @@ told_ends Remove text words = []
 told_ends (Cut mode) text words = ends_in mode text words
 
 -- A refusal changes no words.
-abbrev pub if_accepted : Answer → List (List ℕ) → List (List ℕ) → List (List ℕ)
-if_accepted (answers.Accepted n) new words = new
-if_accepted (answers.Refused r) new words = words
+abbrev pub if_accepted : Result ℕ Refusal → List (List ℕ) → List (List ℕ) → List (List ℕ)
+if_accepted (Ok n) new words = new
+if_accepted (Err r) new words = words
 
 -- the words behind a line
 unfoldable pub words_in : Asked → List ℕ → List (List ℕ) → List (List ℕ)

@@ -1,4 +1,5 @@
 -- The answers of `tcc_pos`, over plain values. Assumes nothing.
+use Rattle.std.specs.Prelude.{Result, Ok, Err}
 use Prim.Native.Nat.{ℕ, ◌≤◌, ◌<◌}
 use mathlib.Core.Path.{◌≡◌, refl}
 use mathlib.Core.List.{List, [], ◌∷◌}
@@ -6,8 +7,6 @@ use lib.ListN.{length}
 use borrow.Author.Tests.{ltb-false}
 use Rattle.refusal.specs.declared.Refusal.{Refusal}
 use Rattle.refusal.specs.declared.Refusal.TheVariants.{OutputTooShort}
-use Rattle.refusal.specs.declared.Answer.{Answer}
-use Rattle.refusal.specs.declared.Answer.TheVariants.{Accepted, Refused}
 use Rattle.refusal.specs.Answers.{answer, numbers, out_cause}
 use Rattle.refusal.proofs.Causes.{none_of, handed, out_short, out_fits}
 use Rattle.refusal.proofs.Firsts.{accepted_exactly_if_none}
@@ -24,23 +23,23 @@ pub record Right (text : List ℕ) (n : ℕ) : Type 0 where
   pub small : length text ≤ 65535
   pub whole : n ≡ length text
 
-pub right : (text : List ℕ) {n : ℕ} → checked text ≡ Accepted n → Right text n
+pub right : (text : List ℕ) {n : ℕ} → checked text ≡ Ok n → Right text n
 unfolding checked
 right text {n} h =
     let r = (accepted_exactly_if_none (text_causes text) (length text)).1 n h in
     record { small = ltb-false 65535 (length text) r.0.0; whole = r.1 }
 
 module _ (text : List ℕ) (room : ℕ) where
-  pub refused : {a : Answer} {r : Refusal} → a ≡ checked text → a ≡ Refused r → a ≡ clusters_answer text room
+  pub refused : {a : Result ℕ Refusal} {r : Refusal} → a ≡ checked text → a ≡ Err r → a ≡ clusters_answer text room
   unfolding checked
   refused = handed (text_causes text) (out_cause (length (cluster_ends text)) room ∷ []) (length text) (length (cluster_ends text))
 
-  pub short : {n k : ℕ} → checked text ≡ Accepted n → k ≡ length (cluster_ends text) → room < k
-      → Refused (OutputTooShort k) ≡ clusters_answer text room
+  pub short : {n k : ℕ} → checked text ≡ Ok n → k ≡ length (cluster_ends text) → room < k
+      → Err (OutputTooShort k) ≡ clusters_answer text room
   unfolding checked
   short {n} {k} = out_short (text_causes text) (length (cluster_ends text)) room (length text) (length (cluster_ends text)) k
 
-  pub fitting : {n k : ℕ} → checked text ≡ Accepted n → k ≡ length (cluster_ends text) → k ≤ room
-      → Accepted k ≡ clusters_answer text room
+  pub fitting : {n k : ℕ} → checked text ≡ Ok n → k ≡ length (cluster_ends text) → k ≤ room
+      → Ok k ≡ clusters_answer text room
   unfolding checked
   fitting {n} {k} = out_fits (text_causes text) (length (cluster_ends text)) room (length text) k

@@ -10,7 +10,7 @@ ghost use Rattle.tcc.specs.Flags.{end_flags};
 
 use cells::clear_first;
 use char_string_scalars::check_text;
-use refusal::{Answer, Refusal};
+use refusal::Refusal;
 use tcc_match::cluster_end;
 
 fn count_ends(text: &[u32]) -> usize
@@ -43,22 +43,19 @@ fn put_ends(text: &[u32], out: &mut [u32]) -> usize
 
 // The ends of the text's clusters, in characters; accepted with their number. Where the output has
 // a cell for each character, each cluster is matched once, else they are counted first.
-pub fn tcc_pos(text: &[u32], out: &mut [u32]) -> Answer
+pub fn tcc_pos(text: &[u32], out: &mut [u32]) -> Result<usize, Refusal>
     ensures value { result ≡ clusters_answer text.now (length out.old) }
     ensures out_after { out.new ≡ output result (cluster_ends text.now) out.old }
 {
-    let checked = check_text(text);
-    let Answer::Accepted(n) = checked else {
-        return checked;
-    };
+    let n = check_text(text)?;
     if n <= out.len() {
-        return Answer::Accepted(put_ends(text, out));
+        return Ok(put_ends(text, out));
     }
     let needed = count_ends(text);
     if out.len() < needed {
-        return Answer::Refused(Refusal::OutputTooShort(needed));
+        return Err(Refusal::OutputTooShort(needed));
     }
-    Answer::Accepted(put_ends(text, out))
+    Ok(put_ends(text, out))
 }
 
 // Marks each cluster end with 1. The row's first cells, one for each position of the text, are 0

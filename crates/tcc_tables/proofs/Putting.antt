@@ -1,4 +1,6 @@
 -- The pass that writes both rows, and the answers of the call. Assumes nothing.
+use Rattle.std.specs.Prelude.{Result, Ok, Err}
+use Rattle.refusal.specs.declared.Refusal.{Refusal}
 use Prim.Native.Nat.{ℕ, suc, ◌+◌, ◌≤◌, ◌<◌, min}
 use native.Mathlib.Omega.{arith}
 use native.Mathlib.Numerals.{add-one}
@@ -7,8 +9,6 @@ use mathlib.Core.List.{List, [], ◌∷◌, ◌++◌}
 use lib.ListN.{length, get_or, set, take, drop, length-set}
 use lib.Seq.{drop-cons, take-length}
 use Rattle.refusal.specs.declared.Refusal.TheVariants.{OutputTooShort}
-use Rattle.refusal.specs.declared.Answer.{Answer}
-use Rattle.refusal.specs.declared.Answer.TheVariants.{Accepted, Refused}
 use Rattle.char_string_scalars.specs.Scalars.{checked}
 use Rattle.lists.proofs.Rows.{store}
 use Rattle.tcc_rules.specs.Patterns.{winner}
@@ -78,15 +78,15 @@ module _ {text old old' ends winners : List ℕ} {p n : ℕ} (v : Putting text o
 -- ---- the answers
 
 -- a text that is accepted is accepted with its length
-pub passed : (text : List ℕ) {a : Answer} {n : ℕ} → a ≡ checked text → a ≡ Accepted n → checked text ≡ Accepted (length text)
-passed text is e = sym is ∙ e ∙ ap Accepted (right text (sym is ∙ e)).whole
+pub passed : (text : List ℕ) {a : Result ℕ Refusal} {n : ℕ} → a ≡ checked text → a ≡ Ok n → checked text ≡ Ok (length text)
+passed text is e = sym is ∙ e ∙ ap Ok (right text (sym is ∙ e)).whole
 
-module _ (text ends winners : List ℕ) (ok : checked text ≡ Accepted (length text)) {k : ℕ} (is : k ≡ length (cluster_ends text)) where
-  pub ends_short : length ends < k → Refused (OutputTooShort k) ≡ winners_answer text (length ends) (length winners)
+module _ (text ends winners : List ℕ) (ok : checked text ≡ Ok (length text)) {k : ℕ} (is : k ≡ length (cluster_ends text)) where
+  pub ends_short : length ends < k → Err (OutputTooShort k) ≡ winners_answer text (length ends) (length winners)
   ends_short h = short text (min (length ends) (length winners)) ok is (omega arith)
 
-  pub winners_short : length winners < k → Refused (OutputTooShort k) ≡ winners_answer text (length ends) (length winners)
+  pub winners_short : length winners < k → Err (OutputTooShort k) ≡ winners_answer text (length ends) (length winners)
   winners_short h = short text (min (length ends) (length winners)) ok is (omega arith)
 
-  pub both_fit : k ≤ length ends → k ≤ length winners → Accepted k ≡ winners_answer text (length ends) (length winners)
+  pub both_fit : k ≤ length ends → k ≤ length winners → Ok k ≡ winners_answer text (length ends) (length winners)
   both_fit h l = fitting text (min (length ends) (length winners)) ok is (omega arith)

@@ -1,6 +1,6 @@
 -- 02, ticket 5: which alternative won at each cluster, and what the call tells.
-use Rattle.std.specs.Prelude.{ℕ, min, ◌≡◌, List, [], ◌∷◌, length}
-use Rattle.refusal.specs.declared.Answer.{Answer}
+use Rattle.std.specs.Prelude.{ℕ, min, ◌≡◌, List, [], ◌∷◌, length, Result}
+use Rattle.refusal.specs.declared.Refusal.{Refusal}
 use Rattle.refusal.specs.Answers.{Cause, answer, output}
 use Rattle.tcc_rules.specs.Patterns.{winner}
 use Rattle.tcc_rules.specs.Rules.{alternatives}
@@ -22,11 +22,11 @@ abbrev pub winners_causes : List ℕ → ℕ → ℕ → List Cause
 winners_causes text room more = cluster_causes text (min room more)
 
 -- accepted with the number of clusters
-abbrev pub winners_answer : List ℕ → ℕ → ℕ → Answer
+abbrev pub winners_answer : List ℕ → ℕ → ℕ → Result ℕ Refusal
 winners_answer text room more = answer (winners_causes text room more) (length (cluster_ends text))
 
 -- What is told of a text, and the two rows afterwards: the clusters' ends, and who won them.
-abbrev pub Wins : (text ends winners : List ℕ) → Answer → (ends' winners' : List ℕ) → Type 0
+abbrev pub Wins : (text ends winners : List ℕ) → Result ℕ Refusal → (ends' winners' : List ℕ) → Type 0
 Wins text ends winners r ends' winners' =
     (r ≡ winners_answer text (length ends) (length winners))
     × ((ends' ≡ output r (cluster_ends text) ends) × (winners' ≡ output r (winners_of text) winners))

@@ -13,7 +13,7 @@ ghost use Rattle.tcc_tables.specs.Answers.{winners_of, Wins};
 ghost use Rattle.tcc_engine.specs.inner.Trying.{Tables};
 
 use char_string_scalars::check_text;
-use refusal::{Answer, Refusal};
+use refusal::Refusal;
 use tables::{CLASSES, ITEMS, STARTS};
 use tcc_engine::{Classes, Items, Starts, next_cluster};
 
@@ -68,7 +68,7 @@ fn told_by(
     text: &[u32],
     ends: &mut [u32],
     winners: &mut [u32],
-) -> Answer
+) -> Result<usize, Refusal>
     requires tables { Tables classes.now items.now starts.now }
     requires text_value { checked text.now ≡ Accepted (length text.now) }
     ensures { Wins text.now ends.old winners.old
@@ -76,27 +76,24 @@ fn told_by(
 {
     let needed = count_clusters(classes, items, starts, text);
     if ends.len() < needed {
-        return Answer::Refused(Refusal::OutputTooShort(needed));
+        return Err(Refusal::OutputTooShort(needed));
     }
     if winners.len() < needed {
-        return Answer::Refused(Refusal::OutputTooShort(needed));
+        return Err(Refusal::OutputTooShort(needed));
     }
     put_clusters(classes, items, starts, text, ends, winners);
-    Answer::Accepted(needed)
+    Ok(needed)
 }
 
 // The ends of the text's clusters, in characters, and for each the number of the alternative that
 // won, 0 where none did; accepted with the number of clusters. Neither row is written if either is
 // too short. A constant is made anew wherever it stands, so the tables are taken once and lent.
 // Refusals 2, 3, 6.
-pub fn tcc_winners(text: &[u32], ends: &mut [u32], winners: &mut [u32]) -> Answer
+pub fn tcc_winners(text: &[u32], ends: &mut [u32], winners: &mut [u32]) -> Result<usize, Refusal>
     ensures { Wins text.now ends.old winners.old
         result ends.new winners.new }
 {
-    let checked = check_text(text);
-    let Answer::Accepted(_) = checked else {
-        return checked;
-    };
+    check_text(text)?;
     let classes = CLASSES;
     let items = ITEMS;
     let starts = STARTS;

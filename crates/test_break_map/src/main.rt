@@ -9,7 +9,7 @@ ghost use Rattle.std.specs.Prelude.{◌≤◌, length};
 
 use break_map::{break_map, breaks_up_to, next_break};
 use break_map_rules::NextBreak;
-use refusal::Answer;
+use refusal::Refusal;
 use test_lines::{
     behind, field, first, is, lent, number, part_at, print, print_cells, print_number,
     print_refusal, read_cells, read_input,
@@ -150,12 +150,12 @@ fn write_row(rt: &impl Print, n: usize, ends: &[u32], row: &mut [u64], halves: &
     smear(row);
     let answer = break_map(n, ends, row);
     match answer {
-        Answer::Accepted(k) => {
+        Ok(k) => {
             expect_leftovers(rt, row, k);
             print(rt, b"ok ");
             print_map(rt, row, k, halves);
         }
-        Answer::Refused(r) => {
+        Err(r) => {
             expect_leftovers(rt, row, 0);
             print_refusal(rt, r);
         }
@@ -171,11 +171,11 @@ fn count(rt: &impl Print, line: &[u8], map: &mut [u64], halves: &mut [u32]) {
         number(rt, field(line, 3)),
     );
     match answer {
-        Answer::Accepted(k) => {
+        Ok(k) => {
             print(rt, b"ok ");
             print_number(rt, k);
         }
-        Answer::Refused(r) => print_refusal(rt, r),
+        Err(r) => print_refusal(rt, r),
     }
 }
 

@@ -10,7 +10,7 @@ mod views;
 
 use char_string::CharAt;
 use char_string_last_space::Found;
-use refusal::Answer;
+use refusal::Refusal;
 use test_lines::{
     behind, field, is, lent, number, part_at, print, print_cells, print_number, print_refusal,
     read_cells, read_input,
@@ -141,11 +141,11 @@ fn scalars(rt: &impl Print, line: &[u8], cells: &mut [u32]) {
 fn text(rt: &impl Print, line: &[u8], cells: &mut [u32]) {
     let n = read_cells(rt, field(line, 1), cells);
     match char_string_scalars::check_text(&cells[..n]) {
-        Answer::Accepted(count) => {
+        Ok(count) => {
             print(rt, b"ok ");
             print_number(rt, count);
         }
-        Answer::Refused(r) => print_refusal(rt, r),
+        Err(r) => print_refusal(rt, r),
     }
 }
 

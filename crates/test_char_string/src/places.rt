@@ -1,5 +1,5 @@
 // The answers of decoding, and of ends in bytes.
-use refusal::Answer;
+use refusal::Refusal;
 use test_lines::{
     field, first, lent, number, print, print_cells, print_number, print_refusal, read_bytes,
     read_cells,
@@ -33,8 +33,8 @@ fn call(rt: &impl Print, bytes: &[u8], out: &mut [u32], positions: &mut [u32]) {
     smear(positions);
     let answer = utf8::decode(bytes, out, positions);
     match answer {
-        Answer::Accepted(n) => print_rows(rt, out, positions, n),
-        Answer::Refused(r) => {
+        Ok(n) => print_rows(rt, out, positions, n),
+        Err(r) => {
             expect_leftovers(rt, out, 0);
             expect_leftovers(rt, positions, 0);
             print_refusal(rt, r);
@@ -80,12 +80,12 @@ pub fn ends_in_bytes(
     let n = read_bytes(rt, field(line, 1), bytes);
     let answer = utf8::decode(&bytes[..n], cells, positions);
     match answer {
-        Answer::Accepted(characters) => {
+        Ok(characters) => {
             let ends = read_cells(rt, field(line, 2), cells);
             print(rt, b"ok ");
             print_ends(rt, positions, characters, first(cells, ends));
         }
-        Answer::Refused(r) => print_refusal(rt, r),
+        Err(r) => print_refusal(rt, r),
     }
 }
 

@@ -7,8 +7,7 @@
 ghost use Rattle.std.specs.Prelude.{◌≤◌, length};
 
 use newmm::cut;
-use newmm_answers::CutAnswer;
-use newmm_rules::Mode;
+use newmm_rules::{Ends, Mode};
 use std::io::Read;
 use test_lines::{
     behind, field, first, is, lent, part_at, print, print_number, print_numbers, print_refusal,
@@ -176,7 +175,7 @@ fn call(
     smear(scratch);
     let answer = cut(text, pool, out, scratch, mode);
     match answer {
-        CutAnswer::Ends(n, edges) => {
+        Ok(Ends { ends: n, edges }) => {
             expect_zero(rt, scratch);
             expect_leftovers(rt, out, n);
             print(rt, b"ok ");
@@ -184,7 +183,7 @@ fn call(
             print(rt, b" ");
             print_number(rt, edges);
         }
-        CutAnswer::Refused(r) => {
+        Err(r) => {
             let number = refusal::number(r);
             if number == 6 {
                 expect_zero(rt, scratch);

@@ -8,9 +8,8 @@
 ghost use Rattle.std.specs.Prelude.{◌≤◌};
 
 use figures::{feed, feed_refused, join};
-use newmm_answers::CutAnswer;
-use newmm_rules::Mode;
-use refusal::{Answer, Refusal};
+use newmm_rules::{Ends, Mode};
+use refusal::Refusal;
 use test_lines::{
     behind, field, first, is, lent, number, part_at, print, print_number, print_numbers,
     print_refusal, read_cells, read_input,
@@ -145,15 +144,15 @@ fn short(n: usize) -> u32 {
     0
 }
 
-fn print_answer(rt: &impl Print, given: Answer) {
+fn print_answer(rt: &impl Print, given: Result<usize, Refusal>) {
     match given {
-        Answer::Accepted(n) => {
+        Ok(n) => {
             if n != 0 {
                 print(rt, b"?");
             }
             print(rt, b"ok ");
         }
-        Answer::Refused(r) => {
+        Err(r) => {
             print_refusal(rt, r);
             print(rt, b" ");
         }
@@ -231,8 +230,8 @@ fn call(
     smear(scratch);
     let given = feed(figures, text, pool, pairs, scratch, mode);
     match given {
-        CutAnswer::Ends(n, edges) => show_cut(rt, n, edges, pairs, scratch, shown),
-        CutAnswer::Refused(r) => show_refused(rt, r, pairs, scratch, shown),
+        Ok(Ends { ends: n, edges }) => show_cut(rt, n, edges, pairs, scratch, shown),
+        Err(r) => show_refused(rt, r, pairs, scratch, shown),
     }
 }
 

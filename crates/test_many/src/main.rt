@@ -10,7 +10,7 @@ ghost use Rattle.std.specs.Prelude.{◌≤◌};
 use newmm_many::{cut_many, cut_reasons_many};
 use newmm_plants_many::{cut_many_in, cut_reasons_many_in};
 use newmm_rules::Mode;
-use refusal::Answer;
+use refusal::Refusal;
 use test_lines::{
     behind, field, first, is, lent, part_at, print, print_number, print_numbers, print_refusal,
     read_cells, read_input,
@@ -257,7 +257,7 @@ fn answer_to(
     scratch: &mut [u32],
     mode: Mode,
     form: Form,
-) -> Answer {
+) -> Result<usize, Refusal> {
     match form {
         Form::Ends => cut_many(texts, text_ends, pool, answers, out, scratch, mode),
         Form::Pairs => cut_reasons_many(texts, text_ends, pool, answers, out, scratch, mode),
@@ -281,21 +281,21 @@ fn has_pairs(form: Form) -> bool {
 
 fn show(
     rt: &impl Print,
-    answer: Answer,
+    answer: Result<usize, Refusal>,
     answers: &[u32],
     out: &[u32],
     scratch: &[u32],
     pairs: bool,
 ) {
     match answer {
-        Answer::Accepted(n) => {
+        Ok(n) => {
             print(rt, b"ok ");
             print_number(rt, n);
             print_rows(rt, first(answers, four_times(n, answers.len())), out, pairs);
             expect_leftovers(rt, answers, four_times(n, answers.len()));
             print_left(rt, scratch);
         }
-        Answer::Refused(r) => {
+        Err(r) => {
             expect_leftovers(rt, answers, 0);
             expect_leftovers(rt, out, 0);
             expect_leftovers(rt, scratch, 0);

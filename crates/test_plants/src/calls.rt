@@ -1,11 +1,10 @@
 // A call of either plant, or a plain one.
 use newmm::cut;
-use newmm_answers::CutAnswer;
 use newmm_plants::cut_in;
 use newmm_plants_reasons::cut_reasons_in;
 use newmm_reasons::cut_reasons;
-use newmm_rules::Mode;
-use refusal::Answer;
+use newmm_rules::{Ends, Mode};
+use refusal::Refusal;
 use trie_char::{add_class, remove};
 use trie_char_answers::WordAnswer;
 use trie_char_read::{amount_of_words, contain, prefix_lengths};
@@ -23,14 +22,14 @@ pub enum Whose {
     Of(Plant),
 }
 
-pub fn add(whose: Whose, pool: &mut [u32], word: &[u32], class: u16) -> Answer {
+pub fn add(whose: Whose, pool: &mut [u32], word: &[u32], class: u16) -> Result<usize, Refusal> {
     match whose {
         Whose::Plain => add_class(pool, word, class),
         Whose::Of(plant) => add_in(pool, plant, word, class),
     }
 }
 
-pub fn take(whose: Whose, pool: &mut [u32], word: &[u32]) -> Answer {
+pub fn take(whose: Whose, pool: &mut [u32], word: &[u32]) -> Result<usize, Refusal> {
     match whose {
         Whose::Plain => remove(pool, word),
         Whose::Of(plant) => remove_in(pool, plant, word),
@@ -44,14 +43,14 @@ pub fn held(whose: Whose, pool: &[u32], word: &[u32]) -> WordAnswer {
     }
 }
 
-pub fn lengths(whose: Whose, pool: &[u32], text: &[u32], out: &mut [u32]) -> Answer {
+pub fn lengths(whose: Whose, pool: &[u32], text: &[u32], out: &mut [u32]) -> Result<usize, Refusal> {
     match whose {
         Whose::Plain => prefix_lengths(pool, text, out),
         Whose::Of(plant) => prefix_lengths_in(pool, plant, text, out),
     }
 }
 
-pub fn amount(whose: Whose, pool: &[u32]) -> Answer {
+pub fn amount(whose: Whose, pool: &[u32]) -> Result<usize, Refusal> {
     match whose {
         Whose::Plain => amount_of_words(pool),
         Whose::Of(plant) => amount_of_words_in(pool, plant),
@@ -65,7 +64,7 @@ pub fn ends(
     out: &mut [u32],
     scratch: &mut [u32],
     mode: Mode,
-) -> CutAnswer {
+) -> Result<Ends, Refusal> {
     match whose {
         Whose::Plain => cut(text, pool, out, scratch, mode),
         Whose::Of(plant) => cut_in(text, pool, plant, out, scratch, mode),
@@ -79,21 +78,21 @@ pub fn reasons(
     out: &mut [u32],
     scratch: &mut [u32],
     mode: Mode,
-) -> CutAnswer {
+) -> Result<Ends, Refusal> {
     match whose {
         Whose::Plain => cut_reasons(text, pool, out, scratch, mode),
         Whose::Of(plant) => cut_reasons_in(text, pool, plant, out, scratch, mode),
     }
 }
 
-pub fn read(whose: Whose, pool: &mut [u32], image: &[u8]) -> Answer {
+pub fn read(whose: Whose, pool: &mut [u32], image: &[u8]) -> Result<usize, Refusal> {
     match whose {
         Whose::Plain => read_image(pool, image),
         Whose::Of(plant) => read_image_in(pool, plant, image),
     }
 }
 
-pub fn write(whose: Whose, pool: &[u32], out: &mut [u8]) -> Answer {
+pub fn write(whose: Whose, pool: &[u32], out: &mut [u8]) -> Result<usize, Refusal> {
     match whose {
         Whose::Plain => write_image(pool, out),
         Whose::Of(plant) => write_image_in(pool, plant, out),

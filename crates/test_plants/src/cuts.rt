@@ -4,8 +4,7 @@ ghost use Rattle.std.specs.Prelude.{◌≤◌};
 use crate::calls::{Whose, ends, reasons};
 use crate::told::tell_refusal;
 use cells::wide;
-use newmm_answers::CutAnswer;
-use newmm_rules::Mode;
+use newmm_rules::{Ends, Mode};
 use refusal::Refusal;
 use test_lines::{behind, first, lent, part_at, print, print_number, print_numbers, read_cells};
 use test_rows::{Named, expect_leftovers, expect_zero, mode_of, scratch_cells, smear};
@@ -45,12 +44,12 @@ fn tell_ends(
     smear(scratch);
     let answer = ends(whose, text, pool, out, scratch, Mode::Plain);
     match answer {
-        CutAnswer::Ends(k, _) => {
+        Ok(Ends { ends: k, edges: _ }) => {
             expect_zero(rt, scratch);
             expect_leftovers(rt, out, k);
             print_numbers(rt, first(out, k), b'.');
         }
-        CutAnswer::Refused(r) => refused(rt, r, out, scratch),
+        Err(r) => refused(rt, r, out, scratch),
     }
 }
 
@@ -123,14 +122,14 @@ fn cut(
     smear(scratch);
     let answer = ends(whose, text, pool, out, scratch, mode);
     match answer {
-        CutAnswer::Ends(n, edges) => {
+        Ok(Ends { ends: n, edges }) => {
             expect_zero(rt, scratch);
             expect_leftovers(rt, out, n);
             print_numbers(rt, first(out, n), b'.');
             print(rt, b"/");
             print_number(rt, edges);
         }
-        CutAnswer::Refused(r) => refused(rt, r, out, scratch),
+        Err(r) => refused(rt, r, out, scratch),
     }
 }
 
@@ -147,13 +146,13 @@ fn told(
     smear(scratch);
     let answer = reasons(whose, text, pool, out, scratch, mode);
     match answer {
-        CutAnswer::Ends(n, edges) => {
+        Ok(Ends { ends: n, edges }) => {
             expect_zero(rt, scratch);
             print_pairs(rt, out, n);
             print(rt, b"/");
             print_number(rt, edges);
         }
-        CutAnswer::Refused(r) => refused(rt, r, out, scratch),
+        Err(r) => refused(rt, r, out, scratch),
     }
 }
 

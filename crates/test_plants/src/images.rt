@@ -1,7 +1,7 @@
 // Images of the words of a plant, or of a plain pool. The output is lent full of leftovers.
 use crate::calls::{Whose, read, write};
 use crate::told::{tell, tell_refusal};
-use refusal::Answer;
+use refusal::Refusal;
 use test_lines::{print, read_bytes};
 
 // A byte that an earlier call may have left.
@@ -27,8 +27,8 @@ fn tell_image(rt: &impl Print, whose: Whose, pool: &[u32], image: &mut [u8]) {
     smear_bytes(image);
     let answer = write(whose, pool, image);
     match answer {
-        Answer::Accepted(n) => print_image(rt, image, n),
-        Answer::Refused(r) => {
+        Ok(n) => print_image(rt, image, n),
+        Err(r) => {
             print_image(rt, image, 0);
             tell_refusal(rt, r);
         }

@@ -1,13 +1,13 @@
 // Answers as a script tells them.
-use refusal::{Answer, Refusal};
+use refusal::Refusal;
 use test_lines::{first, print, print_number, print_numbers};
 use trie_char_answers::WordAnswer;
 
 // A report, or a refusal.
-pub fn tell(rt: &impl Print, answer: Answer) {
+pub fn tell(rt: &impl Print, answer: Result<usize, Refusal>) {
     match answer {
-        Answer::Accepted(n) => print_number(rt, n),
-        Answer::Refused(r) => tell_refusal(rt, r),
+        Ok(n) => print_number(rt, n),
+        Err(r) => tell_refusal(rt, r),
     }
 }
 
@@ -30,9 +30,9 @@ pub fn tell_word(rt: &impl Print, answer: WordAnswer) {
     }
 }
 
-pub fn tell_lengths(rt: &impl Print, answer: Answer, out: &[u32]) {
+pub fn tell_lengths(rt: &impl Print, answer: Result<usize, Refusal>, out: &[u32]) {
     match answer {
-        Answer::Accepted(n) => print_numbers(rt, first(out, n), b'.'),
-        Answer::Refused(r) => tell_refusal(rt, r),
+        Ok(n) => print_numbers(rt, first(out, n), b'.'),
+        Err(r) => tell_refusal(rt, r),
     }
 }

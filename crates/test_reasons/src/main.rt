@@ -7,9 +7,8 @@
 
 ghost use Rattle.std.specs.Prelude.{◌≤◌};
 
-use newmm_answers::CutAnswer;
 use newmm_reasons::cut_reasons;
-use newmm_rules::Mode;
+use newmm_rules::{Ends, Mode};
 use test_lines::{
     behind, field, first, is, lent, part_at, print, print_number, print_refusal, read_cells,
     read_input,
@@ -145,7 +144,7 @@ fn call(
     smear(scratch);
     let answer = cut_reasons(text, pool, pairs, scratch, mode);
     match answer {
-        CutAnswer::Ends(n, edges) => {
+        Ok(Ends { ends: n, edges }) => {
             let cells = told_cells(n, pairs.len());
             expect_zero(rt, scratch);
             expect_leftovers(rt, pairs, cells);
@@ -154,7 +153,7 @@ fn call(
             print(rt, b" ");
             print_number(rt, edges);
         }
-        CutAnswer::Refused(r) => {
+        Err(r) => {
             let number = refusal::number(r);
             if number == 6 {
                 expect_zero(rt, scratch);

@@ -1,7 +1,7 @@
 // Replays the test vectors of `tcc`: a line with the answer for each line of standard input.
 #![tactic(auto)]
 
-use refusal::Answer;
+use refusal::Refusal;
 use test_lines::{
     behind, field, first, is, lent, part_at, print, print_cells, print_number, print_numbers,
     print_refusal, read_cells, read_input,
@@ -58,11 +58,11 @@ fn clusters(rt: &impl Print, line: &[u8], text: &mut [u32], out: &mut [u32]) {
     let room = lent(rt, field(line, 2), out.len());
     let answer = tcc::tcc_pos(&text[..n], &mut out[0..room]);
     match answer {
-        Answer::Accepted(count) => {
+        Ok(count) => {
             print(rt, b"ok ");
             print_numbers(rt, first(out, count), b',');
         }
-        Answer::Refused(r) => print_refusal(rt, r),
+        Err(r) => print_refusal(rt, r),
     }
 }
 
@@ -72,13 +72,13 @@ fn last(rt: &impl Print, line: &[u8], text: &mut [u32], out: &mut [u32]) {
     let room = lent(rt, field(line, 2), out.len());
     let answer = tcc::tcc_pos(&text[..n], &mut out[0..room]);
     match answer {
-        Answer::Accepted(count) => {
+        Ok(count) => {
             print(rt, b"ok ");
             print_number(rt, count);
             print(rt, b" ");
             print_number(rt, last_of(first(out, count)));
         }
-        Answer::Refused(r) => print_refusal(rt, r),
+        Err(r) => print_refusal(rt, r),
     }
 }
 
@@ -89,8 +89,8 @@ fn row(rt: &impl Print, line: &[u8], text: &mut [u32], out: &mut [u32]) {
     fill(&mut out[0..room]);
     let answer = tcc::tcc_pos(&text[..n], &mut out[0..room]);
     match answer {
-        Answer::Accepted(_) => print(rt, b"ok "),
-        Answer::Refused(_) => print(rt, b"! "),
+        Ok(_) => print(rt, b"ok "),
+        Err(_) => print(rt, b"! "),
     }
     print_cells(rt, &out[0..room]);
 }

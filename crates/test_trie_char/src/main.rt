@@ -2,7 +2,7 @@
 #![tactic(auto)]
 
 use cells::wide;
-use refusal::{Answer, Refusal};
+use refusal::Refusal;
 use test_lines::{
     behind, field, first, head, is, lent, part_at, print, print_cells, print_number, print_numbers,
     print_refusal, read_cells, read_input, tail,
@@ -143,10 +143,10 @@ fn word_step(rt: &impl Print, op: u8, pool: &mut [u32], word: &[u32], out: &mut 
 }
 
 // A report, or a refusal as a script tells it.
-fn told(rt: &impl Print, answer: Answer) {
+fn told(rt: &impl Print, answer: Result<usize, Refusal>) {
     match answer {
-        Answer::Accepted(n) => print_number(rt, n),
-        Answer::Refused(r) => refused(rt, r),
+        Ok(n) => print_number(rt, n),
+        Err(r) => refused(rt, r),
     }
 }
 
@@ -173,8 +173,8 @@ fn held(rt: &impl Print, pool: &[u32], word: &[u32]) {
 fn lengths(rt: &impl Print, pool: &[u32], text: &[u32], out: &mut [u32]) {
     let answer = trie_char_read::prefix_lengths(pool, text, out);
     match answer {
-        Answer::Accepted(n) => print_numbers(rt, first(out, n), b'.'),
-        Answer::Refused(r) => refused(rt, r),
+        Ok(n) => print_numbers(rt, first(out, n), b'.'),
+        Err(r) => refused(rt, r),
     }
 }
 
@@ -182,12 +182,12 @@ fn lengths(rt: &impl Print, pool: &[u32], text: &[u32], out: &mut [u32]) {
 fn in_use(rt: &impl Print, pool: &[u32]) {
     let answer = trie_char_read::amount_of_words(pool);
     match answer {
-        Answer::Accepted(_) => {
+        Ok(_) => {
             if 0 < pool.len() {
                 print_number(rt, wide(pool[0]));
             }
         }
-        Answer::Refused(r) => refused(rt, r),
+        Err(r) => refused(rt, r),
     }
 }
 
@@ -203,11 +203,11 @@ fn prefix(rt: &impl Print, line: &[u8], pool: &mut [u32], cells: &mut [u32], out
 fn starts(rt: &impl Print, pool: &[u32], text: &[u32], out: &mut [u32]) {
     let answer = trie_char_read::prefix_lengths(pool, text, out);
     match answer {
-        Answer::Accepted(n) => {
+        Ok(n) => {
             print(rt, b"ok ");
             print_numbers(rt, first(out, n), b',');
         }
-        Answer::Refused(r) => print_refusal(rt, r),
+        Err(r) => print_refusal(rt, r),
     }
 }
 
@@ -216,10 +216,10 @@ fn given(rt: &impl Print, line: &[u8], pool: &mut [u32]) {
     let n = read_cells(rt, field(line, 1), pool);
     let answer = trie_char_read::amount_of_words(first(pool, n));
     match answer {
-        Answer::Accepted(words) => {
+        Ok(words) => {
             print(rt, b"ok ");
             print_number(rt, words);
         }
-        Answer::Refused(r) => print_refusal(rt, r),
+        Err(r) => print_refusal(rt, r),
     }
 }

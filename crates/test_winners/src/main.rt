@@ -4,7 +4,7 @@
 // 02 say, a `?` is written.
 #![tactic(auto)]
 
-use refusal::Answer;
+use refusal::Refusal;
 use tcc_tables::tcc_winners;
 use test_lines::{
     behind, field, first, is, lent, part_at, print, print_numbers, print_refusal, read_cells,
@@ -57,7 +57,7 @@ fn call(rt: &impl Print, text: &[u32], ends: &mut [u32], winners: &mut [u32]) {
     smear(winners);
     let answer = tcc_winners(text, ends, winners);
     match answer {
-        Answer::Accepted(n) => {
+        Ok(n) => {
             print(rt, b"ok ");
             print_numbers(rt, first(ends, n), b',');
             print(rt, b" ");
@@ -65,7 +65,7 @@ fn call(rt: &impl Print, text: &[u32], ends: &mut [u32], winners: &mut [u32]) {
             expect_leftovers(rt, ends, n);
             expect_leftovers(rt, winners, n);
         }
-        Answer::Refused(r) => {
+        Err(r) => {
             print_refusal(rt, r);
             expect_leftovers(rt, ends, 0);
             expect_leftovers(rt, winners, 0);

@@ -5,7 +5,7 @@
 // documents 01 and 02 say, a `?` is written.
 #![tactic(auto)]
 
-use refusal::Answer;
+use refusal::Refusal;
 use test_lines::{
     behind, field, first, is, lent, part_at, print, print_cells, print_number, print_refusal,
     read_bytes, read_cells, read_input,
@@ -57,13 +57,13 @@ fn read(rt: &impl Print, bytes: &[u8], pool: &mut [u32], image: &mut [u8]) {
     print_cells(rt, pool);
 }
 
-fn tell_words(rt: &impl Print, answer: Answer) {
+fn tell_words(rt: &impl Print, answer: Result<usize, Refusal>) {
     match answer {
-        Answer::Accepted(n) => {
+        Ok(n) => {
             print(rt, b"ok ");
             print_number(rt, n);
         }
-        Answer::Refused(r) => print_refusal(rt, r),
+        Err(r) => print_refusal(rt, r),
     }
 }
 
@@ -77,12 +77,12 @@ fn tell_image(rt: &impl Print, pool: &[u32], image: &mut [u8]) {
     smear(image);
     let answer = write_image(pool, image);
     match answer {
-        Answer::Accepted(n) => {
+        Ok(n) => {
             expect_left(rt, image, n);
             print(rt, b"ok ");
             print_bytes(rt, first_bytes(image, n));
         }
-        Answer::Refused(r) => {
+        Err(r) => {
             expect_left(rt, image, 0);
             print_refusal(rt, r);
         }

@@ -5,7 +5,7 @@
 ghost use Rattle.std.specs.Prelude.{◌≤◌, length};
 ghost use Rattle.io.specs.Counts.{IsPrefixLen};
 
-use refusal::Answer;
+use refusal::Refusal;
 use test_lines::{behind, number, part_at, print, read_cells};
 
 // Makes a dictionary of the words at the front of pool, with a node for each character of each, and
@@ -82,9 +82,9 @@ pub fn read_class(rt: &impl Print, word: &[u8]) -> u16 {
     class as u16
 }
 
-fn expect_done(rt: &impl Print, a: Answer) {
+fn expect_done(rt: &impl Print, a: Result<usize, Refusal>) {
     match a {
-        Answer::Accepted(_) => {}
-        Answer::Refused(_) => print(rt, b"?"),
+        Ok(_) => {}
+        Err(_) => print(rt, b"?"),
     }
 }

@@ -1,4 +1,6 @@
 -- A row that was written answers by the ends. Assumes nothing.
+use Rattle.std.specs.Prelude.{Result, Ok}
+use Rattle.refusal.specs.declared.Refusal.{Refusal}
 use Prim.Native.Nat.{ℕ, ◌+◌, ◌-◌, ◌≤◌, ◌<◌}
 use native.Mathlib.Omega.{arith}
 use mathlib.Core.Path.{◌≡◌, ◌∙◌, ap}
@@ -7,8 +9,6 @@ use mathlib.Core.List.{List, [], ◌++◌}
 use lib.ListN.{length, drop, length-append}
 use lib.Dec.{ltb}
 use borrow.Author.Tests.{le-ltb, ltb-false}
-use Rattle.refusal.specs.declared.Answer.{Answer}
-use Rattle.refusal.specs.declared.Answer.TheVariants.{Accepted}
 use Rattle.refusal.specs.Answers.{answer, output}
 use Rattle.refusal.proofs.Causes.{none_of}
 use Rattle.refusal.proofs.Firsts.{accepted_if_none}
@@ -23,7 +23,7 @@ use Rattle.break_map_rules.proofs.Ends.{right_most, ends_rise, ends_within}
 use Rattle.break_map_rules.proofs.Maps.{map_long, break_is, no_end_above}
 use Rattle.theorems_break_map.specs.Same.{WrittenAnswers, WrittenCount}
 
-module _ (n : ℕ) (ends old : List ℕ) {k : ℕ} (h : map_answer n ends (length old) ≡ Accepted k) where
+module _ (n : ℕ) (ends old : List ℕ) {k : ℕ} (h : map_answer n ends (length old) ≡ Ok k) where
   abbrev test : ℕ → Bool
   test p = member p ends
 
@@ -40,7 +40,7 @@ module _ (n : ℕ) (ends old : List ℕ) {k : ℕ} (h : map_answer n ends (lengt
       omega arith
 
   row_is : row ≡ map_of n ends ++ drop (length (map_of n ends)) old
-  row_is = ap (λ (a : Answer). output a (map_of n ends) old) h
+  row_is = ap (λ (a : Result ℕ Refusal). output a (map_of n ends) old) h
 
   row_long : cells_for n ≤ length row
   row_long = omega (arith, ap length row_is, length-append (map_of n ends) (drop (length (map_of n ends)) old), map_long n ends)
@@ -56,18 +56,18 @@ module _ (n : ℕ) (ends old : List ℕ) {k : ℕ} (h : map_answer n ends (lengt
   clear = row_breaks (bits_for n - (n + 1)) (n + 1) (omega arith) ∙ those_none test (bits_for n - (n + 1)) (n + 1) (λ x a b. no_end_above n ends all_right x (omega arith))
 
   module _ (p : ℕ) (l : p ≤ n) where
-    read : (m : ℕ) → answer (read_causes n row p) m ≡ Accepted m
+    read : (m : ℕ) → answer (read_causes n row p) m ≡ Ok m
     read m =
         accepted_if_none (read_causes n row p) m
         (le-ltb 65535 n small, (le-ltb (length row) (cells_for n) row_long, (le-ltb n p l, (ap (λ (xs : List ℕ). ltb 0 (length xs)) clear, tt))))
 
-    pub counts : count_answer n row p ≡ Accepted (how_many test (p + 1) 0)
+    pub counts : count_answer n row p ≡ Ok (how_many test (p + 1) 0)
     unfolding how_many
-    counts = read (breaks_up_to row p) ∙ ap (λ (xs : List ℕ). Accepted (length xs)) (row_breaks (p + 1) 0 (omega arith))
+    counts = read (breaks_up_to row p) ∙ ap (λ (xs : List ℕ). Ok (length xs)) (row_breaks (p + 1) 0 (omega arith))
 
     pub finds : next_answer n row p ≡ first_of (those test (up_from (n - p) (p + 1)))
     finds =
-        ap (λ (a : Answer). unless_refused a (first_of (breaks_above n row p))) (read 0) ∙ ap first_of (row_breaks (n - p) (p + 1) (omega arith))
+        ap (λ (a : Result ℕ Refusal). unless_refused a (first_of (breaks_above n row p))) (read 0) ∙ ap first_of (row_breaks (n - p) (p + 1) (omega arith))
 
   pub counts_all : how_many test (n + 1) 0 ≡ length ends
   unfolding how_many
@@ -78,4 +78,4 @@ pub written_answers : WrittenAnswers
 written_answers n ends old k h p l = (counts n ends old h p l, finds n ends old h p l)
 
 pub written_count : WrittenCount
-written_count n ends old k h = counts n ends old h n (omega arith) ∙ ap Accepted (counts_all n ends old h)
+written_count n ends old k h = counts n ends old h n (omega arith) ∙ ap Ok (counts_all n ends old h)

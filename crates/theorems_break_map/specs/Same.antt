@@ -1,7 +1,6 @@
 -- 02, ticket 9: what is shown of maps and ends.
-use Rattle.std.specs.Prelude.{ℕ, ◌+◌, ◌*◌, ◌-◌, ◌≤◌, ◌<◌, ◌≡◌, false, List, [], ◌∷◌, length, get_or, take}
+use Rattle.std.specs.Prelude.{ℕ, ◌+◌, ◌*◌, ◌-◌, ◌≤◌, ◌<◌, ◌≡◌, false, List, [], ◌∷◌, length, get_or, take, Ok}
 use Rattle.std.specs.Int.Count.{ones}
-use Rattle.refusal.specs.declared.Answer.TheVariants.{Accepted}
 use Rattle.newmm_rules.specs.Positions.{up_from, those, how_many, member, In}
 use Rattle.break_map_rules.specs.Maps.{Cells, cells_for, map_of, bit_at, is_break, all_breaks, breaks_up_to, breaks_above, bits_above}
 use Rattle.break_map_rules.specs.Ends.{AllRight}
@@ -75,14 +74,14 @@ StepsListEnds = (n : ℕ) (ends : List ℕ) → AllRight n ends → Steps n (map
 abbrev pub WrittenAnswers : Type 0
 WrittenAnswers =
     (n : ℕ) (ends old : List ℕ) (k : ℕ)
-    → map_answer n ends (length old) ≡ Accepted k
+    → map_answer n ends (length old) ≡ Ok k
     → (p : ℕ)
     → p ≤ n
-    → (count_answer n (map_after n ends old) p ≡ Accepted (how_many (λ (q : ℕ). member q ends) (p + 1) 0))
+    → (count_answer n (map_after n ends old) p ≡ Ok (how_many (λ (q : ℕ). member q ends) (p + 1) 0))
     × (next_answer n (map_after n ends old) p ≡ first_of (those (λ (q : ℕ). member q ends) (up_from (n - p) (p + 1))))
 
 abbrev pub WrittenCount : Type 0
 WrittenCount =
     (n : ℕ) (ends old : List ℕ) (k : ℕ)
-    → map_answer n ends (length old) ≡ Accepted k
-    → count_answer n (map_after n ends old) n ≡ Accepted (length ends)
+    → map_answer n ends (length old) ≡ Ok k
+    → count_answer n (map_after n ends old) n ≡ Ok (length ends)

@@ -1,4 +1,6 @@
 -- What the verdict on a claim says. Assumes nothing.
+use Rattle.std.specs.Prelude.{Result, Ok, Err}
+use Rattle.refusal.specs.declared.Refusal.{Refusal}
 use Prim.Native.Nat.{ℕ, suc, ◌+◌, ◌*◌, ◌≤◌}
 use native.Mathlib.Omega.{arith}
 use mathlib.Core.Path.{◌≡◌, refl, sym, ◌∙◌, ap, subst}
@@ -8,8 +10,6 @@ use mathlib.Core.Option.{Option, some}
 use lib.ListN.{length, take}
 use lib.Dec.{ltb, eqb}
 use borrow.Author.Tests.{le-ltb, ne_eqb, eqb-false}
-use Rattle.refusal.specs.declared.Answer.{Answer}
-use Rattle.refusal.specs.declared.Answer.TheVariants.{Accepted, Refused}
 use Rattle.refusal.specs.Answers.{answer}
 use Rattle.refusal.proofs.Causes.{none_of}
 use Rattle.lists.specs.Scans.{leading}
@@ -107,17 +107,17 @@ not_ours = record { passes = refl; not_ours = λ h. let e : ◌≡◌ {A = List 
 
 module _ (text claimed : List ℕ) (words : Words) (cells : ℕ) (room : scratch_for (length text) ≤ cells) where
   -- a text of scalars, with scratch enough
-  passing : ltb 65535 (length text) ≡ false → ltb (first_non_scalar text) (length text) ≡ false → answer (first_causes text (some words) cells) 0 ≡ Accepted 0
+  passing : ltb 65535 (length text) ≡ false → ltb (first_non_scalar text) (length text) ≡ false → answer (first_causes text (some words) cells) 0 ≡ Ok 0
   passing few legal = all_pass (first_causes text (some words) cells) 0 (few, (legal, (refl, (le-ltb cells (9 * length text + 128) room, tt))))
 
   -- a call that gave a verdict was not refused, so the other is not
-  same_told : (cells' : ℕ) (x : Answer) → answer (first_causes text (some words) cells') 0 ≡ x → (v : Verdict) → claim_told x (verdict (given words text) claimed) ≡ verdict_told v
+  same_told : (cells' : ℕ) (x : Result ℕ Refusal) → answer (first_causes text (some words) cells') 0 ≡ x → (v : Verdict) → claim_told x (verdict (given words text) claimed) ≡ verdict_told v
       → claim_answer text (some words) cells claimed ≡ verdict_told v
-  same_told cells' (Accepted n) e v h =
+  same_told cells' (Ok n) e v h =
       let r = none_of (first_causes text (some words) cells') 0 n e in
-      ap (λ (x : Answer). claim_told x (verdict (given words text) claimed)) (passing r.0 r.1.0) ∙ h
-  same_told cells' (Refused r) e right h = absurd (let z : ◌≡◌ {A = ℕ} 0 1 = cc in omega arith)
-  same_told cells' (Refused r) e (wrong k) h = absurd (let z : ◌≡◌ {A = ℕ} 0 1 = cc in omega arith)
+      ap (λ (x : Result ℕ Refusal). claim_told x (verdict (given words text) claimed)) (passing r.0 r.1.0) ∙ h
+  same_told cells' (Err r) e right h = absurd (let z : ◌≡◌ {A = ℕ} 0 1 = cc in omega arith)
+  same_told cells' (Err r) e (wrong k) h = absurd (let z : ◌≡◌ {A = ℕ} 0 1 = cc in omega arith)
 
 pub same_words_same_verdict : SameWordsSameVerdict
 same_words_same_verdict a b v w pa pb same text claimed u h room =
@@ -143,6 +143,6 @@ answers_pass a c v w n edges pa pc same plain h text claimed room =
     let few : ltb 65535 (length c.text) ≡ false = ap (λ (l : List ℕ). ltb 65535 (length l)) text ∙ r.0 in
     let legal : ltb (first_non_scalar c.text) (length c.text) ≡ false = ap (λ (l : List ℕ). ltb (first_non_scalar l) (length l)) text ∙ r.1.0 in
     ap (λ (m : Option Words). claim_answer c.text m (length c.scratch) c.claimed) pc
-    ∙ ap (λ (x : Answer). claim_told x (verdict (given w c.text) c.claimed)) (passing c.text c.claimed w (length c.scratch) room few legal)
+    ∙ ap (λ (x : Result ℕ Refusal). claim_told x (verdict (given w c.text) c.claimed)) (passing c.text c.claimed w (length c.scratch) room few legal)
     ∙ ap (λ (l : List ℕ). verdict_told (verdict (given w c.text) l)) ours
     ∙ ap verdict_told (ours_pass w c.text)

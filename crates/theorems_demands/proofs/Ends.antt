@@ -1,4 +1,5 @@
 -- What the ends of every answer are. Assumes nothing.
+use Rattle.std.specs.Prelude.{Ok}
 use Prim.Native.Nat.{ℕ, suc, ◌+◌, ◌-◌, ◌≤◌, ◌<◌, min}
 use native.Mathlib.Omega.{arith}
 use native.Mathlib.Decide.{dec_lt}
@@ -8,7 +9,6 @@ use mathlib.Core.List.{List, [], ◌∷◌}
 use mathlib.Core.Option.{Option, some}
 use lib.ListN.{length, get_or, take, drop, length-drop}
 use lib.Seq.{get_or-take, length-take-le}
-use Rattle.refusal.specs.declared.Answer.TheVariants.{Accepted}
 use Rattle.refusal.proofs.Causes.{none_of}
 use Rattle.trie_pool.specs.Words.{Word, holds}
 use Rattle.trie_pool.specs.Rules.{cells_of}
@@ -24,8 +24,7 @@ use Rattle.newmm_rules.specs.declared.Mode.{Mode}
 use Rattle.newmm_rules.specs.declared.Mode.TheVariants.{Plain}
 use Rattle.newmm_rules.proofs.Positions.{in_those, in_up}
 use Rattle.newmm_rules.proofs.Climbing.{rises, last_is, no_ends}
-use Rattle.newmm_answers.specs.declared.CutAnswer.TheVariants.{Ends}
-use Rattle.newmm_answers.specs.Answers.{given, cut_of, cut_causes, accepts, out_after}
+use Rattle.newmm_answers.specs.Answers.{accepted_with, given, cut_of, cut_causes, accepts, out_after}
 use Rattle.newmm_answers.specs.Calls.{Call, answer_of, out_of}
 use Rattle.newmm_answers.proofs.Cuts.{cut_climbs}
 use Rattle.newmm_answers.proofs.Cuts as cuts
@@ -75,7 +74,7 @@ pub record Told (c : Call) (n edges : ℕ) : Type 0 where
   pub many : length (cut_of c.mode words c.text).ends ≡ n
   pub counted : (cut_of c.mode words c.text).edges ≡ edges
 
-pub told : (c : Call) (n edges : ℕ) → answer_of c ≡ Ends n edges → Told c n edges
+pub told : (c : Call) (n edges : ℕ) → answer_of c ≡ accepted_with n edges → Told c n edges
 told c n edges h =
     let mode = c.mode in
     let text = c.text in
@@ -85,7 +84,7 @@ told c n edges h =
     let none = none_of (cut_causes mode text (meaning c.pool) cells room) (length (cut_of mode (held (meaning c.pool)) text).ends) n t.0 in
     let words = holds (cells_of c.pool) in
     let means : meaning c.pool ≡ some words = meaning_yes c.pool (known_is c.pool none.1.1.0) in
-    let a : accepts mode text (some words) cells room ≡ Accepted n = sym (ap (λ (m : Option Words). accepts mode text m cells room) means) ∙ t.0 in
+    let a : accepts mode text (some words) cells room ≡ Ok n = sym (ap (λ (m : Option Words). accepts mode text m cells room) means) ∙ t.0 in
     record {
       words = words;
       means = means;

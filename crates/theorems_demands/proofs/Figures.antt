@@ -1,4 +1,6 @@
 -- Release figures: runs, batches, refusal 13, and demand 3. Assumes nothing.
+use Rattle.std.specs.Prelude.{Result, Err}
+use Rattle.refusal.specs.declared.Refusal.{Refusal}
 use Prim.Native.Nat.{ℕ, zero, suc, ◌+◌, ◌*◌, ◌≤◌, ◌<◌}
 use native.Mathlib.Omega.{arith}
 use mathlib.Core.Path.{◌≡◌, refl, sym, ◌∙◌, ap, subst}
@@ -8,12 +10,9 @@ use lib.ListN.{length, take, length-map}
 use lib.Dec.{ltb, eqb}
 use borrow.Author.Tests.{le-leb, le-ltb, eq-eqb, ne_eqb}
 use Rattle.refusal.specs.declared.Refusal.TheVariants.{FiguresFull}
-use Rattle.refusal.specs.declared.Answer.{Answer}
 use Rattle.trie_pool.specs.Meaning.{meaning}
 use Rattle.trie_check.specs.Refusals.{held}
-use Rattle.newmm_answers.specs.declared.CutAnswer.{CutAnswer}
-use Rattle.newmm_answers.specs.declared.CutAnswer.TheVariants as variants
-use Rattle.newmm_answers.specs.Answers.{cut_of, accepts}
+use Rattle.newmm_answers.specs.Answers.{accepted_with, cut_of, accepts}
 use Rattle.newmm_answers.specs.Calls.{Call}
 use Rattle.newmm_answers.proofs.Told.{told_refused}
 use Rattle.newmm_reasons_answers.specs.Told.{told_of}
@@ -156,38 +155,38 @@ refused_adds old number h l =
 -- ---- refusal 13
 
 module _ (a : List ℕ) (c : Call) where
-  full_answer : full a (text_figures c) ≡ true → feed_answer a c ≡ variants.Refused FiguresFull
-  full_answer e = ap (λ (t : Bool). cond t (variants.Refused FiguresFull) (reasons_answer_of c)) e
+  full_answer : full a (text_figures c) ≡ true → feed_answer a c ≡ Err FiguresFull
+  full_answer e = ap (λ (t : Bool). cond t (Err FiguresFull) (reasons_answer_of c)) e
 
   fed_answer : full a (text_figures c) ≡ false → feed_answer a c ≡ reasons_answer_of c
-  fed_answer e = ap (λ (t : Bool). cond t (variants.Refused FiguresFull) (reasons_answer_of c)) e
+  fed_answer e = ap (λ (t : Bool). cond t (Err FiguresFull) (reasons_answer_of c)) e
 
   fed_pairs : full a (text_figures c) ≡ false → pairs_fed a c ≡ pairs_of c
   fed_pairs e = ap (λ (t : Bool). cond t c.out (pairs_of c)) e
 
   -- a call that isn't refused with 13
-  not_full : (feed_answer a c ≡ variants.Refused FiguresFull → ⊥) → full a (text_figures c) ≡ false
+  not_full : (feed_answer a c ≡ Err FiguresFull → ⊥) → full a (text_figures c) ≡ false
   not_full n = go (full a (text_figures c)) refl
     where
       go : (t : Bool) → full a (text_figures c) ≡ t → full a (text_figures c) ≡ false
       go true e = absurd (n (full_answer e))
       go false e = e
 
-  ends_not_full : (n edges : ℕ) → feed_answer a c ≡ variants.Ends n edges → full a (text_figures c) ≡ false
+  ends_not_full : (n edges : ℕ) → feed_answer a c ≡ accepted_with n edges → full a (text_figures c) ≡ false
   ends_not_full n edges h = not_full (λ e. apart (sym h ∙ e))
     where
-      apart : variants.Ends n edges ≡ variants.Refused FiguresFull → ⊥
+      apart : accepted_with n edges ≡ Err FiguresFull → ⊥
       apart q = let z : ◌≡◌ {A = ℕ} 0 1 = cc in omega arith
 
 pub thirteen_if_full : ThirteenIfFull
 thirteen_if_full a c = (full_answer a c, fed_answer a c)
 
 -- a text has one of the refusals 1 to 6
-no_thirteen : (c : Call) → reasons_answer_of c ≡ variants.Refused FiguresFull → ⊥
+no_thirteen : (c : Call) → reasons_answer_of c ≡ Err FiguresFull → ⊥
 no_thirteen c h =
     let took = told_refused (accepts c.mode c.text (meaning c.pool) (length c.scratch) (pair_room c.out)) (cut_of c.mode (held (meaning c.pool)) c.text).edges FiguresFull h in
     let fits : OfText (refused 13) =
-    subst (λ (x : Answer). OfText (outcome x (length c.text) (reasons_told (told_of c.mode (held (meaning c.pool)) c.text)) (cut_of c.mode (held (meaning c.pool)) c.text).edges)) took (outcome_of_text c) in
+    subst (λ (x : Result ℕ Refusal). OfText (outcome x (length c.text) (reasons_told (told_of c.mode (held (meaning c.pool)) c.text)) (cut_of c.mode (held (meaning c.pool)) c.text).edges)) took (outcome_of_text c) in
     omega (arith, fits.1)
 
 pub thirteen_only_if_full : ThirteenOnlyIfFull

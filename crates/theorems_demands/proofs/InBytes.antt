@@ -1,4 +1,6 @@
 -- Demand 3 holds in bytes. Assumes nothing.
+use Rattle.std.specs.Prelude.{Result, Ok}
+use Rattle.refusal.specs.declared.Refusal.{Refusal}
 use Prim.Native.Nat.{ℕ, ◌+◌, ◌<◌}
 use native.Mathlib.Omega.{arith}
 use mathlib.Core.Path.{◌≡◌, refl, sym, ◌∙◌, ap}
@@ -7,8 +9,6 @@ use mathlib.Core.List.{List, ◌++◌, map}
 use lib.Dec.{leb}
 use lib.ListN.{length, take, drop, length-append, get_or-append}
 use borrow.Author.Tests.{leb-true, lt-ltb, not-false}
-use Rattle.refusal.specs.declared.Answer.{Answer}
-use Rattle.refusal.specs.declared.Answer.TheVariants.{Accepted}
 use Rattle.refusal.specs.Answers.{output}
 use Rattle.refusal.proofs.Causes.{none_of}
 use Rattle.utf8.specs.declared.InBytes.{InBytes}
@@ -36,7 +36,7 @@ kept row rest n end h = go (leb end n) refl
 abbrev of_bytes : List ℕ → List ℕ → List InBytes
 of_bytes bytes ends = map (λ (end : ℕ). end_in_bytes (positions_of bytes) (length (scalars_of bytes)) end) ends
 
-shown : (d : Decoding) (k : ℕ) → answered d ≡ Accepted k → (text ends : List ℕ) → text ≡ scalars_of d.bytes → ends_in_bytes d (length text) ends ≡ of_bytes d.bytes ends
+shown : (d : Decoding) (k : ℕ) → answered d ≡ Ok k → (text ends : List ℕ) → text ≡ scalars_of d.bytes → ends_in_bytes d (length text) ends ≡ of_bytes d.bytes ends
 shown d k e text ends t =
     let bytes = d.bytes in
     let row = positions_of bytes in
@@ -45,7 +45,7 @@ shown d k e text ends t =
     not-false (run_all bytes).whole (none_of (decode_causes bytes (room_in d.scalars d.positions)) (length (scalars_of bytes)) k e).0 in
     let room : length (scalars_of bytes) < length row = omega (arith, (positions_right bytes whole).cells) in
     ap (λ (x : List ℕ). ends_in_bytes d (length x) ends) t
-    ∙ ap (λ (a : Answer). map (λ (end : ℕ). end_in_bytes (output a row d.positions) (length (scalars_of bytes)) end) ends) e
+    ∙ ap (λ (a : Result ℕ Refusal). map (λ (end : ℕ). end_in_bytes (output a row d.positions) (length (scalars_of bytes)) end) ends) e
     ∙ (λ i. map (λ (end : ℕ). kept row rest (length (scalars_of bytes)) end room i) ends)
 
 pub demand_3_any_in_bytes : Demand3AnyInBytes

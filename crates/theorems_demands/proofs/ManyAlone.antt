@@ -1,5 +1,8 @@
 -- Many texts with room for all: each is told what it is told by itself, in any order. Assumes
 -- nothing.
+use Rattle.std.specs.Prelude.{Result, Ok, Err}
+use Rattle.newmm_rules.specs.declared.Ends.{Ends}
+use Rattle.refusal.specs.declared.Refusal.{Refusal}
 use Prim.Native.Nat.{ℕ, ◌+◌, ◌≤◌}
 use native.Mathlib.Omega.{arith}
 use mathlib.Core.Path.{◌≡◌, refl, sym, ◌∙◌, ap, subst}
@@ -10,15 +13,12 @@ use lib.ListN.{length, take, drop, replicate, length-append, length-drop, length
 use lib.Seq.{take_at, drop-drop}
 use borrow.Author.Tests.{le-ltb}
 use Rattle.refusal.specs.declared.Refusal.TheVariants.{OutputTooShort}
-use Rattle.refusal.specs.declared.Answer.{Answer}
-use Rattle.refusal.specs.declared.Answer.TheVariants.{Accepted, Refused}
 use Rattle.refusal.specs.Answers.{answer, output}
 use Rattle.refusal.proofs.Order.{refused_first, accepted_first}
 use Rattle.trie_pool.specs.Meaning.{Words, meaning}
 use Rattle.trie_check.specs.Refusals.{held}
 use Rattle.newmm_rules.specs.declared.Mode.{Mode}
 use Rattle.newmm_rules.specs.Cutting.{Cut}
-use Rattle.newmm_answers.specs.declared.CutAnswer.{CutAnswer}
 use Rattle.newmm_answers.specs.Answers.{cut_of, first_causes, out_causes, accepts, told, scratch_after}
 use Rattle.newmm_answers.proofs.Cuts.{few_ends}
 use Rattle.newmm_many_answers.specs.Texts.{texts_of}
@@ -35,14 +35,14 @@ module _ (s : Shape) (mode : Mode) (m : Option Words) (cells : ℕ) (text : List
   abbrev made : List ℕ
   made = s.made mode (held m) text
 
-  abbrev first : Answer
+  abbrev first : Result ℕ Refusal
   first = answer (first_causes text m cells) 0
 
   -- where refusals 2 to 5 are not due, the room decides, and the text's length is room enough
-  late : (n room : ℕ) → first ≡ Accepted n → length cut.ends ≤ room → accepts mode text m cells room ≡ Accepted (length cut.ends)
+  late : (n room : ℕ) → first ≡ Ok n → length cut.ends ≤ room → accepts mode text m cells room ≡ Ok (length cut.ends)
   late n room e h =
       accepted_first (first_causes text m cells) (out_causes cut.ends room) 0 (length cut.ends) e
-      ∙ ap (λ (b : Bool). cond b (Refused (OutputTooShort (length cut.ends))) (Accepted (length cut.ends))) (le-ltb room (length cut.ends) h)
+      ∙ ap (λ (b : Bool). cond b (Err (OutputTooShort (length cut.ends))) (Ok (length cut.ends))) (le-ltb room (length cut.ends) h)
 
   -- two calls for a text are told the same and write the same, if the one has room for what the
   -- other wrote in an output that was long enough
@@ -50,26 +50,26 @@ module _ (s : Shape) (mode : Mode) (m : Option Words) (cells : ℕ) (text : List
       → (telling s mode m cells text o ≡ telling s mode m cells text p) × (writing s mode m cells text o ≡ writing s mode m cells text p)
   same_told o p big h = go first refl
     where
-      wrote : (l : List ℕ) → accepts mode text m cells (s.room (length l)) ≡ Accepted (length cut.ends) → writing s mode m cells text l ≡ made
+      wrote : (l : List ℕ) → accepts mode text m cells (s.room (length l)) ≡ Ok (length cut.ends) → writing s mode m cells text l ≡ made
       wrote l e =
-          ap (λ (x : Answer). take (s.cells (ends_told (told x cut.edges))) (output x made l)) e
+          ap (λ (x : Result ℕ Refusal). take (s.cells (ends_told (told x cut.edges))) (output x made l)) e
           ∙ take_at made (drop (length made) l) (s.cells (length cut.ends)) (s.long mode (held m) text)
 
-      go : (x : Answer) → first ≡ x → (telling s mode m cells text o ≡ telling s mode m cells text p) × (writing s mode m cells text o ≡ writing s mode m cells text p)
-      go (Accepted n) e =
+      go : (x : Result ℕ Refusal) → first ≡ x → (telling s mode m cells text o ≡ telling s mode m cells text p) × (writing s mode m cells text o ≡ writing s mode m cells text p)
+      go (Ok n) e =
           let b = late n (s.room (length p)) e (omega (arith, s.enough (length text) (length p) big, few_ends mode (held m) text)) in
-          let k : taking s mode m cells text p ≡ s.cells (length cut.ends) = ap (λ (x : Answer). s.cells (ends_told (told x cut.edges))) b in
+          let k : taking s mode m cells text p ≡ s.cells (length cut.ends) = ap (λ (x : Result ℕ Refusal). s.cells (ends_told (told x cut.edges))) b in
           let a = late n (s.room (length o)) e (s.enough (length cut.ends) (length o) (omega (arith, h, k))) in
-          (ap (λ (x : Answer). told x cut.edges) (a ∙ sym b), wrote o a ∙ sym (wrote p b))
-      go (Refused r) e =
-          let f : (room : ℕ) → accepts mode text m cells room ≡ Refused r =
+          (ap (λ (x : Result ℕ Refusal). told x cut.edges) (a ∙ sym b), wrote o a ∙ sym (wrote p b))
+      go (Err r) e =
+          let f : (room : ℕ) → accepts mode text m cells room ≡ Err r =
           λ room. refused_first (first_causes text m cells) (out_causes cut.ends room) 0 (length cut.ends) e in (
-            ap (λ (x : Answer). told x cut.edges) (f (s.room (length o)) ∙ sym (f (s.room (length p)))),
+            ap (λ (x : Result ℕ Refusal). told x cut.edges) (f (s.room (length o)) ∙ sym (f (s.room (length p)))),
             nothing o (f (s.room (length o))) ∙ sym (nothing p (f (s.room (length p)))),
           )
         where
-          nothing : (l : List ℕ) → accepts mode text m cells (s.room (length l)) ≡ Refused r → writing s mode m cells text l ≡ []
-          nothing l q = ap (λ (x : Answer). take (s.cells (ends_told (told x cut.edges))) (output x made l)) q ∙ ap (λ (k : ℕ). take k l) (no_cells s)
+          nothing : (l : List ℕ) → accepts mode text m cells (s.room (length l)) ≡ Err r → writing s mode m cells text l ≡ []
+          nothing l q = ap (λ (x : Result ℕ Refusal). take (s.cells (ends_told (told x cut.edges))) (output x made l)) q ∙ ap (λ (k : ℕ). take k l) (no_cells s)
 
 module _ (s : Shape) (meant : List ℕ → Option Words) (mode : Mode) (pool : List ℕ) where
   abbrev m : Option Words
@@ -105,7 +105,7 @@ module _ (s : Shape) (meant : List ℕ → Option Words) (mode : Mode) (pool : L
       let r = all_wrote (all cells ts) in
       let n : taking s mode m cells t (own t) ≡ length w = sym (writing_long s mode m cells t (own t)) ∙ ap length (sym x.1) in
       let z = same_told s mode m cells t out (own t) (omega (arith, length-replicate {A = ℕ} (s.cells (length t)) 0)) (omega (arith, h, length-append w r, n)) in
-      let d : rest_of (one t out scratch) ≡ drop (length w) out = rest_is s mode m cells t out ∙ ap (λ (k : CutAnswer). drop (s.cells (ends_told k)) out) z.0 ∙ ap (λ (k : ℕ). drop k out) n in
+      let d : rest_of (one t out scratch) ≡ drop (length w) out = rest_is s mode m cells t out ∙ ap (λ (k : Result Ends Refusal). drop (s.cells (ends_told k)) out) z.0 ∙ ap (λ (k : ℕ). drop k out) n in
       let l = scratch_as_long t m scratch in
       let ih = by_itself ts (rest_of (one t out scratch)) (scratch_after t m scratch)
       (omega (arith, h, length-append w r, ap (λ (k : ℕ). length (all_wrote (all k ts))) l, ap length d, length-drop (length w) out)) in (

@@ -1,5 +1,8 @@
 -- The single calls that calls with many texts stand for: the cut and the cut with reasons have one
 -- shape. Assumes nothing.
+use Rattle.std.specs.Prelude.{Result, Ok, Err}
+use Rattle.newmm_rules.specs.declared.Ends.{Ends}
+use Rattle.refusal.specs.declared.Refusal.{Refusal}
 use Prim.Native.Nat.{ℕ, ◌+◌, ◌*◌, ◌/◌, ◌≤◌}
 use native.Mathlib.Omega.{arith}
 use mathlib.Core.Path.{◌≡◌, refl, sym, ◌∙◌, ap}
@@ -7,13 +10,10 @@ use mathlib.Core.List.{List}
 use mathlib.Core.Option.{Option}
 use lib.ListN.{length, take, drop}
 use lib.Seq.{drop_at, length-take-le}
-use Rattle.refusal.specs.declared.Answer.{Answer}
-use Rattle.refusal.specs.declared.Answer.TheVariants.{Accepted, Refused}
 use Rattle.refusal.specs.Answers.{output}
 use Rattle.trie_pool.specs.Meaning.{Words}
 use Rattle.trie_check.specs.Refusals.{held}
 use Rattle.newmm_rules.specs.declared.Mode.{Mode}
-use Rattle.newmm_answers.specs.declared.CutAnswer.{CutAnswer}
 use Rattle.newmm_answers.specs.Answers.{cut_of, accepts, told, cut_answer, scratch_after}
 use Rattle.newmm_reasons_answers.specs.Told.{told_of}
 use Rattle.newmm_reasons_answers.specs.Answers.{pairs}
@@ -64,14 +64,14 @@ module _ (s : Shape) where
 
 -- a text in a mode, the pool having this meaning, by so many cells of scratch
 module _ (s : Shape) (mode : Mode) (m : Option Words) (cells : ℕ) (text out : List ℕ) where
-  abbrev accepted : Answer
+  abbrev accepted : Result ℕ Refusal
   accepted = accepts mode text m cells (s.room (length out))
 
   abbrev made : List ℕ
   made = s.made mode (held m) text
 
   -- what is told, how many cells it takes, what stands in the output, and what was written
-  abbrev pub telling : CutAnswer
+  abbrev pub telling : Result Ends Refusal
   telling = cut_answer mode text m cells (s.room (length out))
 
   abbrev pub taking : ℕ
@@ -96,13 +96,13 @@ module _ (s : Shape) (mode : Mode) (m : Option Words) (cells : ℕ) (text out : 
   pub rest_is : drop taking leaving ≡ drop taking out
   rest_is = go accepted refl
     where
-      go : (x : Answer) → accepted ≡ x
+      go : (x : Result ℕ Refusal) → accepted ≡ x
           → drop (s.cells (ends_told (told x (cut_of mode (held m) text).edges))) (output x made out) ≡ drop (s.cells (ends_told (told x (cut_of mode (held m) text).edges))) out
-      go (Accepted n) h =
+      go (Ok n) h =
           let q = accepted_fits mode text m cells (s.room (length out)) n h in
           let e : length made ≡ s.cells n = s.long mode (held m) text ∙ ap s.cells (sym q.0) in
           drop_at made (drop (length made) out) (s.cells n) e ∙ ap (λ (k : ℕ). drop k out) e
-      go (Refused r) h = refl
+      go (Err r) h = refl
 
 -- the single call
 abbrev pub shaped : Shape → Mode → Option Words → Singly

@@ -1,4 +1,6 @@
 -- Many texts in one call: each text as in a single call, scratch, and demand 3. Assumes nothing.
+use Rattle.std.specs.Prelude.{Result, Ok, Err}
+use Rattle.newmm_rules.specs.declared.Ends.{Ends}
 use Prim.Native.Nat.{ℕ, ◌+◌, ◌≤◌, ◌<◌}
 use native.Mathlib.Omega.{arith}
 use mathlib.Core.Path.{◌≡◌, refl, sym, ◌∙◌, ap}
@@ -8,16 +10,11 @@ use lib.ListN.{length, get_or, take, drop, length-drop}
 use Rattle.refusal.specs.declared.Refusal.{Refusal}
 use Rattle.refusal.specs.declared.Refusal.TheVariants.{IllFormed, TooManyScalars, NotAScalar, NotADictionary, ScratchTooShort}
 use Rattle.refusal.specs.declared.Refusal.TheVariants.{OutputTooShort, WordTooLong, TooFewNodes, BadImage, WrongPosition, BitAboveEnd, LimitsTooLarge, FiguresFull}
-use Rattle.refusal.specs.declared.Answer.{Answer}
-use Rattle.refusal.specs.declared.Answer.TheVariants.{Accepted}
 use Rattle.refusal.specs.Numbers.{number_of}
 use Rattle.refusal.specs.Answers.{answer, output}
 use Rattle.trie_pool.specs.Meaning.{Words, words_in, meaning}
 use Rattle.trie_pool.proofs.Terms.{means_of}
-use Rattle.newmm_answers.specs.declared.CutAnswer.{CutAnswer}
-use Rattle.newmm_answers.specs.declared.CutAnswer.TheVariants.{Ends}
-use Rattle.newmm_answers.specs.declared.CutAnswer.TheVariants as variants
-use Rattle.newmm_answers.specs.Answers.{scratch_for, first_causes}
+use Rattle.newmm_answers.specs.Answers.{accepted_with, scratch_for, first_causes}
 use Rattle.newmm_answers.specs.Calls.{Call, call}
 use Rattle.newmm_answers.proofs.Told.{accepted_is}
 use Rattle.newmm_many_answers.specs.Texts.{texts_of}
@@ -34,7 +31,7 @@ use Rattle.theorems_demands.proofs.ManyTurns.{nth, texts_number, nth_text, used_
 
 -- ---- an accepted call
 
-module _ (s : Shape) (meant : List ℕ → Option Words) (c : ManyCall) (n : ℕ) (ok : many_answer c ≡ Accepted n) where
+module _ (s : Shape) (meant : List ℕ → Option Words) (c : ManyCall) (n : ℕ) (ok : many_answer c ≡ Ok n) where
   abbrev one : Singly
   one = (form s meant).one c
 
@@ -45,13 +42,13 @@ module _ (s : Shape) (meant : List ℕ → Option Words) (c : ManyCall) (n : ℕ
   number = accepted_is (many_causes (length c.row) c.ends (length c.answers)) (length c.ends) n ok
 
   rows : answers_by one c ≡ all_cells turns.told ++ drop (length (all_cells turns.told)) c.answers
-  rows = ap (λ (x : Answer). output x (all_cells turns.told) c.answers) ok
+  rows = ap (λ (x : Result ℕ Refusal). output x (all_cells turns.told) c.answers) ok
 
   out_is : out_by one c ≡ turns.out
-  out_is = ap (λ (x : Answer). unless x turns.out c.out) ok
+  out_is = ap (λ (x : Result ℕ Refusal). unless x turns.out c.out) ok
 
   scratch_is : scratch_by one c ≡ turns.scratch
-  scratch_is = ap (λ (x : Answer). unless x turns.scratch c.scratch) ok
+  scratch_is = ap (λ (x : Result ℕ Refusal). unless x turns.scratch c.scratch) ok
 
   as_many : length turns.told ≡ n
   as_many = told_number s c.mode (meant c.pool) (texts_of c.row c.ends) c.out c.scratch ∙ texts_number c.row 0 c.ends ∙ number
@@ -126,9 +123,9 @@ some_number LimitsTooLarge e = omega arith
 some_number FiguresFull e = omega arith
 
 -- number 0 is told of an accepted text alone
-pub cells_ends : (a : CutAnswer) (k edges : ℕ) → cells_of a ≡ 0 ∷ k ∷ edges ∷ 0 ∷ [] → a ≡ Ends k edges
-cells_ends (Ends n e) k edges h = (λ i. Ends (get_or (h i) 1 0) (get_or (h i) 2 0))
-cells_ends (variants.Refused r) k edges h = absurd (some_number r (ap (λ (l : List ℕ). get_or l 0 0) h))
+pub cells_ends : (a : Result Ends Refusal) (k edges : ℕ) → cells_of a ≡ 0 ∷ k ∷ edges ∷ 0 ∷ [] → a ≡ accepted_with k edges
+cells_ends (accepted_with n e) k edges h = (λ i. accepted_with (get_or (h i) 1 0) (get_or (h i) 2 0))
+cells_ends (Err r) k edges h = absurd (some_number r (ap (λ (l : List ℕ). get_or l 0 0) h))
 
 -- the single calls of two forms answer alike
 abbrev pub Alike : (f g : Form) → (x y : Call) → Type 0
@@ -136,19 +133,19 @@ Alike f g x y =
     x.text ≡ y.text
     → x.mode ≡ y.mode
     → (k edges : ℕ)
-    → f.answer x ≡ Ends k edges
+    → f.answer x ≡ accepted_with k edges
     → scratch_for (length y.text) ≤ length y.scratch
     → g.cells k ≤ length y.out
-    → (g.answer y ≡ Ends k edges) × (take (g.cells k) (g.after y) ≡ take (f.cells k) (f.after x))
+    → (g.answer y ≡ accepted_with k edges) × (take (g.cells k) (g.after y) ≡ take (f.cells k) (f.after x))
 
 module _ (f g : Form) (sf : ManyIsSingleFor f) (sg : ManyIsSingleFor g) (a b : ManyCall) where
   -- what stands in the output for a text that was told k tokens
-  wrote : (h : Form) → ManyIsSingleFor h → (c : ManyCall) (n i k edges : ℕ) → many_answer c ≡ Accepted n → i < n → h.answer (single_call h c i) ≡ Ends k edges
+  wrote : (h : Form) → ManyIsSingleFor h → (c : ManyCall) (n i k edges : ℕ) → many_answer c ≡ Ok n → i < n → h.answer (single_call h c i) ≡ accepted_with k edges
       → take (h.cells k) (drop (start_of h c i) (out_by (h.one c) c)) ≡ take (h.cells k) (h.after (single_call h c i))
   wrote h sh c n i k edges ok l e =
-      sym (ap (λ (t : CutAnswer). take (h.cells (ends_told t)) (drop (start_of h c i) (out_by (h.one c) c))) e)
+      sym (ap (λ (t : Result Ends Refusal). take (h.cells (ends_told t)) (drop (start_of h c i) (out_by (h.one c) c))) e)
       ∙ (sh c n i ok l).1
-      ∙ ap (λ (t : CutAnswer). take (h.cells (ends_told t)) (h.after (single_call h c i))) e
+      ∙ ap (λ (t : Result Ends Refusal). take (h.cells (ends_told t)) (h.after (single_call h c i))) e
 
   pub any_texts_same : ((i j : ℕ) → Alike f g (single_call f a i) (single_call g b j)) → AnyTextsSame f g a b
   any_texts_same d n m i j oa ob li lj text mode k edges h scratch room =

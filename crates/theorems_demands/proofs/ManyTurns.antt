@@ -1,4 +1,7 @@
 -- Texts that are answered one after the other, text by text. Assumes nothing.
+use Rattle.std.specs.Prelude.{Result, Ok, Err}
+use Rattle.newmm_rules.specs.declared.Ends.{Ends}
+use Rattle.refusal.specs.declared.Refusal.{Refusal}
 use Prim.Native.Nat.{ℕ, zero, suc, ◌+◌, ◌*◌, ◌-◌, ◌≤◌, ◌<◌}
 use native.Mathlib.Omega.{arith}
 use mathlib.Core.Path.{◌≡◌, refl, sym, ◌∙◌, ap, subst}
@@ -6,16 +9,11 @@ use mathlib.Core.List.{List, [], ◌∷◌, ◌++◌, append_assoc}
 use mathlib.Core.Option.{Option}
 use lib.ListN.{length, get_or, take, drop, replicate, length-drop, length-replicate}
 use lib.Seq.{take_at, drop_at, drop-drop}
-use Rattle.refusal.specs.declared.Answer.{Answer}
-use Rattle.refusal.specs.declared.Answer.TheVariants.{Accepted, Refused}
 use Rattle.refusal.specs.Answers.{answer}
 use Rattle.refusal.proofs.Causes.{again}
 use Rattle.trie_pool.specs.Meaning.{Words}
 use Rattle.newmm_rules.specs.declared.Mode.{Mode}
-use Rattle.newmm_answers.specs.declared.CutAnswer.{CutAnswer}
-use Rattle.newmm_answers.specs.declared.CutAnswer.TheVariants.{Ends}
-use Rattle.newmm_answers.specs.declared.CutAnswer.TheVariants as variants
-use Rattle.newmm_answers.specs.Answers.{first_causes, cleared, scratch_after}
+use Rattle.newmm_answers.specs.Answers.{accepted_with, first_causes, cleared, scratch_after}
 use Rattle.newmm_many_answers.specs.Texts.{texts_from}
 use Rattle.newmm_many_answers.specs.Turns.{Singly, Turns, cells_of, all_cells, ends_told, rest_of, in_turn}
 use Rattle.newmm_many_answers.proofs.Answered.{scratch_as_long}
@@ -45,33 +43,33 @@ nth_text row from (e ∷ es) (suc i) h = nth_text row e es i (omega arith)
 -- ---- the answers
 
 -- as many ends as the first i answers tell
-abbrev pub used_before : ℕ → List CutAnswer → ℕ
+abbrev pub used_before : ℕ → List (Result Ends Refusal) → ℕ
 used_before i [] = 0
 used_before zero (a ∷ as') = 0
 used_before (suc i) (a ∷ as') = ends_told a + used_before i as'
 
-abbrev pub nth_told : ℕ → List CutAnswer → List ℕ
+abbrev pub nth_told : ℕ → List (Result Ends Refusal) → List ℕ
 nth_told i [] = []
 nth_told zero (a ∷ as') = cells_of a
 nth_told (suc i) (a ∷ as') = nth_told i as'
 
-four_more : (a : CutAnswer) (i : ℕ) (l : List ℕ) → drop (4 * suc i) (cells_of a ++ l) ≡ drop (4 * i) l
+four_more : (a : Result Ends Refusal) (i : ℕ) (l : List ℕ) → drop (4 * suc i) (cells_of a ++ l) ≡ drop (4 * i) l
 four_more a i l =
     let e : 4 * suc i ≡ 4 + 4 * i = omega arith in
     ap (λ (k : ℕ). drop k (cells_of a ++ l)) e ∙ sym (drop-drop (4 * i) 4 (cells_of a ++ l)) ∙ ap (drop (4 * i)) (drop_at (cells_of a) l 4 (cells_long a))
 
-pub cells_at_nth : (told : List CutAnswer) (rest : List ℕ) (i : ℕ) → i < length told → cells_at i (all_cells told ++ rest) ≡ nth_told i told
+pub cells_at_nth : (told : List (Result Ends Refusal)) (rest : List ℕ) (i : ℕ) → i < length told → cells_at i (all_cells told ++ rest) ≡ nth_told i told
 cells_at_nth [] rest i h = absurd (omega arith)
 cells_at_nth (a ∷ told) rest zero h = ap (take 4) (append_assoc (cells_of a) (all_cells told) rest) ∙ take_at (cells_of a) (all_cells told ++ rest) 4 (cells_long a)
 cells_at_nth (a ∷ told) rest (suc i) h =
     ap (take 4) (ap (drop (4 * suc i)) (append_assoc (cells_of a) (all_cells told) rest) ∙ four_more a i (all_cells told ++ rest)) ∙ cells_at_nth told rest i (omega arith)
 
-pub counts_are : (told : List CutAnswer) (rest : List ℕ) (i : ℕ) → i ≤ length told → counts_before i (all_cells told ++ rest) ≡ used_before i told
+pub counts_are : (told : List (Result Ends Refusal)) (rest : List ℕ) (i : ℕ) → i ≤ length told → counts_before i (all_cells told ++ rest) ≡ used_before i told
 counts_are [] rest zero h = refl
 counts_are [] rest (suc i) h = absurd (omega arith)
 counts_are (a ∷ told) rest zero h = refl
-counts_are (Ends n e ∷ told) rest (suc i) h = ap (λ (k : ℕ). n + k) (counts_are told rest i (omega arith))
-counts_are (variants.Refused r ∷ told) rest (suc i) h = ap (λ (k : ℕ). 0 + k) (counts_are told rest i (omega arith))
+counts_are (accepted_with n e ∷ told) rest (suc i) h = ap (λ (k : ℕ). n + k) (counts_are told rest i (omega arith))
+counts_are (Err r ∷ told) rest (suc i) h = ap (λ (k : ℕ). 0 + k) (counts_are told rest i (omega arith))
 
 -- ---- the turns
 
@@ -126,7 +124,7 @@ module _ (s : Shape) (mode : Mode) (m : Option Words) where
 
   -- ---- scratch
 
-  abbrev first : List ℕ → ℕ → Answer
+  abbrev first : List ℕ → ℕ → Result ℕ Refusal
   first text cells = answer (first_causes text m cells) 0
 
   -- cells of 0 stay so
@@ -135,22 +133,22 @@ module _ (s : Shape) (mode : Mode) (m : Option Words) where
   zeros_stay [] out scratch k e = e
   zeros_stay (t ∷ ts) out scratch k e = zeros_stay ts (rest_of (one t out scratch)) (scratch_after t m scratch) k (go (first t (length scratch)))
     where
-      go : (x : Answer) → cleared x scratch ≡ replicate {A = ℕ} k 0
-      go (Accepted n) = ap (λ (j : ℕ). replicate {A = ℕ} j 0) (ap length e ∙ length-replicate {A = ℕ} k 0)
-      go (Refused r) = e
+      go : (x : Result ℕ Refusal) → cleared x scratch ≡ replicate {A = ℕ} k 0
+      go (Ok n) = ap (λ (j : ℕ). replicate {A = ℕ} j 0) (ap length e ∙ length-replicate {A = ℕ} k 0)
+      go (Err r) = e
 
-  pub some_past : (texts : List (List ℕ)) (out scratch : List ℕ) (i : ℕ) → i < length texts → first (nth i texts) (length scratch) ≡ Accepted 0
+  pub some_past : (texts : List (List ℕ)) (out scratch : List ℕ) (i : ℕ) → i < length texts → first (nth i texts) (length scratch) ≡ Ok 0
       → (in_turn one texts out scratch).scratch ≡ replicate {A = ℕ} (length scratch) 0
   unfolding in_turn
   some_past [] out scratch i h p = absurd (omega arith)
   some_past (t ∷ ts) out scratch zero h p =
-      zeros_stay ts (rest_of (one t out scratch)) (scratch_after t m scratch) (length scratch) (ap (λ (x : Answer). cleared x scratch) p)
+      zeros_stay ts (rest_of (one t out scratch)) (scratch_after t m scratch) (length scratch) (ap (λ (x : Result ℕ Refusal). cleared x scratch) p)
   some_past (t ∷ ts) out scratch (suc i) h p =
       let l = scratch_as_long t m scratch in
       some_past ts (rest_of (one t out scratch)) (scratch_after t m scratch) i (omega arith) (ap (first (nth i ts)) l ∙ p)
       ∙ ap (λ (j : ℕ). replicate {A = ℕ} j 0) l
 
-  pub none_past : (texts : List (List ℕ)) (out scratch : List ℕ) → ((i : ℕ) → i < length texts → first (nth i texts) (length scratch) ≡ Accepted 0 → ⊥)
+  pub none_past : (texts : List (List ℕ)) (out scratch : List ℕ) → ((i : ℕ) → i < length texts → first (nth i texts) (length scratch) ≡ Ok 0 → ⊥)
       → (in_turn one texts out scratch).scratch ≡ scratch
   unfolding in_turn
   none_past [] out scratch h = refl
@@ -159,9 +157,9 @@ module _ (s : Shape) (mode : Mode) (m : Option Words) where
       none_past ts (rest_of (one t out scratch)) (scratch_after t m scratch)
       (λ i l p. h (suc i) (omega arith) (ap (first (nth i ts)) (sym (scratch_as_long t m scratch)) ∙ p)) ∙ e
     where
-      zero_is : (n : ℕ) → first t (length scratch) ≡ Accepted n → first t (length scratch) ≡ Accepted 0
+      zero_is : (n : ℕ) → first t (length scratch) ≡ Ok n → first t (length scratch) ≡ Ok 0
       zero_is n q = sym (again (first_causes t m (length scratch)) 0 0 q)
 
-      go : (x : Answer) → first t (length scratch) ≡ x → cleared x scratch ≡ scratch
-      go (Accepted n) q = absurd (h 0 (omega arith) (zero_is n q))
-      go (Refused r) q = refl
+      go : (x : Result ℕ Refusal) → first t (length scratch) ≡ x → cleared x scratch ≡ scratch
+      go (Ok n) q = absurd (h 0 (omega arith) (zero_is n q))
+      go (Err r) q = refl

@@ -11,8 +11,7 @@ use Rattle.trie_pool.specs.Meaning.{meaning}
 use Rattle.trie_check.specs.Refusals.{held}
 use Rattle.newmm_rules.specs.inner.Climbing.{Climbs, up}
 use Rattle.newmm_rules.proofs.Climbing.{onward}
-use Rattle.newmm_answers.specs.declared.CutAnswer.TheVariants.{Ends}
-use Rattle.newmm_answers.specs.Answers.{cut_of, cut_causes, accepts}
+use Rattle.newmm_answers.specs.Answers.{accepted_with, cut_of, cut_causes, accepts}
 use Rattle.newmm_answers.specs.Calls.{Call, answer_of, out_of}
 use Rattle.newmm_answers.proofs.Cuts.{cut_climbs}
 use Rattle.newmm_answers.proofs.Told.{told_ends}
@@ -31,7 +30,7 @@ climbs_right n before [] c = right_nil n before
 climbs_right n before (e ∷ es) (up l c) = right_yes n before e es l (onward c) ∙ ap suc (climbs_right n e es c)
 
 -- the text of a call that answered is no longer than 65,535
-short_text : (c : Call) (k edges : ℕ) → answer_of c ≡ Ends k edges → length c.text ≤ 65535
+short_text : (c : Call) (k edges : ℕ) → answer_of c ≡ accepted_with k edges → length c.text ≤ 65535
 short_text c k edges h =
     let cells = length c.scratch in
     let room = length c.out in

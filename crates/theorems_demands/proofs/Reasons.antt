@@ -1,4 +1,6 @@
 -- What is told of a text, and of a call that answered. Assumes nothing.
+use Rattle.std.specs.Prelude.{Result, Ok}
+use Rattle.refusal.specs.declared.Refusal.{Refusal}
 use Prim.Native.Nat.{ℕ, ◌+◌, ◌*◌, ◌/◌, ◌≤◌}
 use native.Mathlib.Omega.{arith}
 use mathlib.Core.Path.{◌≡◌, refl, sym, ◌∙◌, ap}
@@ -8,8 +10,6 @@ use mathlib.Core.Option.{Option, some}
 use lib.ListN.{length, take, drop, length-map}
 use lib.Seq.{take_at}
 use lib.Dec.{ltb}
-use Rattle.refusal.specs.declared.Answer.{Answer}
-use Rattle.refusal.specs.declared.Answer.TheVariants.{Accepted}
 use Rattle.refusal.specs.Answers.{output}
 use Rattle.refusal.proofs.Causes.{none_of}
 use Rattle.trie_pool.specs.Words.{holds}
@@ -25,8 +25,7 @@ use Rattle.newmm_rules.proofs.Parts.{made_up}
 use Rattle.newmm_rules.proofs.Samples.{Fits}
 use Rattle.newmm_rules.proofs.Modes.{unshifted_fits, behind_space_fits}
 use Rattle.newmm_reason_rules.proofs.Why.{reasoned}
-use Rattle.newmm_answers.specs.declared.CutAnswer.TheVariants.{Ends}
-use Rattle.newmm_answers.specs.Answers.{plain_cut, cut_of, cut_causes, accepts, cut_answer}
+use Rattle.newmm_answers.specs.Answers.{accepted_with, plain_cut, cut_of, cut_causes, accepts, cut_answer}
 use Rattle.newmm_answers.proofs.Plain.{plain_right, plain_tokens}
 use Rattle.newmm_answers.proofs.Told.{told_ends, accepted_is}
 use Rattle.newmm_reasons_answers.specs.Told.{parts_of, parts_by, told_part, told_parts, told_of}
@@ -75,32 +74,32 @@ pub answers_as_cut : AnswersAsCut
 answers_as_cut c out e = ap (cut_answer c.mode c.text (meaning c.pool) (length c.scratch)) (sym e)
 
 -- as many tokens as the answer says
-many_of : (mode : Mode) (text : List ℕ) (pool : Option Words) (n cells room : ℕ) → accepts mode text pool cells room ≡ Accepted n → length (told_of mode (held pool) text) ≡ n
+many_of : (mode : Mode) (text : List ℕ) (pool : Option Words) (n cells room : ℕ) → accepts mode text pool cells room ≡ Ok n → length (told_of mode (held pool) text) ≡ n
 many_of mode text pool n cells room h = as_many (held pool) text mode ∙ accepted_is (cut_causes mode text pool cells room) _ n h
 
 -- the pairs of an accepted call stand at the front of its output
-pub pairs_of : (mode : Mode) (text : List ℕ) (pool : Option Words) (n cells : ℕ) (out : List ℕ) → accepts mode text pool cells (pair_room out) ≡ Accepted n
+pub pairs_of : (mode : Mode) (text : List ℕ) (pool : Option Words) (n cells : ℕ) (out : List ℕ) → accepts mode text pool cells (pair_room out) ≡ Ok n
     → take (2 * n) (pairs_after mode text pool cells out) ≡ pairs (told_of mode (held pool) text)
 pairs_of mode text pool n cells out h =
     let ts = told_of mode (held pool) text in
-    ap (λ (r : Answer). take (2 * n) (output r (pairs ts) out)) h
+    ap (λ (r : Result ℕ Refusal). take (2 * n) (output r (pairs ts) out)) h
     ∙ take_at (pairs ts) (drop (length (pairs ts)) out) (2 * n) (pairs_long ts ∙ ap (λ (k : ℕ). 2 * k) (many_of mode text pool n cells (pair_room out) h))
 
 -- and so do the records
-records_told : (c : RecordsCall) (n : ℕ) → accepts c.mode c.text (meaning c.pool) (length c.scratch) (length c.records) ≡ Accepted n
+records_told : (c : RecordsCall) (n : ℕ) → accepts c.mode c.text (meaning c.pool) (length c.scratch) (length c.records) ≡ Ok n
     → take n (records_of c) ≡ map record_told (told_of c.mode (held (meaning c.pool)) c.text)
 records_told c n h =
     let ts = told_of c.mode (held (meaning c.pool)) c.text in
-    ap (λ (r : Answer). take n (record_rows r (map record_told ts) c.records)) h
+    ap (λ (r : Result ℕ Refusal). take n (record_rows r (map record_told ts) c.records)) h
     ∙ take_at (map record_told ts) (drop (length (map record_told ts)) c.records) n
     (length-map ts record_told ∙ many_of c.mode c.text (meaning c.pool) n (length c.scratch) (length c.records) h)
 
 -- a call that answered had a pool that passes, and told each token as the cut ends it
-module _ (mode : Mode) (text pool : List ℕ) (cells room n edges : ℕ) (h : cut_answer mode text (meaning pool) cells room ≡ Ends n edges) where
+module _ (mode : Mode) (text pool : List ℕ) (cells room n edges : ℕ) (h : cut_answer mode text (meaning pool) cells room ≡ accepted_with n edges) where
   abbrev the_words : Words
   the_words = holds (cells_of pool)
 
-  accepted : accepts mode text (meaning pool) cells room ≡ Accepted n
+  accepted : accepts mode text (meaning pool) cells room ≡ Ok n
   accepted = (told_ends (accepts mode text (meaning pool) cells room) (cut_of mode (held (meaning pool)) text).edges n edges h).0
 
   passes : meaning pool ≡ some the_words

@@ -1,4 +1,5 @@
 -- The profile "sheet", over calls. Assumes nothing.
+use Rattle.std.specs.Prelude.{Result, Ok, Err}
 use Prim.Native.Nat.{ℕ, ◌<◌}
 use native.Mathlib.Omega.{arith}
 use mathlib.Core.Path.{◌≡◌, refl, sym, ◌∙◌, ap, subst}
@@ -8,8 +9,6 @@ use lib.ListN.{length, take}
 use lib.Dec.{ltb}
 use Rattle.refusal.specs.declared.Refusal.{Refusal}
 use Rattle.refusal.specs.declared.Refusal.TheVariants.{OutputTooShort}
-use Rattle.refusal.specs.declared.Answer.{Answer}
-use Rattle.refusal.specs.declared.Answer.TheVariants.{Accepted, Refused}
 use Rattle.refusal.specs.Answers.{Cause, answer, output, out_cause}
 use Rattle.refusal.specs.Numbers.{number_of}
 use Rattle.refusal.proofs.Order.{refused_first, accepted_first}
@@ -20,8 +19,6 @@ use Rattle.newmm_rules.specs.declared.Mode.{Mode}
 use Rattle.newmm_rules.specs.declared.Mode.TheVariants.{Safe, Sheet}
 use Rattle.newmm_rules.specs.Sheet.{InSheetParts, NoSpaceMet}
 use Rattle.newmm_rules.proofs.Sheet.{sheet_parts, sheet_is_safe}
-use Rattle.newmm_answers.specs.declared.CutAnswer.{CutAnswer}
-use Rattle.newmm_answers.specs.declared.CutAnswer.TheVariants as variants
 use Rattle.newmm_answers.specs.Answers.{plain_cut, cut_of, first_causes, out_causes, told}
 use Rattle.newmm_answers.specs.Calls.{Call, out_of}
 use Rattle.newmm_answers.proofs.Plain.{plain_right}
@@ -62,27 +59,27 @@ as_in_safe_mode c m =
 
 -- ---- refusals
 
-told_refused : (x : Answer) (k : ℕ) (r : Refusal) → told x k ≡ variants.Refused r → x ≡ Refused r
-told_refused (Accepted n) k r h = absurd (let z : ◌≡◌ {A = ℕ} 0 1 = cc in omega arith)
-told_refused (Refused q) k r h = let e : q ≡ r = cc in ap Refused e
+told_refused : (x : Result ℕ Refusal) (k : ℕ) (r : Refusal) → told x k ≡ Err r → x ≡ Err r
+told_refused (Ok n) k r h = absurd (let z : ◌≡◌ {A = ℕ} 0 1 = cc in omega arith)
+told_refused (Err q) k r h = let e : q ≡ r = cc in ap Err e
 
 -- the last cause is 6
-six : (needed room n : ℕ) (r : Refusal) → answer (out_cause needed room ∷ []) n ≡ Refused r → number_of r ≡ 6
+six : (needed room n : ℕ) (r : Refusal) → answer (out_cause needed room ∷ []) n ≡ Err r → number_of r ≡ 6
 six needed room n r h = go (ltb room needed) h
   where
-    go : (b : Bool) → cond b (Refused (OutputTooShort needed)) (Accepted n) ≡ Refused r → number_of r ≡ 6
+    go : (b : Bool) → cond b (Err (OutputTooShort needed)) (Ok n) ≡ Err r → number_of r ≡ 6
     go true e = let q : OutputTooShort needed ≡ r = cc in sym (ap number_of q)
     go false e = absurd (let z : ◌≡◌ {A = ℕ} 0 1 = cc in omega arith)
 
 -- a refusal before 6 does not depend on what stands behind the first causes
-before_six : (first : List Cause) (needed needed' room n n' : ℕ) (r : Refusal) → number_of r < 6 → answer (first ++ (out_cause needed room ∷ [])) n ≡ Refused r
-    → answer (first ++ (out_cause needed' room ∷ [])) n' ≡ Refused r
+before_six : (first : List Cause) (needed needed' room n n' : ℕ) (r : Refusal) → number_of r < 6 → answer (first ++ (out_cause needed room ∷ [])) n ≡ Err r
+    → answer (first ++ (out_cause needed' room ∷ [])) n' ≡ Err r
 before_six first needed needed' room n n' r low h = go (answer first 0) refl
   where
-    go : (a : Answer) → answer first 0 ≡ a → answer (first ++ (out_cause needed' room ∷ [])) n' ≡ Refused r
-    go (Accepted k) e = absurd (omega (arith, six needed room n r (sym (accepted_first first (out_cause needed room ∷ []) 0 n e) ∙ h)))
-    go (Refused q) e =
-        let same : Refused q ≡ Refused r = sym (refused_first first (out_cause needed room ∷ []) 0 n e) ∙ h in
+    go : (a : Result ℕ Refusal) → answer first 0 ≡ a → answer (first ++ (out_cause needed' room ∷ [])) n' ≡ Err r
+    go (Ok k) e = absurd (omega (arith, six needed room n r (sym (accepted_first first (out_cause needed room ∷ []) 0 n e) ∙ h)))
+    go (Err q) e =
+        let same : ◌≡◌ {A = Result ℕ Refusal} (Err q) (Err r) = sym (refused_first first (out_cause needed room ∷ []) 0 n e) ∙ h in
         refused_first first (out_cause needed' room ∷ []) 0 n' e ∙ same
 
 pub refused_alike : RefusedAlike
@@ -94,6 +91,6 @@ refused_alike c mode other = (
       let cut' = cut_of other words c.text in
       let a = told_refused (answer (first ++ out_causes cut.ends (length c.out)) (length cut.ends)) cut.edges r h in
       let b = before_six first (length cut.ends) (length cut'.ends) (length c.out) (length cut.ends) (length cut'.ends) r low a in
-      ap (λ (x : Answer). told x cut'.edges) b,
+      ap (λ (x : Result ℕ Refusal). told x cut'.edges) b,
   refl,
 )

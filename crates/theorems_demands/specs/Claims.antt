@@ -7,8 +7,7 @@ use Rattle.newmm_rules.specs.Words.{Given, size}
 use Rattle.newmm_rules.specs.Tokens.{Token, Tokens}
 use Rattle.newmm_rules.specs.Claims.{Verdict, right, wrong, verdict}
 use Rattle.newmm_rules.specs.declared.Mode.TheVariants.{Plain}
-use Rattle.newmm_answers.specs.declared.CutAnswer.TheVariants.{Ends}
-use Rattle.newmm_answers.specs.Answers.{given, cut_of, scratch_for}
+use Rattle.newmm_answers.specs.Answers.{accepted_with, given, cut_of, scratch_for}
 use Rattle.newmm_answers.specs.Calls.{Call, answer_of, out_of}
 use Rattle.newmm_claim.specs.declared.ClaimAnswer.TheVariants.{Right}
 use Rattle.newmm_claim.specs.Answers.{Claim, verdict_told, claim_answer_of}
@@ -52,7 +51,7 @@ AnswersPass =
     → meaning c.pool ≡ some w
     → ((x : List ℕ) → v x ≡ w x)
     → a.mode ≡ Plain
-    → answer_of a ≡ Ends n edges
+    → answer_of a ≡ accepted_with n edges
     → c.text ≡ a.text
     → c.claimed ≡ take n (out_of a)
     → scratch_for (length c.text) ≤ length c.scratch

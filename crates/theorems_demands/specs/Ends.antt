@@ -8,8 +8,7 @@ use Rattle.newmm_rules.specs.Words.{span, word_ends}
 use Rattle.newmm_rules.specs.Tokens.{Tokens}
 use Rattle.newmm_rules.specs.declared.Mode.{Mode}
 use Rattle.newmm_rules.specs.declared.Mode.TheVariants.{Plain}
-use Rattle.newmm_answers.specs.declared.CutAnswer.TheVariants.{Ends}
-use Rattle.newmm_answers.specs.Answers.{given, cut_of}
+use Rattle.newmm_answers.specs.Answers.{accepted_with, given, cut_of}
 use Rattle.newmm_answers.specs.Calls.{Call, answer_of, out_of}
 
 -- EVERY MODE: ends rise strictly, the last is n, and there is none for an empty text. There are no
@@ -60,4 +59,4 @@ pub record Wrote (c : Call) (n : ℕ) (after : List ℕ) : Type 0 where
   pub plain_tokens : c.mode ≡ Plain → Tokens (given words c.text) 0 (take n after) (length c.text)
 
 abbrev pub EndsWrote : Type 0
-EndsWrote = (c : Call) (n edges : ℕ) → answer_of c ≡ Ends n edges → Wrote c n (out_of c)
+EndsWrote = (c : Call) (n edges : ℕ) → answer_of c ≡ accepted_with n edges → Wrote c n (out_of c)

@@ -8,8 +8,7 @@ use Rattle.newmm_rules.specs.Words.{Given, span}
 use Rattle.newmm_rules.specs.Fewest.{WordChain}
 use Rattle.newmm_rules.specs.Stretches.{Stretch, stretches, Each, InStretches}
 use Rattle.newmm_rules.specs.declared.Mode.TheVariants.{Plain}
-use Rattle.newmm_answers.specs.declared.CutAnswer.TheVariants.{Ends}
-use Rattle.newmm_answers.specs.Answers.{given}
+use Rattle.newmm_answers.specs.Answers.{accepted_with, given}
 use Rattle.newmm_answers.specs.Calls.{Call, answer_of, out_of}
 
 -- A chain of words that are held, each ending at a cluster end, from a to z: the ends of its words.
@@ -42,7 +41,7 @@ pub record WroteStretches (c : Call) (n edges : ℕ) (after : List ℕ) : Type 0
 
 abbrev pub StretchesWrote : Type 0
 StretchesWrote =
-    (c : Call) (n edges : ℕ) → c.mode ≡ Plain → answer_of c ≡ Ends n edges → WroteStretches c n edges (out_of c)
+    (c : Call) (n edges : ℕ) → c.mode ≡ Plain → answer_of c ≡ accepted_with n edges → WroteStretches c n edges (out_of c)
 
 -- Beyond 50 edges nothing is claimed: a text of one stretch, where fewer words would do.
 pub record FewerWouldDo (g : Given) : Type 0 where

@@ -1,9 +1,8 @@
 -- RELEASE FIGURES (02, ticket 14): what is claimed of them.
-use Rattle.std.specs.Prelude.{ℕ, ◌+◌, ◌*◌, ◌≤◌, ◌<◌, ◌≡◌, true, false, List, ◌++◌, map, length, ltb}
+use Rattle.std.specs.Prelude.{ℕ, ◌+◌, ◌*◌, ◌≤◌, ◌<◌, ◌≡◌, true, false, List, ◌++◌, map, length, ltb, Err}
 use Rattle.std.proofs.Math.Option.{some}
 use Rattle.refusal.specs.declared.Refusal.TheVariants.{FiguresFull}
 use Rattle.trie_pool.specs.Meaning.{Words, Terms, words_in, meaning}
-use Rattle.newmm_answers.specs.declared.CutAnswer.TheVariants as variants
 use Rattle.newmm_answers.specs.Calls.{Call}
 use Rattle.newmm_reasons_answers.specs.Calls.{reasons_answer_of}
 use Rattle.figures_rules.specs.Figures.{texts, figure_count, figure, zeros, joined, max_texts, full, after}
@@ -78,14 +77,14 @@ Batches = (xs ys : List Text) → length xs + length ys ≤ max_texts → AsOne 
 abbrev pub ThirteenIfFull : Type 0
 ThirteenIfFull =
     (figures : List ℕ) (c : Call)
-    → (full figures (text_figures c) ≡ true → feed_answer figures c ≡ variants.Refused FiguresFull)
+    → (full figures (text_figures c) ≡ true → feed_answer figures c ≡ Err FiguresFull)
     × (full figures (text_figures c) ≡ false → feed_answer figures c ≡ reasons_answer_of c)
 
 -- And only there: 13 is given exactly if a figure would pass its limit.
 abbrev pub ThirteenOnlyIfFull : Type 0
 ThirteenOnlyIfFull =
     (figures : List ℕ) (c : Call)
-    → feed_answer figures c ≡ variants.Refused FiguresFull
+    → feed_answer figures c ≡ Err FiguresFull
     → full figures (text_figures c) ≡ true
 
 -- For a run's figures that is exactly if texts would pass 4,294,967,295; and so for two runs
@@ -123,7 +122,7 @@ feeding =
     }
 
 abbrev pub Aside : FeedCall → Type 0
-Aside c = feed_answer c.figures c.asked ≡ variants.Refused FiguresFull
+Aside c = feed_answer c.figures c.asked ≡ Err FiguresFull
 
 abbrev pub Demand3AnyFigures : Type 0
 Demand3AnyFigures =

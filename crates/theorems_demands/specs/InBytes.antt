@@ -1,16 +1,14 @@
 -- ENDS IN BYTES (02, ticket 3): demand 3 in bytes. Equal bytes, equal words and equal mode give
 -- equal ends in bytes.
-use Rattle.std.specs.Prelude.{ℕ, ◌≤◌, ◌≡◌, List, map, length, take}
+use Rattle.std.specs.Prelude.{ℕ, ◌≤◌, ◌≡◌, List, map, length, take, Result, Ok}
 use Rattle.std.proofs.Math.Option.{some}
-use Rattle.refusal.specs.declared.Answer.{Answer}
-use Rattle.refusal.specs.declared.Answer.TheVariants.{Accepted}
+use Rattle.refusal.specs.declared.Refusal.{Refusal}
 use Rattle.refusal.specs.Answers.{output}
 use Rattle.utf8.specs.declared.InBytes.{InBytes}
 use Rattle.utf8.specs.Decoding.{scalars_of, room_in, decoded}
 use Rattle.utf8.specs.Positions.{positions_of, end_in_bytes}
 use Rattle.trie_pool.specs.Meaning.{Words, Terms, meaning, words_in}
-use Rattle.newmm_answers.specs.declared.CutAnswer.TheVariants.{Ends}
-use Rattle.newmm_answers.specs.Answers.{scratch_for}
+use Rattle.newmm_answers.specs.Answers.{accepted_with, scratch_for}
 use Rattle.newmm_answers.specs.Calls.{Call, answer_of, out_of}
 use Rattle.theorems_demands.specs.Demand3.{Reached}
 
@@ -21,7 +19,7 @@ pub record Decoding : Type 0 where
   pub positions : List ℕ
 
 -- Its answer, and the position row afterwards, as the contract of `decode` gives them.
-abbrev pub answered : Decoding → Answer
+abbrev pub answered : Decoding → Result ℕ Refusal
 answered d = decoded d.bytes (room_in d.scalars d.positions)
 
 abbrev pub positions_left : Decoding → List ℕ
@@ -38,16 +36,16 @@ abbrev pub SameInBytes : Decoding → Decoding → Call → Call → Type 0
 SameInBytes c d a b =
     c.bytes ≡ d.bytes
     → (k l : ℕ)
-    → answered c ≡ Accepted k
-    → answered d ≡ Accepted l
+    → answered c ≡ Ok k
+    → answered d ≡ Ok l
     → a.text ≡ scalars_of c.bytes
     → b.text ≡ scalars_of d.bytes
     → a.mode ≡ b.mode
     → (n edges : ℕ)
-    → answer_of a ≡ Ends n edges
+    → answer_of a ≡ accepted_with n edges
     → scratch_for (length b.text) ≤ length b.scratch
     → n ≤ length b.out
-    → (answer_of b ≡ Ends n edges)
+    → (answer_of b ≡ accepted_with n edges)
     × (ends_in_bytes d (length b.text) (take n (out_of b)) ≡ ends_in_bytes c (length a.text) (take n (out_of a)))
 
 -- Any two pools that pass and hold the same words.

@@ -1,13 +1,13 @@
 -- MANY TEXTS IN ONE CALL: what a caller may rely on, text by text. Each text is answered as a
 -- single call would answer it. Each statement is said once for all calls with many texts (its name
 -- ends in `For`), then for the public cut and for the cut with reasons.
-use Rattle.std.specs.Prelude.{ℕ, zero, suc, ◌+◌, ◌*◌, ◌-◌, ◌≤◌, ◌<◌, ◌≡◌, List, [], ◌∷◌, ◌++◌, map, length, get_or, take, drop, replicate}
+use Rattle.std.specs.Prelude.{ℕ, zero, suc, ◌+◌, ◌*◌, ◌-◌, ◌≤◌, ◌<◌, ◌≡◌, List, [], ◌∷◌, ◌++◌, map, length, get_or, take, drop, replicate, Result, Ok}
 use Rattle.std.proofs.Math.Option.{Option, some}
-use Rattle.refusal.specs.declared.Answer.TheVariants.{Accepted}
+use Rattle.newmm_rules.specs.declared.Ends.{Ends}
+use Rattle.refusal.specs.declared.Refusal.{Refusal}
 use Rattle.refusal.specs.Answers.{answer}
 use Rattle.trie_pool.specs.Meaning.{Words, Terms, words_in, meaning}
 use Rattle.newmm_rules.specs.declared.Mode.{Mode}
-use Rattle.newmm_answers.specs.declared.CutAnswer.{CutAnswer}
 use Rattle.newmm_answers.specs.Answers.{scratch_for, first_causes}
 use Rattle.newmm_answers.specs.Calls.{Call, call, answer_of, out_of}
 use Rattle.newmm_reasons_answers.specs.Calls.{reasons_answer_of, pairs_of}
@@ -21,7 +21,7 @@ use Rattle.theorems_demands.specs.Demand3.{Reached}
 -- `means` is what the pool means to it. An answer of n takes so many cells of the output.
 pub record Form : Type 0 where
   pub one : ManyCall → Singly
-  pub answer : Call → CutAnswer
+  pub answer : Call → Result Ends Refusal
   pub after : Call → List ℕ
   pub means : List ℕ → Option Words
   pub cells : ℕ → ℕ
@@ -66,7 +66,7 @@ wrote_by f c = take (cells_told f c) (f.after c)
 abbrev pub ManyIsSingleFor : Form → Type 0
 ManyIsSingleFor f =
     (c : ManyCall) (n i : ℕ)
-    → many_answer c ≡ Accepted n
+    → many_answer c ≡ Ok n
     → i < n
     → (cells_at i (answers_by (f.one c) c) ≡ cells_of (f.answer (single_call f c i)))
     × (take (cells_told f (single_call f c i)) (drop (start_of f c i) (out_by (f.one c) c)) ≡ wrote_by f (single_call f c i))
@@ -79,12 +79,12 @@ ManyIsSingleReasons = ManyIsSingleFor reasons_form
 
 -- Scratch is all zero if some text came past refusals 2 to 5, and else as it was.
 abbrev pub Past5 : Form → ManyCall → ℕ → Type 0
-Past5 f c i = answer (first_causes (text_at c i) (f.means c.pool) (length c.scratch)) 0 ≡ Accepted 0
+Past5 f c i = answer (first_causes (text_at c i) (f.means c.pool) (length c.scratch)) 0 ≡ Ok 0
 
 abbrev pub ManyScratchFor : Form → Type 0
 ManyScratchFor f =
     (c : ManyCall) (n : ℕ)
-    → many_answer c ≡ Accepted n
+    → many_answer c ≡ Ok n
     → ((i : ℕ) → i < n → Past5 f c i → scratch_by (f.one c) c ≡ replicate (length c.scratch) 0)
     × (((i : ℕ) → i < n → Past5 f c i → ⊥) → scratch_by (f.one c) c ≡ c.scratch)
 
@@ -114,8 +114,8 @@ SameTexts f g a b i j =
 abbrev pub AnyTextsSame : (f g : Form) → (a b : ManyCall) → Type 0
 AnyTextsSame f g a b =
     (n m i j : ℕ)
-    → many_answer a ≡ Accepted n
-    → many_answer b ≡ Accepted m
+    → many_answer a ≡ Ok n
+    → many_answer b ≡ Ok m
     → i < n
     → j < m
     → SameTexts f g a b i j
@@ -158,7 +158,7 @@ alone f mode pool cells text = call text pool (replicate (f.cells (length text))
 -- what was told of a text, and what was written for it: its ends, or its pairs
 pub record Told : Type 0 where
   pub text : List ℕ
-  pub told : CutAnswer
+  pub told : Result Ends Refusal
   pub wrote : List ℕ
 
 abbrev pub told_alone : Form → Mode → List ℕ → ℕ → List ℕ → Told

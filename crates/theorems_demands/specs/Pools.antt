@@ -1,8 +1,7 @@
 -- What holds of pools, however they came about.
-use Rattle.std.specs.Prelude.{ℕ, ◌+◌, ◌*◌, ◌≤◌, ◌≡◌, true, List, ◌++◌, length, replicate}
+use Rattle.std.specs.Prelude.{ℕ, ◌+◌, ◌*◌, ◌≤◌, ◌≡◌, true, List, ◌++◌, length, replicate, Err}
 use Rattle.std.proofs.Math.Option.{some}
 use Rattle.refusal.specs.declared.Refusal.{Refusal}
-use Rattle.refusal.specs.declared.Answer.TheVariants.{Refused}
 use Rattle.trie_pool.specs.Words.{Word}
 use Rattle.trie_pool.specs.Rules.{is_dictionary}
 use Rattle.trie_pool.specs.Meaning.{Words, Terms, meaning, terms}
@@ -18,10 +17,10 @@ abbrev pub StillReached : Type 0
 StillReached =
     (old new word image : List ℕ) (class : ℕ) (held : Terms) (r : Refusal)
     → Reached old held
-    → (Freshened (Refused r) old new → Reached new held)
-    × (Added (Refused r) word class old new → Reached new held)
-    × (Taken (Refused r) word old new → Reached new held)
-    × (Replaced (Refused r) image old new → Reached new held)
+    → (Freshened (Err r) old new → Reached new held)
+    × (Added (Err r) word class old new → Reached new held)
+    × (Taken (Err r) word old new → Reached new held)
+    × (Replaced (Err r) image old new → Reached new held)
 
 -- A pool of whole nodes that passes, lent with j more nodes of zeros behind them, means the same
 -- words with the same classes: it passes too.

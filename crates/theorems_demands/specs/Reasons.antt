@@ -5,8 +5,7 @@ use Rattle.trie_pool.specs.Meaning.{Words, meaning}
 use Rattle.newmm_rules.specs.declared.Mode.{Mode}
 use Rattle.newmm_reason_rules.specs.Reasons.{Told}
 use Rattle.newmm_reason_rules.specs.Why.{Reasoned}
-use Rattle.newmm_answers.specs.declared.CutAnswer.TheVariants.{Ends}
-use Rattle.newmm_answers.specs.Answers.{given, plain_cut, cut_of}
+use Rattle.newmm_answers.specs.Answers.{accepted_with, given, plain_cut, cut_of}
 use Rattle.newmm_answers.specs.Calls.{Call, call, answer_of}
 use Rattle.newmm_reasons_answers.specs.Told.{parts_of, moved, told_of}
 use Rattle.newmm_reasons_answers.specs.Answers.{pairs, pair_room}
@@ -67,7 +66,7 @@ pub record WroteReasons (c : Call) (n edges : ℕ) (after : List ℕ) : Type 0 w
   pub reasons : ReasonedParts words 0 (parts_of c.mode (plain_cut words) c.text) told
 
 abbrev pub ReasonsWrote : Type 0
-ReasonsWrote = (c : Call) (n edges : ℕ) → reasons_answer_of c ≡ Ends n edges → WroteReasons c n edges (pairs_of c)
+ReasonsWrote = (c : Call) (n edges : ℕ) → reasons_answer_of c ≡ accepted_with n edges → WroteReasons c n edges (pairs_of c)
 
 -- DEMAND 3 FOR REASONS: an answer of n records takes 2n cells.
 abbrev pub telling : Operation
@@ -104,7 +103,7 @@ pub record WroteRecords (c : RecordsCall) (n edges : ℕ) (after : List Record) 
   pub reasons : ReasonedParts words 0 (parts_of c.mode (plain_cut words) c.text) told
 
 abbrev pub RecordsWrote : Type 0
-RecordsWrote = (c : RecordsCall) (n edges : ℕ) → records_answer_of c ≡ Ends n edges → WroteRecords c n edges (records_of c)
+RecordsWrote = (c : RecordsCall) (n edges : ℕ) → records_answer_of c ≡ accepted_with n edges → WroteRecords c n edges (records_of c)
 
 -- DEMAND 3 FOR RECORDS: an answer of n takes n records.
 abbrev pub recording : Operation

@@ -1,5 +1,5 @@
 -- THE PROFILE "SHEET" (02, ticket 10): what is claimed of a call in it.
-use Rattle.std.specs.Prelude.{ℕ, ◌<◌, ◌≡◌, List, take}
+use Rattle.std.specs.Prelude.{ℕ, ◌<◌, ◌≡◌, List, take, Err}
 use Rattle.std.proofs.Math.Option.{some}
 use Rattle.refusal.specs.declared.Refusal.{Refusal}
 use Rattle.refusal.specs.Numbers.{number_of}
@@ -8,8 +8,7 @@ use Rattle.trie_check.specs.Refusals.{held}
 use Rattle.newmm_rules.specs.declared.Mode.{Mode}
 use Rattle.newmm_rules.specs.declared.Mode.TheVariants.{Safe, Sheet}
 use Rattle.newmm_rules.specs.Sheet.{InSheetParts, NoSpaceMet}
-use Rattle.newmm_answers.specs.declared.CutAnswer.TheVariants.{Ends, Refused}
-use Rattle.newmm_answers.specs.Answers.{plain_cut}
+use Rattle.newmm_answers.specs.Answers.{accepted_with, plain_cut}
 use Rattle.newmm_answers.specs.Calls.{Call, call, answer_of, out_of, scratch_of}
 
 -- A call in the profile that answered with n ends: by the words of its pool, which passes, the ends
@@ -20,7 +19,7 @@ pub record WroteParts (c : Call) (n : ℕ) (after : List ℕ) : Type 0 where
   pub parted : InSheetParts (plain_cut words) c.text (take n after)
 
 abbrev pub PartsWrote : Type 0
-PartsWrote = (c : Call) (n edges : ℕ) → c.mode ≡ Sheet → answer_of c ≡ Ends n edges → WroteParts c n (out_of c)
+PartsWrote = (c : Call) (n edges : ℕ) → c.mode ≡ Sheet → answer_of c ≡ accepted_with n edges → WroteParts c n (out_of c)
 
 -- a call with the mode changed and nothing else
 abbrev pub in_mode : Mode → Call → Call
@@ -41,5 +40,5 @@ AsInSafeMode =
 abbrev pub RefusedAlike : Type 0
 RefusedAlike =
     (c : Call) (mode other : Mode)
-    → ((r : Refusal) → number_of r < 6 → answer_of (in_mode mode c) ≡ Refused r → answer_of (in_mode other c) ≡ Refused r)
+    → ((r : Refusal) → number_of r < 6 → answer_of (in_mode mode c) ≡ Err r → answer_of (in_mode other c) ≡ Err r)
     × (scratch_of (in_mode mode c) ≡ scratch_of (in_mode other c))

@@ -1,5 +1,8 @@
 -- Release figures: no second answer fits, and what runs that follow each other leave. Assumes
 -- nothing.
+use Rattle.std.specs.Prelude.{Result}
+use Rattle.newmm_rules.specs.declared.Ends.{Ends}
+use Rattle.refusal.specs.declared.Refusal.{Refusal}
 use Prim.Native.Nat.{ℕ, ◌≤◌}
 use mathlib.Core.Path.{◌≡◌, refl, sym, ◌∙◌, ap}
 use mathlib.Core.List.{List, [], ◌∷◌}
@@ -20,8 +23,6 @@ use Rattle.fetlockice.proofs.fetlockice_feed_refused.Kinds as host_refused_kinds
 use Rattle.fetlockice.proofs.fetlockice_feed_refused.Reads as host_refused_contract
 use Rattle.fetlockice.proofs.fetlockice_join_figures.Kinds as host_join_kinds
 use Rattle.fetlockice.proofs.fetlockice_join_figures.Reads as host_join_contract
-use Rattle.refusal.specs.declared.Answer.{Answer}
-use Rattle.newmm_answers.specs.declared.CutAnswer.{CutAnswer}
 use Rattle.figures_rules.specs.Figures.{zeros, after}
 use Rattle.figures_rules.specs.Outcomes.{of_refused}
 use Rattle.figures_rules.specs.Runs.{fed}
@@ -35,14 +36,14 @@ use Rattle.theorems_one_answer.proofs.Shapes.{answer, both, answer_and_two_rows}
 
 -- ---- the library: the answer, the figures, and the rows
 
-pub feed_one : OneAnswer {A = (CutAnswer × List ℕ × List ℕ) × List ℕ} 5 feed_kinds.ps feed_kinds.r feed_contract.Post
+pub feed_one : OneAnswer {A = (Result Ends Refusal × List ℕ × List ℕ) × List ℕ} 5 feed_kinds.ps feed_kinds.r feed_contract.Post
     (λ κs x s. let figures = s.0.now in let out = s.1.1.1.0.now in let scratch = s.1.1.1.1.0.now in ((x, figures, out), scratch))
 feed_one κs a x y s t p q = both (answer_and_two_rows p.0 p.1.0 p.1.1.0 q.0 q.1.0 q.1.1.0) (answer p.1.1.1 q.1.1.1)
 
-pub feed_refused_one : OneAnswer {A = Answer × List ℕ} 1 refused_kinds.ps refused_kinds.r refused_contract.Post (λ κs x s. let figures = s.0.now in (x, figures))
+pub feed_refused_one : OneAnswer {A = Result ℕ Refusal × List ℕ} 1 refused_kinds.ps refused_kinds.r refused_contract.Post (λ κs x s. let figures = s.0.now in (x, figures))
 feed_refused_one κs a x y s t p q = both (answer p.0 q.0) (answer p.1 q.1)
 
-pub join_one : OneAnswer {A = Answer × List ℕ} 2 join_kinds.ps join_kinds.r join_contract.Post (λ κs x s. let figures = s.0.now in (x, figures))
+pub join_one : OneAnswer {A = Result ℕ Refusal × List ℕ} 2 join_kinds.ps join_kinds.r join_contract.Post (λ κs x s. let figures = s.0.now in (x, figures))
 join_one κs a x y s t p q = both (answer p.0 q.0) (answer p.1 q.1)
 
 -- ---- hosts: what is told, the figures, and the rows

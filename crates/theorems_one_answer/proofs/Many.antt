@@ -1,4 +1,6 @@
 -- Many texts in one call: one answer, many is single, and demand 3 for each text. Assumes nothing.
+use Rattle.std.specs.Prelude.{Result}
+use Rattle.refusal.specs.declared.Refusal.{Refusal}
 use Prim.Native.Nat.{ℕ, ◌+◌, ◌*◌, ◌≤◌}
 use mathlib.Core.Path.{◌≡◌, refl, sym, ◌∙◌, ap, subst}
 use mathlib.Core.List.{List}
@@ -8,7 +10,6 @@ use Rattle.newmm_many.proofs.cut_many.Kinds as many_kinds
 use Rattle.newmm_many.proofs.cut_many.Reads as many_contract
 use Rattle.newmm_many.proofs.cut_reasons_many.Kinds as reasons_many_kinds
 use Rattle.newmm_many.proofs.cut_reasons_many.Reads as reasons_many_contract
-use Rattle.refusal.specs.declared.Answer.{Answer}
 use Rattle.trie_pool.specs.Meaning.{Words, meaning}
 use Rattle.newmm_many_answers.specs.Turns.{cells_of, ends_told}
 use Rattle.newmm_many_answers.specs.Calls.{many_answer, answers_by, out_by}
@@ -21,12 +22,12 @@ use Rattle.theorems_one_answer.specs.ManyRuns.{SameTextsSeen, Demand3ManyAnyOfRu
 use Rattle.theorems_one_answer.proofs.Shapes.{both, answer_and_two_rows}
 
 -- the answer, the answers of the texts, the output and the scratch
-pub many_one : OneAnswer {A = (Answer × List ℕ × List ℕ) × List ℕ} 6 many_kinds.ps many_kinds.r many_contract.Post
+pub many_one : OneAnswer {A = (Result ℕ Refusal × List ℕ × List ℕ) × List ℕ} 6 many_kinds.ps many_kinds.r many_contract.Post
     (λ κs x s. let answers = s.1.1.1.0.now in let out = s.1.1.1.1.0.now in let scratch = s.1.1.1.1.1.0.now in ((x, answers, out), scratch))
 many_one κs a x y s t p q =
     both (answer_and_two_rows p.0 p.1.0 p.1.1.0 q.0 q.1.0 q.1.1.0) (p.1.1.1 ∙ sym q.1.1.1)
 
-pub reasons_many_one : OneAnswer {A = (Answer × List ℕ × List ℕ) × List ℕ} 6 reasons_many_kinds.ps reasons_many_kinds.r reasons_many_contract.Post
+pub reasons_many_one : OneAnswer {A = (Result ℕ Refusal × List ℕ × List ℕ) × List ℕ} 6 reasons_many_kinds.ps reasons_many_kinds.r reasons_many_contract.Post
     (λ κs x s. let answers = s.1.1.1.0.now in let pairs = s.1.1.1.1.0.now in let scratch = s.1.1.1.1.1.0.now in ((x, answers, pairs), scratch))
 reasons_many_one κs a x y s t p q =
     both (answer_and_two_rows p.0 p.1.0 p.1.1.0 q.0 q.1.0 q.1.1.0) (p.1.1.1 ∙ sym q.1.1.1)

@@ -1,4 +1,6 @@
 -- Maps of breaks: no second answer fits, and what holds of their runs. Assumes nothing.
+use Rattle.std.specs.Prelude.{Result}
+use Rattle.refusal.specs.declared.Refusal.{Refusal}
 use Prim.Native.Nat.{ℕ}
 use mathlib.Core.Path.{◌≡◌, sym, ◌∙◌, subst}
 use mathlib.Core.List.{List}
@@ -9,7 +11,6 @@ use Rattle.break_map.proofs.breaks_up_to.Kinds as count_kinds
 use Rattle.break_map.proofs.breaks_up_to.Reads as count_contract
 use Rattle.break_map.proofs.next_break.Kinds as next_kinds
 use Rattle.break_map.proofs.next_break.Reads as next_contract
-use Rattle.refusal.specs.declared.Answer.{Answer}
 use Rattle.break_map_rules.specs.declared.NextBreak.{NextBreak}
 use Rattle.break_map_rules.specs.Maps.{cells_for}
 use Rattle.break_map_rules.specs.Answers.{map_answer, map_after, count_answer, next_answer}
@@ -23,10 +24,10 @@ use Rattle.theorems_one_answer.proofs.Shapes.{answer, both}
 use Rattle.theorems_one_answer.proofs.Demand3.{answered}
 
 -- the answer and the map
-pub break_map_one : OneAnswer {A = Answer × List ℕ} 2 map_kinds.ps map_kinds.r map_contract.Post (λ κs x s. let map = s.1.1.0.now in (x, map))
+pub break_map_one : OneAnswer {A = Result ℕ Refusal × List ℕ} 2 map_kinds.ps map_kinds.r map_contract.Post (λ κs x s. let map = s.1.1.0.now in (x, map))
 break_map_one κs a x y s t p q = both (answer p.0 q.0) (answer p.1 q.1)
 
-pub breaks_up_to_one : OneAnswer {A = Answer} 1 count_kinds.ps count_kinds.r count_contract.Post (λ κs x s. x)
+pub breaks_up_to_one : OneAnswer {A = Result ℕ Refusal} 1 count_kinds.ps count_kinds.r count_contract.Post (λ κs x s. x)
 breaks_up_to_one κs a x y s t p q = answer p q
 
 pub next_break_one : OneAnswer {A = NextBreak} 1 next_kinds.ps next_kinds.r next_contract.Post (λ κs x s. x)

@@ -1,4 +1,7 @@
 -- Plant calls: no second answer fits, and what holds of their runs. Assumes nothing.
+use Rattle.std.specs.Prelude.{Result}
+use Rattle.newmm_rules.specs.declared.Ends.{Ends}
+use Rattle.refusal.specs.declared.Refusal.{Refusal}
 use Prim.Native.Nat.{ℕ}
 use mathlib.Core.Path.{◌≡◌, refl, sym, ◌∙◌, ap, subst}
 use mathlib.Core.List.{List, map}
@@ -28,7 +31,6 @@ use Rattle.word_list_plants.proofs.read_image_in.Kinds as read_kinds
 use Rattle.word_list_plants.proofs.read_image_in.Reads as read_contract
 use Rattle.word_list_plants_write.proofs.write_image_in.Kinds as write_kinds
 use Rattle.word_list_plants_write.proofs.write_image_in.Reads as write_contract
-use Rattle.refusal.specs.declared.Answer.{Answer}
 use Rattle.refusal.specs.Answers.{output}
 use Rattle.trie_pool.specs.Meaning.{Terms}
 use Rattle.trie_char_answers.specs.declared.WordAnswer.{WordAnswer}
@@ -37,7 +39,6 @@ use Rattle.trie_plants_answers.specs.Answers.{start_answer, plant_prefixes}
 use Rattle.trie_plants_answers.specs.Changes.{PlantAfter, Started}
 use Rattle.trie_plants_answers.proofs.One.{one_plant_after, one_started}
 use Rattle.word_list_plants_write.specs.Answers.{plant_image}
-use Rattle.newmm_answers.specs.declared.CutAnswer.{CutAnswer}
 use Rattle.theorems_plants.specs.Plants.{Kept, Steps}
 use Rattle.theorems_plants.specs.Plants as plants
 use Rattle.theorems_plants.proofs.Undisturbed.{undisturbed}
@@ -49,25 +50,25 @@ use Rattle.theorems_one_answer.proofs.Shapes.{answer, both, answer_and_output, a
 -- ---- one answer
 
 -- an answer by an equation, and what became of a plants' pool by the answer
-answer_and_plants : {x y a : Answer} (plant : Plant) (u v old : List ℕ) (held : Terms) → x ≡ a → PlantAfter plant x old u held → y ≡ a → PlantAfter plant y old v held
-    → ◌≡◌ {A = Answer × List ℕ} (x, u) (y, v)
+answer_and_plants : {x y a : Result ℕ Refusal} (plant : Plant) (u v old : List ℕ) (held : Terms) → x ≡ a → PlantAfter plant x old u held → y ≡ a → PlantAfter plant y old v held
+    → ◌≡◌ {A = Result ℕ Refusal × List ℕ} (x, u) (y, v)
 answer_and_plants {x} {y} {a} plant u v old held p c q d =
-    both (p ∙ sym q) (one_plant_after plant a old u v held (subst (λ (r : Answer). PlantAfter plant r old u held) p c) (subst (λ (r : Answer). PlantAfter plant r old v held) q d))
+    both (p ∙ sym q) (one_plant_after plant a old u v held (subst (λ (r : Result ℕ Refusal). PlantAfter plant r old u held) p c) (subst (λ (r : Result ℕ Refusal). PlantAfter plant r old v held) q d))
 
 -- the answer and the pool
-pub start_one : OneAnswer {A = Answer × List ℕ} 1 start_kinds.ps start_kinds.r start_contract.Post (λ κs x s. let pool = s.0.now in (x, pool))
+pub start_one : OneAnswer {A = Result ℕ Refusal × List ℕ} 1 start_kinds.ps start_kinds.r start_contract.Post (λ κs x s. let pool = s.0.now in (x, pool))
 start_one κs a x y s t p q =
     both (answer p.0 q.0)
     (one_started (start_answer a.1.0 a.1.1.0 a.0.now) a.1.0 a.1.1.0 a.0.now _ _
-    (subst (λ (r : Answer). Started r a.1.0 a.1.1.0 a.0.now s.0.now) p.0 p.1) (subst (λ (r : Answer). Started r a.1.0 a.1.1.0 a.0.now t.0.now) q.0 q.1))
+    (subst (λ (r : Result ℕ Refusal). Started r a.1.0 a.1.1.0 a.0.now s.0.now) p.0 p.1) (subst (λ (r : Result ℕ Refusal). Started r a.1.0 a.1.1.0 a.0.now t.0.now) q.0 q.1))
 
-pub add_in_one : OneAnswer {A = Answer × List ℕ} 2 add_kinds.ps add_kinds.r add_contract.Post (λ κs x s. let pool = s.0.now in (x, pool))
+pub add_in_one : OneAnswer {A = Result ℕ Refusal × List ℕ} 2 add_kinds.ps add_kinds.r add_contract.Post (λ κs x s. let pool = s.0.now in (x, pool))
 add_in_one κs a x y s t p q = answer_and_plants a.1.0 _ _ _ _ p.0 p.1 q.0 q.1
 
-pub remove_in_one : OneAnswer {A = Answer × List ℕ} 2 remove_kinds.ps remove_kinds.r remove_contract.Post (λ κs x s. let pool = s.0.now in (x, pool))
+pub remove_in_one : OneAnswer {A = Result ℕ Refusal × List ℕ} 2 remove_kinds.ps remove_kinds.r remove_contract.Post (λ κs x s. let pool = s.0.now in (x, pool))
 remove_in_one κs a x y s t p q = answer_and_plants a.1.0 _ _ _ _ p.0 p.1 q.0 q.1
 
-pub read_image_in_one : OneAnswer {A = Answer × List ℕ} 2 read_kinds.ps read_kinds.r read_contract.Post (λ κs x s. let pool = s.0.now in (x, pool))
+pub read_image_in_one : OneAnswer {A = Result ℕ Refusal × List ℕ} 2 read_kinds.ps read_kinds.r read_contract.Post (λ κs x s. let pool = s.0.now in (x, pool))
 read_image_in_one κs a x y s t p q = answer_and_plants a.1.0 _ _ _ _ p.0 p.1 q.0 q.1
 
 -- the answer: held or not, and the class
@@ -75,33 +76,33 @@ pub contain_in_one : OneAnswer {A = WordAnswer} 2 contain_kinds.ps contain_kinds
 contain_in_one κs a x y s t p q = answer p q
 
 -- the answer
-pub amount_of_words_in_one : OneAnswer {A = Answer} 1 amount_kinds.ps amount_kinds.r amount_contract.Post (λ κs x s. x)
+pub amount_of_words_in_one : OneAnswer {A = Result ℕ Refusal} 1 amount_kinds.ps amount_kinds.r amount_contract.Post (λ κs x s. x)
 amount_of_words_in_one κs a x y s t p q = answer p q
 
-pub check_plant_cut_one : OneAnswer {A = Answer} 2 check_kinds.ps check_kinds.r check_contract.Post (λ κs x s. x)
+pub check_plant_cut_one : OneAnswer {A = Result ℕ Refusal} 2 check_kinds.ps check_kinds.r check_contract.Post (λ κs x s. x)
 check_plant_cut_one κs a x y s t p q = answer p q
 
 -- the answer and the output
-pub prefix_lengths_in_one : OneAnswer {A = Answer × List ℕ} 3 prefixes_kinds.ps prefixes_kinds.r prefixes_contract.Post (λ κs x s. let out = s.1.1.1.0.now in (x, out))
+pub prefix_lengths_in_one : OneAnswer {A = Result ℕ Refusal × List ℕ} 3 prefixes_kinds.ps prefixes_kinds.r prefixes_contract.Post (λ κs x s. let out = s.1.1.1.0.now in (x, out))
 prefix_lengths_in_one κs a x y s t p q = answer_and_output _ _ p.0 p.1 q.0 q.1
 
-pub write_image_in_one : OneAnswer {A = Answer × List ℕ} 2 write_kinds.ps write_kinds.r write_contract.Post (λ κs x s. let out = s.1.1.0.now in (x, out))
+pub write_image_in_one : OneAnswer {A = Result ℕ Refusal × List ℕ} 2 write_kinds.ps write_kinds.r write_contract.Post (λ κs x s. let out = s.1.1.0.now in (x, out))
 write_image_in_one κs a x y s t p q = answer_and_output _ _ p.0 p.1 q.0 q.1
 
 -- the answer, the output and the scratch
-pub cut_in_one : OneAnswer {A = CutAnswer × List ℕ × List ℕ} 4 cut_kinds.ps cut_kinds.r cut_contract.Post (λ κs x s. let out = s.1.1.1.0.now in let scratch = s.1.1.1.1.0.now in (x, out, scratch))
+pub cut_in_one : OneAnswer {A = Result Ends Refusal × List ℕ × List ℕ} 4 cut_kinds.ps cut_kinds.r cut_contract.Post (λ κs x s. let out = s.1.1.1.0.now in let scratch = s.1.1.1.1.0.now in (x, out, scratch))
 cut_in_one κs a x y s t p q = answer_and_two_rows p.0 p.1.0 p.1.1 q.0 q.1.0 q.1.1
 
-pub cut_reasons_in_one : OneAnswer {A = CutAnswer × List ℕ × List ℕ} 4 reasons_kinds.ps reasons_kinds.r reasons_contract.Post (λ κs x s. let pairs = s.1.1.1.0.now in let scratch = s.1.1.1.1.0.now in (x, pairs, scratch))
+pub cut_reasons_in_one : OneAnswer {A = Result Ends Refusal × List ℕ × List ℕ} 4 reasons_kinds.ps reasons_kinds.r reasons_contract.Post (λ κs x s. let pairs = s.1.1.1.0.now in let scratch = s.1.1.1.1.0.now in (x, pairs, scratch))
 cut_reasons_in_one κs a x y s t p q = answer_and_two_rows p.0 p.1.0 p.1.1 q.0 q.1.0 q.1.1
 
 -- the answer, the answers of the texts, the output and the scratch
-pub cut_many_in_one : OneAnswer {A = (Answer × List ℕ × List ℕ) × List ℕ} 6 cut_many_kinds.ps cut_many_kinds.r cut_many_contract.Post
+pub cut_many_in_one : OneAnswer {A = (Result ℕ Refusal × List ℕ × List ℕ) × List ℕ} 6 cut_many_kinds.ps cut_many_kinds.r cut_many_contract.Post
     (λ κs x s. let answers = s.1.1.1.1.0.now in let out = s.1.1.1.1.1.0.now in let scratch = s.1.1.1.1.1.1.0.now in ((x, answers, out), scratch))
 cut_many_in_one κs a x y s t p q =
     both (answer_and_two_rows p.0 p.1.0 p.1.1.0 q.0 q.1.0 q.1.1.0) (answer p.1.1.1 q.1.1.1)
 
-pub cut_reasons_many_in_one : OneAnswer {A = (Answer × List ℕ × List ℕ) × List ℕ} 6 reasons_many_kinds.ps reasons_many_kinds.r reasons_many_contract.Post
+pub cut_reasons_many_in_one : OneAnswer {A = (Result ℕ Refusal × List ℕ × List ℕ) × List ℕ} 6 reasons_many_kinds.ps reasons_many_kinds.r reasons_many_contract.Post
     (λ κs x s. let answers = s.1.1.1.1.0.now in let pairs = s.1.1.1.1.1.0.now in let scratch = s.1.1.1.1.1.1.0.now in ((x, answers, pairs), scratch))
 cut_reasons_many_in_one κs a x y s t p q =
     both (answer_and_two_rows p.0 p.1.0 p.1.1.0 q.0 q.1.0 q.1.1.0) (answer p.1.1.1 q.1.1.1)
@@ -109,11 +110,11 @@ cut_reasons_many_in_one κs a x y s t p q =
 -- ---- runs
 
 -- a change as the contract says it, by the answer that was given
-by_answer : (plant : Plant) (x a : Answer) (old new : List ℕ) (held : Terms) → x ≡ a → PlantAfter plant x old new held → PlantAfter plant a old new held
-by_answer plant x a old new held e c = subst (λ (r : Answer). PlantAfter plant r old new held) e c
+by_answer : (plant : Plant) (x a : Result ℕ Refusal) (old new : List ℕ) (held : Terms) → x ≡ a → PlantAfter plant x old new held → PlantAfter plant a old new held
+by_answer plant x a old new held e c = subst (λ (r : Result ℕ Refusal). PlantAfter plant r old new held) e c
 
 -- an output as the contract says it, likewise
-row_is : (x a : Answer) (u : List ℕ) (out : Answer → List ℕ) → x ≡ a → u ≡ out x → plants.row x u ≡ plants.row a (out a)
+row_is : (x a : Result ℕ Refusal) (u : List ℕ) (out : Result ℕ Refusal → List ℕ) → x ≡ a → u ≡ out x → plants.row x u ≡ plants.row a (out a)
 row_is x a u out e c = (λ i. plants.row (e i) (c i)) ∙ (λ i. plants.row a (out (e i)))
 
 -- what the contract of its function says of a run
@@ -146,7 +147,7 @@ run_is r =
       begun = start_left s;
       told = r.told;
       accepted = sym s.promise.0 ∙ r.accepted;
-      started = subst (λ (x : Answer). Started x (limit_a s) (limit_b s) s.arguments.0.now (start_left s)) r.accepted s.promise.1;
+      started = subst (λ (x : Result ℕ Refusal). Started x (limit_a s) (limit_b s) s.arguments.0.now (start_left s)) r.accepted s.promise.1;
       calls = steps r.turns;
     }
 

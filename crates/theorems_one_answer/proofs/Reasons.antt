@@ -1,4 +1,7 @@
 -- The cut with reasons: no second answer fits, and what holds of its runs. Assumes nothing.
+use Rattle.std.specs.Prelude.{Result}
+use Rattle.newmm_rules.specs.declared.Ends.{Ends}
+use Rattle.refusal.specs.declared.Refusal.{Refusal}
 use Prim.Native.Nat.{ℕ, ◌*◌}
 use native.Mathlib.Omega.{arith}
 use mathlib.Core.Path.{◌≡◌, refl, sym, ◌∙◌, ap, subst}
@@ -9,7 +12,6 @@ use Rattle.newmm_reasons.proofs.cut_reasons.Kinds as reasons_kinds
 use Rattle.newmm_reasons.proofs.cut_reasons.Reads as reasons_contract
 use Rattle.trie_pool.specs.Meaning.{Words}
 use Rattle.newmm_reason_rules.specs.Reasons.{Told}
-use Rattle.newmm_answers.specs.declared.CutAnswer.{CutAnswer}
 use Rattle.newmm_answers.specs.Answers.{cut_of}
 use Rattle.newmm_reasons_answers.specs.Answers.{pairs}
 use Rattle.newmm_reasons_answers.specs.Calls.{reasons_answer_of, pairs_of}
@@ -26,7 +28,7 @@ use Rattle.theorems_one_answer.proofs.Shapes.{answer_and_two_rows}
 use Rattle.theorems_one_answer.proofs.Demand3.{answered}
 
 -- the answer, the row of pairs and the scratch
-pub cut_reasons_one : OneAnswer {A = CutAnswer × List ℕ × List ℕ} 4 reasons_kinds.ps reasons_kinds.r reasons_contract.Post (λ κs x s. let pairs = s.1.1.0.now in let scratch = s.1.1.1.0.now in (x, pairs, scratch))
+pub cut_reasons_one : OneAnswer {A = Result Ends Refusal × List ℕ × List ℕ} 4 reasons_kinds.ps reasons_kinds.r reasons_contract.Post (λ κs x s. let pairs = s.1.1.0.now in let scratch = s.1.1.1.0.now in (x, pairs, scratch))
 cut_reasons_one κs a x y s t p q = answer_and_two_rows p.0 p.1.0 p.1.1 q.0 q.1.0 q.1.1
 
 -- what the contract says of a run
@@ -74,6 +76,6 @@ pub demand_3_reasons_of_runs : Demand3ReasonsOfRuns
 demand_3_reasons_of_runs a b v w ra rb same = runs a b (demand_3_reasons (asked_of a) (asked_of b) v w ra rb same)
 
 -- The cut with records: the answer, the row of records and the scratch.
-pub cut_records_one : (c : RecordsCall) (x y : CutAnswer) (rows rows' : List Record) (scratch scratch' : List ℕ) → Records c x rows scratch → Records c y rows' scratch'
-    → ◌≡◌ {A = CutAnswer × List Record × List ℕ} (x, rows, scratch) (y, rows', scratch')
+pub cut_records_one : (c : RecordsCall) (x y : Result Ends Refusal) (rows rows' : List Record) (scratch scratch' : List ℕ) → Records c x rows scratch → Records c y rows' scratch'
+    → ◌≡◌ {A = Result Ends Refusal × List Record × List ℕ} (x, rows, scratch) (y, rows', scratch')
 cut_records_one c x y rows rows' scratch scratch' p q = answer_and_two_rows p.0 p.1.0 p.1.1 q.0 q.1.0 q.1.1

@@ -1,13 +1,13 @@
 -- The second matcher: no second answer fits, and it answers and writes what the first does. Assumes
 -- nothing.
+use Rattle.std.specs.Prelude.{Result, Ok}
+use Rattle.refusal.specs.declared.Refusal.{Refusal}
 use Prim.Native.Nat.{ℕ, ◌≤◌, min}
 use native.Mathlib.Omega.{arith}
 use mathlib.Core.Path.{◌≡◌, refl, sym, ◌∙◌, ap}
 use mathlib.Core.List.{List, ◌++◌}
 use lib.ListN.{length, take, drop}
 use lib.Seq.{take-append_seam}
-use Rattle.refusal.specs.declared.Answer.{Answer}
-use Rattle.refusal.specs.declared.Answer.TheVariants.{Accepted}
 use Rattle.refusal.specs.Answers.{output}
 use Rattle.refusal.proofs.Firsts.{accepted_exactly_if_none}
 use Rattle.tcc_rules.specs.Clusters.{cluster_ends}
@@ -20,11 +20,11 @@ use Rattle.theorems_one_answer.specs.WinnerRuns.{ClustersRun, WinnersRun, text_o
 use Rattle.theorems_one_answer.proofs.Shapes.{answer_and_two_rows}
 
 -- a row by the answer that is due
-due : {r b : Answer} (new old : List ℕ) {row : List ℕ} → r ≡ b → row ≡ output r new old → row ≡ output b new old
-due new old e h = h ∙ ap (λ (z : Answer). output z new old) e
+due : {r b : Result ℕ Refusal} (new old : List ℕ) {row : List ℕ} → r ≡ b → row ≡ output r new old → row ≡ output b new old
+due new old e h = h ∙ ap (λ (z : Result ℕ Refusal). output z new old) e
 
 -- the answer and the two rows
-pub tcc_winners_one : OneAnswer {A = Answer × List ℕ × List ℕ} 3 winners_kinds.ps winners_kinds.r winners_contract.Post
+pub tcc_winners_one : OneAnswer {A = Result ℕ Refusal × List ℕ × List ℕ} 3 winners_kinds.ps winners_kinds.r winners_contract.Post
     (λ κs x s. let ends = s.1.0.now in let winners = s.1.1.0.now in (x, ends, winners))
 tcc_winners_one κs a x y s t p q =
     answer_and_two_rows p.0 (due _ _ p.0 p.1.0) (due _ _ p.0 p.1.1) q.0 (due _ _ q.0 q.1.0) (due _ _ q.0 q.1.1)
@@ -44,14 +44,14 @@ same_clusters_of_runs a b text row room = (answers, a.promise.1 ∙ rows ∙ sym
 
     rows : output a.answer (cluster_ends (text_of a)) (out_of a) ≡ output b.answer (cluster_ends (text_in b)) (ends_in b)
     rows =
-        ap (λ (r : Answer). output r (cluster_ends (text_of a)) (out_of a)) answers
+        ap (λ (r : Result ℕ Refusal). output r (cluster_ends (text_of a)) (out_of a)) answers
         ∙ ap (λ (t : List ℕ). output b.answer (cluster_ends t) (out_of a)) text
         ∙ ap (output b.answer (cluster_ends (text_in b))) row
 
 -- a row that an accepted call wrote: its first cells
-front : {r : Answer} {n : ℕ} (new old : List ℕ) {row : List ℕ} → row ≡ output r new old → r ≡ Accepted n → n ≡ length new → take n row ≡ new
+front : {r : Result ℕ Refusal} {n : ℕ} (new old : List ℕ) {row : List ℕ} → row ≡ output r new old → r ≡ Ok n → n ≡ length new → take n row ≡ new
 front {r} {n} new old {row} is e long =
-    ap (take n) (is ∙ ap (λ (z : Answer). output z new old) e) ∙ ap (λ (k : ℕ). take k (new ++ drop (length new) old)) long ∙ take-append_seam new (drop (length new) old)
+    ap (take n) (is ∙ ap (λ (z : Result ℕ Refusal). output z new old) e) ∙ ap (λ (k : ℕ). take k (new ++ drop (length new) old)) long ∙ take-append_seam new (drop (length new) old)
 
 pub same_ends_of_runs : SameEndsOfRuns
 same_ends_of_runs a b n m text e f =

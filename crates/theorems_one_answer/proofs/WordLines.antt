@@ -1,4 +1,6 @@
 -- The lines of a word list: no second answer fits. Assumes nothing.
+use Rattle.std.specs.Prelude.{Result}
+use Rattle.refusal.specs.declared.Refusal.{Refusal}
 use Prim.Native.Nat.{ℕ}
 use mathlib.Core.Path.{◌≡◌, sym, ◌∙◌}
 use mathlib.Core.Bool.{Bool, true, false}
@@ -7,7 +9,6 @@ use Rattle.word_lines.proofs.take_line.Kinds as take_kinds
 use Rattle.word_lines.proofs.take_line.Reads as take_contract
 use Rattle.word_lines.proofs.write_line.Kinds as write_kinds
 use Rattle.word_lines.proofs.write_line.Reads as write_contract
-use Rattle.refusal.specs.declared.Answer.{Answer}
 use Rattle.trie_pool.specs.Meaning.{Terms}
 use Rattle.utf8.specs.Decoding.{scalars_of, room_in}
 use Rattle.trie_char_answers.specs.Answers.{added}
@@ -17,7 +18,7 @@ use Rattle.word_lines.specs.declared.Taken.{Taken}
 use Rattle.theorems_one_answer.specs.OneAnswer.{OneAnswer}
 use Rattle.theorems_one_answer.proofs.Shapes.{answer, both}
 
-pool_by_one : (b : Bool) (r : Answer) (old p q : List ℕ) (held : Terms) → PoolBy b r old p held → PoolBy b r old q held → p ≡ q
+pool_by_one : (b : Bool) (r : Result ℕ Refusal) (old p q : List ℕ) (held : Terms) → PoolBy b r old p held → PoolBy b r old q held → p ≡ q
 pool_by_one true r old p q held e f = one_after r old p q held e f
 pool_by_one false r old p q held e f = e ∙ sym f
 

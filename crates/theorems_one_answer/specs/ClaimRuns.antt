@@ -10,8 +10,7 @@ use Rattle.newmm_claim.proofs.check_claim.Reads as claim_contract
 use Rattle.trie_pool.specs.Meaning.{Words, meaning}
 use Rattle.newmm_rules.specs.Claims.{Verdict}
 use Rattle.newmm_rules.specs.declared.Mode.TheVariants.{Plain}
-use Rattle.newmm_answers.specs.declared.CutAnswer.TheVariants.{Ends}
-use Rattle.newmm_answers.specs.Answers.{scratch_for}
+use Rattle.newmm_answers.specs.Answers.{accepted_with, scratch_for}
 use Rattle.newmm_claim.specs.declared.ClaimAnswer.TheVariants.{Right}
 use Rattle.newmm_claim.specs.Answers.{Claim, verdict_told}
 use Rattle.theorems_one_answer.specs.Runs.{Run, call_of, out_left}
@@ -43,7 +42,7 @@ OursPassOfRuns =
     → meaning (claim_of c).pool ≡ some w
     → ((x : List ℕ) → v x ≡ w x)
     → (call_of a).mode ≡ Plain
-    → a.answer ≡ Ends n edges
+    → a.answer ≡ accepted_with n edges
     → (claim_of c).text ≡ (call_of a).text
     → (claim_of c).claimed ≡ take n (out_left a)
     → scratch_for (length (claim_of c).text) ≤ length (claim_of c).scratch

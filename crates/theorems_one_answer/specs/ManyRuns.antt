@@ -1,8 +1,10 @@
 -- Many is single, and demand 3 for each text, over runs of the proved functions
 -- `newmm_many::cut_many` and `newmm::cut`, and with reasons of `newmm_many::cut_reasons_many` and
 -- `newmm_reasons::cut_reasons` themselves.
-use Rattle.std.specs.Prelude.{ℕ, ◌+◌, ◌*◌, ◌≤◌, ◌<◌, ◌≡◌, List, [], ◌∷◌, length, take, drop}
+use Rattle.std.specs.Prelude.{ℕ, ◌+◌, ◌*◌, ◌≤◌, ◌<◌, ◌≡◌, List, [], ◌∷◌, length, take, drop, Result, Ok}
 use Rattle.std.proofs.Math.Option.{some}
+use Rattle.newmm_rules.specs.declared.Ends.{Ends}
+use Rattle.refusal.specs.declared.Refusal.{Refusal}
 use contract.Lifetimes.{Lfts}
 use borrow.Fn.Kinds.{Dens, res_t, ended_of}
 use denote.Triple.Clauses.{AtExit}
@@ -10,10 +12,7 @@ use Rattle.newmm_many.proofs.cut_many.Kinds as many_kinds
 use Rattle.newmm_many.proofs.cut_many.Reads as many_contract
 use Rattle.newmm_many.proofs.cut_reasons_many.Kinds as reasons_many_kinds
 use Rattle.newmm_many.proofs.cut_reasons_many.Reads as reasons_many_contract
-use Rattle.refusal.specs.declared.Answer.{Answer}
-use Rattle.refusal.specs.declared.Answer.TheVariants.{Accepted}
 use Rattle.trie_pool.specs.Meaning.{Words, Terms, words_in, meaning}
-use Rattle.newmm_answers.specs.declared.CutAnswer.{CutAnswer}
 use Rattle.newmm_answers.specs.Answers.{scratch_for}
 use Rattle.newmm_answers.specs.Calls.{Call}
 use Rattle.newmm_many_answers.specs.Turns.{cells_of, ends_told}
@@ -44,14 +43,14 @@ pub record ManyReasonsRun : Type 0 where
 -- the output when it returned.
 pub record SeenMany : Type 0 where
   pub given : ManyCall
-  pub answer : Answer
+  pub answer : Result ℕ Refusal
   pub answers : List ℕ
   pub out : List ℕ
 
 -- and of a run with one text
 pub record SeenOne : Type 0 where
   pub given : Call
-  pub answer : CutAnswer
+  pub answer : Result Ends Refusal
   pub out : List ℕ
 
 -- by the places of its arguments and of its rows
@@ -108,7 +107,7 @@ start_in cells m i = cells (counts_before i m.answers)
 abbrev pub AsSingle : (ℕ → ℕ) → SeenMany → SeenOne → Type 0
 AsSingle cells m s =
     (n i : ℕ)
-    → m.answer ≡ Accepted n
+    → m.answer ≡ Ok n
     → i < n
     → s.given.text ≡ text_at m.given i
     → s.given.pool ≡ m.given.pool
@@ -129,8 +128,8 @@ ManyIsSingleReasonsOfRuns =
 abbrev pub SameTextsSeen : (ℕ → ℕ) → SeenMany → SeenMany → Type 0
 SameTextsSeen cells a b =
     (n m i j : ℕ)
-    → a.answer ≡ Accepted n
-    → b.answer ≡ Accepted m
+    → a.answer ≡ Ok n
+    → b.answer ≡ Ok m
     → i < n
     → j < m
     → text_at a.given i ≡ text_at b.given j

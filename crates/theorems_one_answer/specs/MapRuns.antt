@@ -1,6 +1,7 @@
 -- The map of a cut, over runs of the proved functions `newmm::cut`, `break_map::break_map`,
 -- `break_map::breaks_up_to` and `break_map::next_break` themselves.
-use Rattle.std.specs.Prelude.{ℕ, ◌+◌, ◌-◌, ◌≤◌, ◌≡◌, List, length, take}
+use Rattle.std.specs.Prelude.{ℕ, ◌+◌, ◌-◌, ◌≤◌, ◌≡◌, List, length, take, Ok}
+use Rattle.newmm_answers.specs.Answers.{accepted_with}
 use contract.Lifetimes.{Lfts}
 use borrow.Fn.Kinds.{Dens, res_t, ended_of}
 use denote.Triple.Clauses.{AtExit}
@@ -10,9 +11,7 @@ use Rattle.break_map.proofs.breaks_up_to.Kinds as count_kinds
 use Rattle.break_map.proofs.breaks_up_to.Reads as count_contract
 use Rattle.break_map.proofs.next_break.Kinds as next_kinds
 use Rattle.break_map.proofs.next_break.Reads as next_contract
-use Rattle.refusal.specs.declared.Answer.TheVariants.{Accepted}
 use Rattle.newmm_rules.specs.Positions.{up_from, those, how_many, member}
-use Rattle.newmm_answers.specs.declared.CutAnswer.TheVariants.{Ends}
 use Rattle.break_map_rules.specs.Maps.{cells_for}
 use Rattle.break_map_rules.specs.Answers.{first_of}
 use Rattle.theorems_one_answer.specs.Runs.{Run, call_of, out_left}
@@ -79,12 +78,12 @@ pub record AboutMap (a : Run) (m : MapRun) (q : Question) : Type 0 where
 abbrev pub MapsOfRuns : Type 0
 MapsOfRuns =
     (a : Run) (k edges : ℕ) (m : MapRun)
-    → a.answer ≡ Ends k edges
+    → a.answer ≡ accepted_with k edges
     → MapOfCut a k m
-    → (m.answer ≡ Accepted (cells_for (text_long a)))
+    → (m.answer ≡ Ok (cells_for (text_long a)))
     × ((q : CountRun)
     → AboutMap a m (count_of q)
-    → q.answer ≡ Accepted (how_many (λ (p : ℕ). member p (ends_left a k)) ((count_of q).position + 1) 0))
+    → q.answer ≡ Ok (how_many (λ (p : ℕ). member p (ends_left a k)) ((count_of q).position + 1) 0))
     × ((q : NextRun)
     → AboutMap a m (next_of q)
     → q.answer

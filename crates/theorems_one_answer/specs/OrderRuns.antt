@@ -1,7 +1,8 @@
 -- The order of edits (02, ticket 8), over runs of the proved functions `trie_char::fresh`, `add`,
 -- `add_class` and `remove` themselves, and of `newmm::cut`.
-use Rattle.std.specs.Prelude.{ℕ, ◌≡◌, true, List, [], ◌∷◌, map}
+use Rattle.std.specs.Prelude.{ℕ, ◌≡◌, true, List, [], ◌∷◌, map, Result, Ok}
 use Rattle.std.proofs.Math.Option.{some}
+use Rattle.refusal.specs.declared.Refusal.{Refusal}
 use contract.Lifetimes.{Lfts}
 use borrow.Fn.Kinds.{Dens, res_t, ended_of}
 use denote.Triple.Clauses.{AtExit}
@@ -13,8 +14,6 @@ use Rattle.trie_char.proofs.add_class.Kinds as add_class_kinds
 use Rattle.trie_char.proofs.add_class.Reads as add_class_contract
 use Rattle.trie_char.proofs.remove.Kinds as remove_kinds
 use Rattle.trie_char.proofs.remove.Reads as remove_contract
-use Rattle.refusal.specs.declared.Answer.{Answer}
-use Rattle.refusal.specs.declared.Answer.TheVariants.{Accepted}
 use Rattle.trie_pool.specs.Rules.{is_dictionary}
 use Rattle.trie_pool.specs.Meaning.{Terms, terms}
 use Rattle.trie_char_answers.specs.Answers.{terms_of}
@@ -68,7 +67,7 @@ edit_of (added r) = add r.arguments.1.0.now 0
 edit_of (added_class r) = add r.arguments.1.0.now r.arguments.1.1.0
 edit_of (removed r) = remove r.arguments.1.0.now
 
-abbrev pub told_by : EditRun → Answer
+abbrev pub told_by : EditRun → Result ℕ Refusal
 told_by (added r) = r.answer
 told_by (added_class r) = r.answer
 told_by (removed r) = r.answer
@@ -88,7 +87,7 @@ pub data InTurn : List EditRun → List ℕ → List ℕ → Type 0 where
   nothing : {pool : List ℕ} → InTurn [] pool pool
   next : (r : EditRun) {rs : List EditRun} {pool new : List ℕ} (n : ℕ)
       → lent_to r ≡ pool
-      → told_by r ≡ Accepted n
+      → told_by r ≡ Ok n
       → InTurn rs (left_by r) new
       → InTurn (r ∷ rs) pool new
 
@@ -103,10 +102,10 @@ OrderOfRuns =
     → edit_of e' ≡ edit_of e
     → edit_of f' ≡ edit_of f
     → (word_of (edit_of e) ≡ word_of (edit_of f) → ⊥)
-    → told_by e ≡ Accepted i
-    → told_by f ≡ Accepted j
-    → told_by f' ≡ Accepted k
-    → told_by e' ≡ Accepted l
+    → told_by e ≡ Ok i
+    → told_by f ≡ Ok j
+    → told_by f' ≡ Ok k
+    → told_by e' ≡ Ok l
     → lent_to f ≡ left_by e
     → lent_to f' ≡ lent_to e
     → lent_to e' ≡ left_by f'
@@ -130,15 +129,15 @@ abbrev pub TwiceOfRuns : Type 0
 TwiceOfRuns =
     (e f : EditRun) (n : ℕ)
     → edit_of f ≡ edit_of e
-    → told_by e ≡ Accepted n
+    → told_by e ≡ Ok n
     → lent_to f ≡ left_by e
-    → (told_by f ≡ Accepted 0) × (left_by f ≡ left_by e)
+    → (told_by f ≡ Ok 0) × (left_by f ≡ left_by e)
 
 -- UNION: runs that add the words of list a and then of list b, without classes, to a fresh pool.
 abbrev pub UnionOfRuns : Type 0
 UnionOfRuns =
     (a b : List (List ℕ)) (f : FreshRun) (x y : List EditRun) (mid new : List ℕ) (n : ℕ)
-    → f.answer ≡ Accepted n
+    → f.answer ≡ Ok n
     → map edit_of x ≡ adds a
     → map edit_of y ≡ adds b
     → InTurn x (fresh_left f) mid
@@ -149,12 +148,12 @@ UnionOfRuns =
 abbrev pub UnionEitherWayOfRuns : Type 0
 UnionEitherWayOfRuns =
     (a b : List (List ℕ)) (f f' : FreshRun) (x y y' x' : List EditRun) (mid new mid' new' : List ℕ) (n n' : ℕ)
-    → f.answer ≡ Accepted n
+    → f.answer ≡ Ok n
     → map edit_of x ≡ adds a
     → map edit_of y ≡ adds b
     → InTurn x (fresh_left f) mid
     → InTurn y mid new
-    → f'.answer ≡ Accepted n'
+    → f'.answer ≡ Ok n'
     → map edit_of y' ≡ adds b
     → map edit_of x' ≡ adds a
     → InTurn y' (fresh_left f') mid'

@@ -1,13 +1,13 @@
 -- Demand 3 in plant calls (02, ticket 11), over runs of the proved functions `newmm_plants::cut_in`
 -- and `newmm_plants_reasons::cut_reasons_in` themselves.
-use Rattle.std.specs.Prelude.{ℕ, ◌*◌, ◌≤◌, ◌≡◌, List, map, length, take}
+use Rattle.std.specs.Prelude.{ℕ, ◌*◌, ◌≤◌, ◌≡◌, List, map, length, take, Result}
 use Rattle.std.proofs.Math.Option.{some}
+use Rattle.newmm_rules.specs.declared.Ends.{Ends}
+use Rattle.refusal.specs.declared.Refusal.{Refusal}
 use Rattle.trie_pool.specs.Meaning.{Words, words_in, no_term}
 use Rattle.trie_plants.specs.declared.Plant.{Plant}
 use Rattle.trie_plants.specs.Meaning.{plant_meaning}
-use Rattle.newmm_answers.specs.declared.CutAnswer.{CutAnswer}
-use Rattle.newmm_answers.specs.declared.CutAnswer.TheVariants.{Ends}
-use Rattle.newmm_answers.specs.Answers.{scratch_for}
+use Rattle.newmm_answers.specs.Answers.{accepted_with, scratch_for}
 use Rattle.newmm_answers.specs.Calls.{call}
 use Rattle.theorems_plants.specs.Plants.{terms_left}
 use Rattle.theorems_plants.specs.Cuts.{PlantCut}
@@ -40,15 +40,15 @@ pairs_left r = r.rows.1.1.1.0.now
 -- and room for that answer, then the other answers too, with the same number, the same edge count
 -- and the same cells.
 abbrev pub SameCells :
-    {Ran : Type 0} → (Ran → PlantCut) → (Ran → CutAnswer) → (Ran → List ℕ) → (ℕ → ℕ) → Ran → Ran → Type 0
+    {Ran : Type 0} → (Ran → PlantCut) → (Ran → Result Ends Refusal) → (Ran → List ℕ) → (ℕ → ℕ) → Ran → Ran → Type 0
 SameCells asked answer left cells a b =
     (asked a).given.text ≡ (asked b).given.text
     → (asked a).given.mode ≡ (asked b).given.mode
     → (n edges : ℕ)
-    → answer a ≡ Ends n edges
+    → answer a ≡ accepted_with n edges
     → scratch_for (length (asked b).given.text) ≤ length (asked b).given.scratch
     → cells n ≤ length (asked b).given.out
-    → (answer b ≡ Ends n edges) × (take (cells n) (left b) ≡ take (cells n) (left a))
+    → (answer b ≡ accepted_with n edges) × (take (cells n) (left b) ≡ take (cells n) (left a))
 
 -- The cut: n ends take n cells. The cut with reasons: n records take 2n cells.
 abbrev pub SameEnds : CutRun → CutRun → Type 0

@@ -4,7 +4,7 @@
 -- `newmm_plants_reasons::cut_reasons_in`, `newmm_plants_many::cut_many_in` and
 -- `cut_reasons_many_in`, `word_list_plants::read_image_in` and
 -- `word_list_plants_write::write_image_in`.
-use Rattle.std.specs.Prelude.{ℕ, ◌≡◌, true, List, [], ◌∷◌, map}
+use Rattle.std.specs.Prelude.{ℕ, ◌≡◌, true, List, [], ◌∷◌, map, Ok}
 use Rattle.std.proofs.Math.Option.{some}
 use contract.Lifetimes.{Lfts}
 use borrow.Fn.Kinds.{Dens, res_t, ended_of}
@@ -33,7 +33,6 @@ use Rattle.word_list_plants.proofs.read_image_in.Kinds as read_kinds
 use Rattle.word_list_plants.proofs.read_image_in.Reads as read_contract
 use Rattle.word_list_plants_write.proofs.write_image_in.Kinds as write_kinds
 use Rattle.word_list_plants_write.proofs.write_image_in.Reads as write_contract
-use Rattle.refusal.specs.declared.Answer.TheVariants.{Accepted}
 use Rattle.trie_pool.specs.Meaning.{no_term}
 use Rattle.trie_plants.specs.declared.Plant.{Plant}
 use Rattle.trie_plants.specs.Rules.{is_plants}
@@ -248,7 +247,7 @@ pub data InTurn : List CallRun → List ℕ → List ℕ → Type 0 where
 pub record PlantsRun (calls : List CallRun) (pool : List ℕ) : Type 0 where
   pub start : StartRun
   pub told : ℕ
-  pub accepted : start.answer ≡ Accepted told
+  pub accepted : start.answer ≡ Ok told
   pub turns : InTurn calls (start_left start) pool
 
 -- the limit that it gives a plant

@@ -8,8 +8,7 @@ use denote.Triple.Clauses.{AtExit}
 use Rattle.newmm_reasons.proofs.cut_reasons.Kinds as reasons_kinds
 use Rattle.newmm_reasons.proofs.cut_reasons.Reads as reasons_contract
 use Rattle.trie_pool.specs.Meaning.{Words, Terms, words_in, meaning}
-use Rattle.newmm_answers.specs.declared.CutAnswer.TheVariants.{Ends}
-use Rattle.newmm_answers.specs.Answers.{scratch_for}
+use Rattle.newmm_answers.specs.Answers.{accepted_with, scratch_for}
 use Rattle.newmm_answers.specs.Calls.{Call}
 use Rattle.theorems_demands.specs.Demand3.{Reached}
 use Rattle.theorems_demands.specs.Reasons.{WroteReasons}
@@ -40,7 +39,7 @@ pairs_left r = r.rows.1.1.0.now
 
 -- What a run that answered with n records wrote: the true reasons.
 abbrev pub ReasonsOfRuns : Type 0
-ReasonsOfRuns = (r : ReasonsRun) (n edges : ℕ) → r.answer ≡ Ends n edges → WroteReasons (asked_of r) n edges (pairs_left r)
+ReasonsOfRuns = (r : ReasonsRun) (n edges : ℕ) → r.answer ≡ accepted_with n edges → WroteReasons (asked_of r) n edges (pairs_left r)
 
 -- the first cell of each pair
 abbrev pub firsts : List ℕ → List ℕ
@@ -60,8 +59,8 @@ SameTokensOfRuns =
     → (call_of a).text ≡ (asked_of b).text
     → (call_of a).mode ≡ (asked_of b).mode
     → (n edges m edges' : ℕ)
-    → a.answer ≡ Ends n edges
-    → b.answer ≡ Ends m edges'
+    → a.answer ≡ accepted_with n edges
+    → b.answer ≡ accepted_with m edges'
     → (m ≡ n) × (edges' ≡ edges) × (firsts (take (2 * m) (pairs_left b)) ≡ take n (out_left a))
 
 -- DEMAND 3 FOR REASONS, of any two runs: for two pools that pass and hold the same words, and for
@@ -71,10 +70,10 @@ SameReasons a b =
     (asked_of a).text ≡ (asked_of b).text
     → (asked_of a).mode ≡ (asked_of b).mode
     → (n edges : ℕ)
-    → a.answer ≡ Ends n edges
+    → a.answer ≡ accepted_with n edges
     → scratch_for (length (asked_of b).text) ≤ length (asked_of b).scratch
     → 2 * n ≤ length (asked_of b).out
-    → (b.answer ≡ Ends n edges) × (take (2 * n) (pairs_left b) ≡ take (2 * n) (pairs_left a))
+    → (b.answer ≡ accepted_with n edges) × (take (2 * n) (pairs_left b) ≡ take (2 * n) (pairs_left a))
 
 abbrev pub Demand3AnyReasonsOfRuns : Type 0
 Demand3AnyReasonsOfRuns =

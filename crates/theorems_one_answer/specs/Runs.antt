@@ -8,8 +8,7 @@ use Rattle.newmm.proofs.cut.Kinds as cut_kinds
 use Rattle.newmm.proofs.cut.Reads as cut_contract
 use Rattle.trie_pool.specs.Meaning.{Words, Terms, words_in, meaning}
 use Rattle.newmm_rules.specs.declared.Mode.TheVariants.{Plain, Sheet}
-use Rattle.newmm_answers.specs.declared.CutAnswer.TheVariants.{Ends}
-use Rattle.newmm_answers.specs.Answers.{scratch_for}
+use Rattle.newmm_answers.specs.Answers.{accepted_with, scratch_for}
 use Rattle.newmm_answers.specs.Calls.{Call}
 use Rattle.theorems_demands.specs.Demand3.{Reached}
 use Rattle.theorems_demands.specs.FewestWords.{WroteStretches}
@@ -49,10 +48,10 @@ SameAnswers a b =
     (call_of a).text ≡ (call_of b).text
     → (call_of a).mode ≡ (call_of b).mode
     → (n edges : ℕ)
-    → a.answer ≡ Ends n edges
+    → a.answer ≡ accepted_with n edges
     → scratch_for (length (call_of b).text) ≤ length (call_of b).scratch
     → n ≤ length (call_of b).out
-    → (b.answer ≡ Ends n edges) × (take n (out_left b) ≡ take n (out_left a))
+    → (b.answer ≡ accepted_with n edges) × (take n (out_left b) ≡ take n (out_left a))
 
 -- any two pools that pass and hold the same words
 abbrev pub Demand3AnyOfRuns : Type 0
@@ -75,7 +74,7 @@ Demand3OfRuns =
 -- What a run that answered with n ends wrote: they rise strictly to the text's length, and in plain
 -- mode they are the ends of tokens.
 abbrev pub EndsOfRuns : Type 0
-EndsOfRuns = (r : Run) (n edges : ℕ) → r.answer ≡ Ends n edges → Wrote (call_of r) n (out_left r)
+EndsOfRuns = (r : Run) (n edges : ℕ) → r.answer ≡ accepted_with n edges → Wrote (call_of r) n (out_left r)
 
 -- A run of the plain cut that answered: the ends that it wrote stretch by stretch, each with the
 -- fewest words where at most 50 edges were recorded.
@@ -83,7 +82,7 @@ abbrev pub FewestOfRuns : Type 0
 FewestOfRuns =
     (r : Run) (n edges : ℕ)
     → (call_of r).mode ≡ Plain
-    → r.answer ≡ Ends n edges
+    → r.answer ≡ accepted_with n edges
     → WroteStretches (call_of r) n edges (out_left r)
 
 -- A run in the profile "sheet" that answered: the ends that it wrote part by part.
@@ -91,5 +90,5 @@ abbrev pub SheetOfRuns : Type 0
 SheetOfRuns =
     (r : Run) (n edges : ℕ)
     → (call_of r).mode ≡ Sheet
-    → r.answer ≡ Ends n edges
+    → r.answer ≡ accepted_with n edges
     → WroteParts (call_of r) n (out_left r)

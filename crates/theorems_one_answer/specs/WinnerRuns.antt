@@ -1,6 +1,6 @@
 -- The two matchers of clusters, over runs of the proved functions `tcc::tcc_pos` and
 -- `tcc_tables::tcc_winners` themselves.
-use Rattle.std.specs.Prelude.{ℕ, ◌≤◌, ◌≡◌, List, length, take}
+use Rattle.std.specs.Prelude.{ℕ, ◌≤◌, ◌≡◌, List, length, take, Ok}
 use contract.Lifetimes.{Lfts}
 use borrow.Fn.Kinds.{Dens, res_t, ended_of}
 use denote.Triple.Clauses.{AtExit}
@@ -8,7 +8,6 @@ use Rattle.tcc.proofs.tcc_pos.Kinds as tcc_pos_kinds
 use Rattle.tcc.proofs.tcc_pos.Reads as tcc_pos_contract
 use Rattle.tcc_tables.proofs.tcc_winners.Kinds as winners_kinds
 use Rattle.tcc_tables.proofs.tcc_winners.Reads as winners_contract
-use Rattle.refusal.specs.declared.Answer.TheVariants.{Accepted}
 
 -- A run of `tcc_pos`: its arguments, what it answered, the lent row when it returned, and what the
 -- check has proved of it.
@@ -64,6 +63,6 @@ abbrev pub SameEndsOfRuns : Type 0
 SameEndsOfRuns =
     (a : ClustersRun) (b : WinnersRun) (n m : ℕ)
     → text_of a ≡ text_in b
-    → a.answer ≡ Accepted n
-    → b.answer ≡ Accepted m
+    → a.answer ≡ Ok n
+    → b.answer ≡ Ok m
     → (n ≡ m) × (take n (out_left a) ≡ take n (ends_left b))

@@ -1,4 +1,6 @@
 -- The order of edits, over what the contracts of the calls say. Assumes nothing.
+use Rattle.std.specs.Prelude.{Result, Ok}
+use Rattle.refusal.specs.declared.Refusal.{Refusal}
 use Prim.Native.Nat.{ℕ, ◌*◌, ◌≤◌}
 use native.Mathlib.Omega.{arith}
 use mathlib.Core.Path.{◌≡◌, refl, sym, ap, subst, ◌∙◌}
@@ -8,8 +10,6 @@ use mathlib.Core.Option.{some}
 use mathlib.Core.Option as option
 use borrow.Author.Tests.{le-ltb}
 use lib.ListN.{length, drop}
-use Rattle.refusal.specs.declared.Answer.{Answer}
-use Rattle.refusal.specs.declared.Answer.TheVariants.{Accepted}
 use Rattle.refusal.proofs.Causes.{none_of}
 use Rattle.char_string_trim.specs.Trimming.{trimmed_of}
 use Rattle.trie_pool.specs.Cells.{used, mark_at}
@@ -151,34 +151,34 @@ module _ (old once : List ℕ) (n : ℕ) where
     still : (again : List ℕ) → Became once again (edited e (terms_of once)) → again ≡ once
     still again b = one_became once again once (edited e (terms_of once)) b (stayed once (edited e (terms_of once)) good stands)
 
-  second_add : (word : List ℕ) (class : ℕ) → Done (add word class) n old once → add_answer word class once ≡ Accepted 0
+  second_add : (word : List ℕ) (class : ℕ) → Done (add word class) n old once → add_answer word class once ≡ Ok 0
   second_add word class d =
       let r = none_of (add_causes word old) (report_term (trimmed_of word) (terms_of old) (with_term (trimmed_of word) class (terms_of old))) n (sym d.0) in
       all_pass (add_causes word once) (report_term (trimmed_of word) (terms_of once) (with_term (trimmed_of word) class (terms_of once)))
       (r.0, (r.1.0, (known (add word class) d, (r.1.1.1.0, (le-ltb (capacity once) (nodes_with once (trimmed_of word)) (fits once (trimmed_of word) class (terms_of old) d.1.means), tt)))))
-      ∙ ap Accepted (zero_told (add word class) d)
+      ∙ ap Ok (zero_told (add word class) d)
 
-  second_remove : (word : List ℕ) → Done (remove word) n old once → remove_answer word once ≡ Accepted 0
+  second_remove : (word : List ℕ) → Done (remove word) n old once → remove_answer word once ≡ Ok 0
   second_remove word d =
       let r = none_of (remove_causes word (meaning old)) (report_term (trimmed_of word) (terms_of old) (without_term (trimmed_of word) (terms_of old))) n (sym d.0) in
       all_pass (remove_causes word (meaning once)) (report_term (trimmed_of word) (terms_of once) (without_term (trimmed_of word) (terms_of once)))
       (r.0, (r.1.0, (known (remove word) d, (r.1.1.1.0, tt))))
-      ∙ ap Accepted (zero_told (remove word) d)
+      ∙ ap Ok (zero_told (remove word) d)
 
 pub twice : Twice
 twice (add word class) old once again n r d c =
-    let e : r ≡ Accepted 0 = c.0 ∙ second_add old once n word class d in
-    (e, still old once n (add word class) d again (subst (λ (a : Answer). After a once again (with_term (trimmed_of word) class (terms_of once))) e c.1))
+    let e : r ≡ Ok 0 = c.0 ∙ second_add old once n word class d in
+    (e, still old once n (add word class) d again (subst (λ (a : Result ℕ Refusal). After a once again (with_term (trimmed_of word) class (terms_of once))) e c.1))
 twice (remove word) old once again n r d c =
-    let e : r ≡ Accepted 0 = c.0 ∙ second_remove old once n word d in
-    (e, still old once n (remove word) d again (subst (λ (a : Answer). After a once again (without_term (trimmed_of word) (terms_of once))) e c.1))
+    let e : r ≡ Ok 0 = c.0 ∙ second_remove old once n word d in
+    (e, still old once n (remove word) d again (subst (λ (a : Result ℕ Refusal). After a once again (without_term (trimmed_of word) (terms_of once))) e c.1))
 
 -- ---- the union
 
 abbrev both : List (List ℕ) → List (List ℕ) → Terms
 both a b = edited_all (adds b) (edited_all (adds a) no_term)
 
-both_became : (a b : List (List ℕ)) (old empty mid new : List ℕ) (n : ℕ) → Freshened (Accepted n) old empty → AllDone (adds a) empty mid → AllDone (adds b) mid new → Became old new (both a b)
+both_became : (a b : List (List ℕ)) (old empty mid new : List ℕ) (n : ℕ) → Freshened (Ok n) old empty → AllDone (adds a) empty mid → AllDone (adds b) mid new → Became old new (both a b)
 both_became a b old empty mid new n f x y =
     let p = all_became x no_term f.1.means in
     let q = all_became y (edited_all (adds a) no_term) p.means in

@@ -1,10 +1,9 @@
 -- ORDER OF EDITS (02, ticket 8). Everything that the statements stand on is named here: an edit,
 -- what the contracts say of its call, and what two pools answer alike. A comment that starts in
 -- capitals names a statement: same answers, either order, edit files, twice is once, the union.
-use Rattle.std.specs.Prelude.{ℕ, ◌≤◌, ◌≡◌, true, List, [], ◌∷◌, map, ◌⊎◌, length}
+use Rattle.std.specs.Prelude.{ℕ, ◌≤◌, ◌≡◌, true, List, [], ◌∷◌, map, ◌⊎◌, length, Result, Ok}
 use Rattle.std.proofs.Math.Option.{some}
-use Rattle.refusal.specs.declared.Answer.{Answer}
-use Rattle.refusal.specs.declared.Answer.TheVariants.{Accepted}
+use Rattle.refusal.specs.declared.Refusal.{Refusal}
 use Rattle.char_string_trim.specs.Trimming.{trimmed_of}
 use Rattle.trie_pool.specs.Rules.{is_dictionary}
 use Rattle.trie_pool.specs.Listing.{Member}
@@ -26,13 +25,13 @@ word_of (add word class) = trimmed_of word
 word_of (remove word) = trimmed_of word
 
 -- What the contract of its function says of a call: the answer, and the pool before and after it.
-abbrev pub Called : Answer → Edit → List ℕ → List ℕ → Type 0
+abbrev pub Called : Result ℕ Refusal → Edit → List ℕ → List ℕ → Type 0
 Called r (add word class) old new = Added r word class old new
 Called r (remove word) old new = Taken r word old new
 
 -- The call was accepted and reported n.
 abbrev pub Done : Edit → ℕ → List ℕ → List ℕ → Type 0
-Done e n old new = Called (Accepted n) e old new
+Done e n old new = Called (Ok n) e old new
 
 -- Edits one after the other, each accepted.
 pub data AllDone : List Edit → List ℕ → List ℕ → Type 0 where
@@ -108,10 +107,10 @@ Files =
 -- 0, and it changes no cell.
 abbrev pub Twice : Type 0
 Twice =
-    (e : Edit) (old once again : List ℕ) (n : ℕ) (r : Answer)
+    (e : Edit) (old once again : List ℕ) (n : ℕ) (r : Result ℕ Refusal)
     → Done e n old once
     → Called r e once again
-    → (r ≡ Accepted 0) × (again ≡ once)
+    → (r ≡ Ok 0) × (again ≡ once)
 
 -- ---- the union of two lists
 
@@ -136,7 +135,7 @@ pub record HoldsUnion (a b : List (List ℕ)) (held : Terms) : Type 0 where
 abbrev pub Union : Type 0
 Union =
     (a b : List (List ℕ)) (old empty mid new : List ℕ) (n : ℕ)
-    → Freshened (Accepted n) old empty
+    → Freshened (Ok n) old empty
     → AllDone (adds a) empty mid
     → AllDone (adds b) mid new
     → (is_dictionary new ≡ true) × HoldsUnion a b (terms_of new)
@@ -145,10 +144,10 @@ Union =
 abbrev pub UnionEitherWay : Type 0
 UnionEitherWay =
     (a b : List (List ℕ)) (old empty mid new old' empty' mid' new' : List ℕ) (n n' : ℕ)
-    → Freshened (Accepted n) old empty
+    → Freshened (Ok n) old empty
     → AllDone (adds a) empty mid
     → AllDone (adds b) mid new
-    → Freshened (Accepted n') old' empty'
+    → Freshened (Ok n') old' empty'
     → AllDone (adds b) empty' mid'
     → AllDone (adds a) mid' new'
     → (terms new ≡ terms new') × SameTold new new' × (old ≡ old' → new ≡ new')

@@ -1,4 +1,5 @@
 -- What a plant is charged, by its own words. Assumes nothing.
+use Rattle.std.specs.Prelude.{Ok, Err}
 use Prim.Native.Nat.{ℕ, ◌+◌, ◌-◌, ◌≤◌, ◌<◌}
 use native.Mathlib.Omega.{arith}
 use mathlib.Core.Path.{◌≡◌, sym, ap, subst, ◌∙◌}
@@ -8,7 +9,6 @@ use borrow.Author.Tests.{lt-ltb, le-ltb}
 use lib.Dec.{ltb}
 use lib.ListN.{length}
 use Rattle.refusal.specs.declared.Refusal.TheVariants.{TooFewNodes}
-use Rattle.refusal.specs.declared.Answer.TheVariants.{Accepted, Refused}
 use Rattle.refusal.specs.Answers.{Cause, answer}
 use Rattle.refusal.proofs.Order.{accepted_first}
 use Rattle.refusal.proofs.Firsts.{accepted_if_none}
@@ -65,15 +65,15 @@ within_limits pool known = (
 -- ---- refusal 8
 
 -- a charge behind causes of which none holds
-module _ (plant : Plant) (pool : List ℕ) (cs : List Cause) (n charge k : ℕ) (free : answer cs n ≡ Accepted n) (is : charge ≡ k) where
-  decides : answer (cs ++ (limit_cause plant pool charge ∷ [])) n ≡ cond (ltb (limit_of plant pool) k) (Refused (TooFewNodes (k - limit_of plant pool))) (Accepted n)
-  decides = accepted_first cs (limit_cause plant pool charge ∷ []) n n free ∙ ap (λ (c : ℕ). cond (ltb (limit_of plant pool) c) (Refused (TooFewNodes (c - limit_of plant pool))) (Accepted n)) is
+module _ (plant : Plant) (pool : List ℕ) (cs : List Cause) (n charge k : ℕ) (free : answer cs n ≡ Ok n) (is : charge ≡ k) where
+  decides : answer (cs ++ (limit_cause plant pool charge ∷ [])) n ≡ cond (ltb (limit_of plant pool) k) (Err (TooFewNodes (k - limit_of plant pool))) (Ok n)
+  decides = accepted_first cs (limit_cause plant pool charge ∷ []) n n free ∙ ap (λ (c : ℕ). cond (ltb (limit_of plant pool) c) (Err (TooFewNodes (c - limit_of plant pool))) (Ok n)) is
 
-  pub over : limit_of plant pool < k → answer (cs ++ (limit_cause plant pool charge ∷ [])) n ≡ Refused (TooFewNodes (k - limit_of plant pool))
-  over l = decides ∙ ap (λ (b : Bool). cond b (Refused (TooFewNodes (k - limit_of plant pool))) (Accepted n)) (lt-ltb (limit_of plant pool) k l)
+  pub over : limit_of plant pool < k → answer (cs ++ (limit_cause plant pool charge ∷ [])) n ≡ Err (TooFewNodes (k - limit_of plant pool))
+  over l = decides ∙ ap (λ (b : Bool). cond b (Err (TooFewNodes (k - limit_of plant pool))) (Ok n)) (lt-ltb (limit_of plant pool) k l)
 
-  pub under : k ≤ limit_of plant pool → answer (cs ++ (limit_cause plant pool charge ∷ [])) n ≡ Accepted n
-  under l = decides ∙ ap (λ (b : Bool). cond b (Refused (TooFewNodes (k - limit_of plant pool))) (Accepted n)) (le-ltb (limit_of plant pool) k l)
+  pub under : k ≤ limit_of plant pool → answer (cs ++ (limit_cause plant pool charge ∷ [])) n ≡ Ok n
+  under l = decides ∙ ap (λ (b : Bool). cond b (Err (TooFewNodes (k - limit_of plant pool))) (Ok n)) (le-ltb (limit_of plant pool) k l)
 
 pub add_is_charged : AddIsCharged
 add_is_charged plant word class pool k free m =
@@ -82,7 +82,7 @@ add_is_charged plant word class pool k free m =
     let known : is_plants pool ≡ true = known_is plant pool free.1.1.0 in
     let is : charge_with plant pool (trimmed_of word) ≡ k =
     one_number (Prefix (with_word (trimmed_of word) (own_words plant pool))) (charge_with plant pool (trimmed_of word)) k (counted_with plant pool known (trimmed_of word)) m in
-    let a : answer cs n ≡ Accepted n = accepted_if_none cs n free in
+    let a : answer cs n ≡ Ok n = accepted_if_none cs n free in
     (over plant pool cs n (charge_with plant pool (trimmed_of word)) k a is, under plant pool cs n (charge_with plant pool (trimmed_of word)) k a is)
 
 -- an image's words
@@ -92,5 +92,5 @@ read_is_charged plant image pool ts k known bytes is m =
     let n : ℕ = length (list_of image) in
     let list_is : list_of image ≡ ts = ap list_in is in
     let counts : charge (list_of image) ≡ k = ap charge list_is ∙ one_number (Prefix (words_in (terms_in ts))) (charge ts) k (image_charge ts (only_images image ts bytes is).1) m in
-    let free : answer cs n ≡ Accepted n = accepted_if_none cs n (ap is_none (meaning_yes plant pool known), (ap is_broken is, tt)) in
-    (over plant pool cs n (charge (list_of image)) k free counts, λ l. under plant pool cs n (charge (list_of image)) k free counts l ∙ ap (λ (l : List Term). Accepted (length l)) list_is)
+    let free : answer cs n ≡ Ok n = accepted_if_none cs n (ap is_none (meaning_yes plant pool known), (ap is_broken is, tt)) in
+    (over plant pool cs n (charge (list_of image)) k free counts, λ l. under plant pool cs n (charge (list_of image)) k free counts l ∙ ap (λ (l : List Term). Ok (length l)) list_is)

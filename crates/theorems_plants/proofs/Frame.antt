@@ -1,5 +1,6 @@
 -- A call of a plant leaves the other plant's half, and a refused one the whole pool. Assumes
 -- nothing.
+use Rattle.std.specs.Prelude.{Result, Ok, Err}
 use Prim.Native.Nat.{ℕ, ◌-◌, ◌*◌}
 use native.Mathlib.Omega.{arith}
 use mathlib.Core.Path.{◌≡◌, refl, sym, ap, subst, ◌∙◌}
@@ -8,8 +9,6 @@ use mathlib.Core.List.{List}
 use mathlib.Core.Option.{none, some}
 use lib.ListN.{length, drop}
 use Rattle.refusal.specs.declared.Refusal.{Refusal}
-use Rattle.refusal.specs.declared.Answer.{Answer}
-use Rattle.refusal.specs.declared.Answer.TheVariants.{Accepted, Refused}
 use Rattle.trie_pool.specs.Rules.{capacity}
 use Rattle.trie_pool.specs.Meaning.{Terms}
 use Rattle.trie_plants.specs.declared.Plant.{Plant}
@@ -31,9 +30,9 @@ none_some e = absurd (let z : ◌≡◌ {A = ℕ} 0 1 = cc in omega arith)
 
 -- ---- refused
 
-refused_after : (plant : Plant) (a : Answer) (old new : List ℕ) (t : Terms) (r : Refusal) → refused_in a ≡ some r → PlantAfter plant a old new t → new ≡ old
-refused_after plant (Accepted n) old new t r e f = none_some e
-refused_after plant (Refused q) old new t r e f = f
+refused_after : (plant : Plant) (a : Result ℕ Refusal) (old new : List ℕ) (t : Terms) (r : Refusal) → refused_in a ≡ some r → PlantAfter plant a old new t → new ≡ old
+refused_after plant (Ok n) old new t r e f = none_some e
+refused_after plant (Err q) old new t r e f = f
 
 pub refused_left : (plant : Plant) (call : Call) (old new : List ℕ) (r : Refusal) → refusal (told_of plant call old) ≡ some r → Left plant call old new → new ≡ old
 refused_left plant (add word class) old new r e f = refused_after plant (plant_add_answer plant word class old) old new (plant_added plant word class old) r e f
@@ -69,9 +68,9 @@ beside_same : (plant : Plant) (old new : List ℕ) → is_plants old ≡ true �
 beside_same plant old new known e =
     record { passes = ap is_plants e ∙ known; others = ap (plant_terms (other_of plant)) e; rooms = λ any. ap (room_of any) e; later = ap (drop (8 * capacity old)) e; long = ap length e }
 
-beside_after : (plant : Plant) (a : Answer) (old new : List ℕ) (t : Terms) → is_plants old ≡ true → PlantAfter plant a old new t → Beside plant old new
-beside_after plant (Accepted n) old new t known b = beside_became plant old new t known b
-beside_after plant (Refused r) old new t known e = beside_same plant old new known e
+beside_after : (plant : Plant) (a : Result ℕ Refusal) (old new : List ℕ) (t : Terms) → is_plants old ≡ true → PlantAfter plant a old new t → Beside plant old new
+beside_after plant (Ok n) old new t known b = beside_became plant old new t known b
+beside_after plant (Err r) old new t known e = beside_same plant old new known e
 
 pub beside : (plant : Plant) (call : Call) (old new : List ℕ) → is_plants old ≡ true → Left plant call old new → Beside plant old new
 beside plant (add word class) old new known f = beside_after plant (plant_add_answer plant word class old) old new (plant_added plant word class old) known f

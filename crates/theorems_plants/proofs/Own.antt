@@ -1,4 +1,6 @@
 -- What a plant is told depends on its own words, classes and limit alone. Assumes nothing.
+use Rattle.std.specs.Prelude.{Result, Ok, Err}
+use Rattle.refusal.specs.declared.Refusal.{Refusal}
 use Prim.Native.Nat.{ℕ, ◌-◌}
 use mathlib.Core.Path.{◌≡◌, refl, sym, ap, subst, ◌∙◌}
 use mathlib.Core.Bool.{true}
@@ -7,8 +9,6 @@ use mathlib.Core.Option.{Option, some}
 use lib.Dec.{ltb}
 use lib.ListN.{length}
 use Rattle.refusal.specs.declared.Refusal.TheVariants.{TooFewNodes}
-use Rattle.refusal.specs.declared.Answer.{Answer}
-use Rattle.refusal.specs.declared.Answer.TheVariants.{Accepted, Refused}
 use Rattle.refusal.specs.Answers.{answer, output, out_cause}
 use Rattle.char_string_trim.specs.Trimming.{trimmed_of}
 use Rattle.trie_pool.specs.Cells.{used}
@@ -135,8 +135,8 @@ module _ (p q : Plant) (one two : List ℕ) (s : SameOwn p one q two) where
     stayed : new ≡ one → new' ≡ two → SameOwn p new q new'
     stayed e f = subst (λ (l : List ℕ). SameOwn p l q new') (sym e) (subst (λ (l : List ℕ). SameOwn p one q l) (sym f) s)
 
-    changed : (a : Answer) (t u : Terms) → ((v : List ℕ) → t v ≡ u v) → PlantAfter p a one new t → PlantAfter q a two new' u → SameOwn p new q new'
-    changed (Accepted n) t u same f g =
+    changed : (a : Result ℕ Refusal) (t u : Terms) → ((v : List ℕ) → t v ≡ u v) → PlantAfter p a one new t → PlantAfter q a two new' u → SameOwn p new q new'
+    changed (Ok n) t u same f g =
         record {
           terms_one = t;
           terms_two = u;
@@ -145,10 +145,10 @@ module _ (p q : Plant) (one two : List ℕ) (s : SameOwn p one q two) where
           same = same;
           limit = ap (λ (k : ℕ). k - 1) f.apart.limit ∙ s.limit ∙ sym (ap (λ (k : ℕ). k - 1) g.apart.limit);
         }
-    changed (Refused r) t u same f g = stayed f g
+    changed (Err r) t u same f g = stayed f g
 
-    moved : (a b : Answer) (t u : Terms) → a ≡ b → ((v : List ℕ) → t v ≡ u v) → PlantAfter p a one new t → PlantAfter q b two new' u → SameOwn p new q new'
-    moved a b t u e same f g = changed a t u same f (subst (λ (x : Answer). PlantAfter q x two new' u) (sym e) g)
+    moved : (a b : Result ℕ Refusal) (t u : Terms) → a ≡ b → ((v : List ℕ) → t v ≡ u v) → PlantAfter p a one new t → PlantAfter q b two new' u → SameOwn p new q new'
+    moved a b t u e same f g = changed a t u same f (subst (λ (x : Result ℕ Refusal). PlantAfter q x two new' u) (sym e) g)
 
     pub same_left : (call : Call) → Left p call one new → Left q call two new' → SameOwn p new q new'
     same_left (add word class) f g =

@@ -1,5 +1,6 @@
 -- Every pool of a run passes as a plants' pool, and each plant holds what its own calls left.
 -- Assumes nothing.
+use Rattle.std.specs.Prelude.{Result, Ok, Err}
 use Prim.Native.Nat.{ℕ}
 use native.Mathlib.Omega.{arith}
 use mathlib.Core.Path.{◌≡◌, refl, sym, ap, subst, ◌∙◌}
@@ -7,8 +8,6 @@ use mathlib.Core.Bool.{Bool, true, false, cond}
 use mathlib.Core.List.{List, ◌∷◌}
 use mathlib.Core.Option.{Option, none, some}
 use Rattle.refusal.specs.declared.Refusal.{Refusal}
-use Rattle.refusal.specs.declared.Answer.{Answer}
-use Rattle.refusal.specs.declared.Answer.TheVariants.{Accepted, Refused}
 use Rattle.char_string_trim.specs.Trimming.{trimmed_of}
 use Rattle.trie_pool.specs.Words.{term_at}
 use Rattle.trie_pool.specs.Rules.{cells_of, is_dictionary}
@@ -34,10 +33,10 @@ use Rattle.theorems_plants.proofs.Undisturbed.{is_plant, is_other, begun_passes,
 
 module _ (plant : Plant) (old new : List ℕ) (t : Terms) (known : plant_terms plant old ≡ some t) where
   -- a call that changes words
-  changes : (call : Call) (a : Answer) (u : Option Terms → Terms) → made call t ≡ u (some t) → PlantAfter plant a old new (u (plant_terms plant old))
+  changes : (call : Call) (a : Result ℕ Refusal) (u : Option Terms → Terms) → made call t ≡ u (some t) → PlantAfter plant a old new (u (plant_terms plant old))
       → plant_terms plant new ≡ some (left_by call (refused_in a) t)
-  changes call (Accepted n) u e b = b.means ∙ ap (λ (m : Option Terms). some (u m)) known ∙ ap some (sym e)
-  changes call (Refused r) u e f = ap (plant_terms plant) f ∙ known
+  changes call (Ok n) u e b = b.means ∙ ap (λ (m : Option Terms). some (u m)) known ∙ ap some (sym e)
+  changes call (Err r) u e f = ap (plant_terms plant) f ∙ known
 
   -- one that reads
   reads : (call : Call) (m : Option Refusal) → made call t ≡ t → new ≡ old → plant_terms plant new ≡ some (left_by call m t)

@@ -1,5 +1,7 @@
 -- No plants' pool is refused with 4, and a plain pool is refused whatever a plant asks. Assumes
 -- nothing.
+use Rattle.std.specs.Prelude.{Result, Ok, Err}
+use Rattle.newmm_rules.specs.declared.Ends.{Ends}
 use Prim.Native.Nat.{ℕ, ◌+◌, ◌*◌}
 use native.Mathlib.Omega.{arith}
 use mathlib.Core.Path.{◌≡◌, refl, sym, ap, subst, ◌∙◌}
@@ -10,8 +12,6 @@ use lib.ListN.{length, get_or, drop}
 use lib.Seq.{get_or-take, get_or-drop}
 use Rattle.refusal.specs.declared.Refusal.{Refusal}
 use Rattle.refusal.specs.declared.Refusal.TheVariants.{NotADictionary}
-use Rattle.refusal.specs.declared.Answer.{Answer}
-use Rattle.refusal.specs.declared.Answer.TheVariants.{Accepted, Refused}
 use Rattle.refusal.specs.Numbers.{number_of}
 use Rattle.refusal.specs.Answers.{Cause, answer}
 use Rattle.refusal.specs.Firsts.{None}
@@ -26,9 +26,7 @@ use Rattle.trie_plants.specs.Rules.{is_plants}
 use Rattle.trie_plants.specs.Meaning.{plant_meaning}
 use Rattle.trie_plants.proofs.Parts.{meaning_yes}
 use Rattle.trie_plants_answers.specs.Refusals.{plant_add_causes}
-use Rattle.newmm_answers.specs.declared.CutAnswer.{CutAnswer}
-use Rattle.newmm_answers.specs.declared.CutAnswer.TheVariants as cut_answer
-use Rattle.newmm_answers.specs.Answers.{cut_causes, told}
+use Rattle.newmm_answers.specs.Answers.{accepted_with, cut_causes, told}
 use Rattle.newmm_answers.specs.Calls as asked
 use Rattle.newmm_reasons_answers.specs.Answers.{pair_room}
 use Rattle.newmm_many_answers.specs.Turns.{cells_of}
@@ -64,18 +62,18 @@ any_number : (cs : List Cause) (n m : ℕ) → refused_in (answer cs n) ≡ refu
 any_number [] n m = refl
 any_number (c ∷ cs) n m = go c.holds (any_number cs n m)
   where
-    go : (b : Bool) → refused_in (answer cs n) ≡ refused_in (answer cs m) → refused_in (cond b (Refused c.refusal) (answer cs n)) ≡ refused_in (cond b (Refused c.refusal) (answer cs m))
+    go : (b : Bool) → refused_in (answer cs n) ≡ refused_in (answer cs m) → refused_in (cond b (Err c.refusal) (answer cs n)) ≡ refused_in (cond b (Err c.refusal) (answer cs m))
     go true ih = refl
     go false ih = ih
 
-by_word : (a : Answer) (t : Option ℕ) → refused_word (told_term a t) ≡ refused_in a
-by_word (Accepted n) none = refl
-by_word (Accepted n) (some class) = refl
-by_word (Refused r) t = refl
+by_word : (a : Result ℕ Refusal) (t : Option ℕ) → refused_word (told_term a t) ≡ refused_in a
+by_word (Ok n) none = refl
+by_word (Ok n) (some class) = refl
+by_word (Err r) t = refl
 
-by_cut : (a : Answer) (edges : ℕ) → refused_cut (told a edges) ≡ refused_in a
-by_cut (Accepted n) edges = refl
-by_cut (Refused r) edges = refl
+by_cut : (a : Result ℕ Refusal) (edges : ℕ) → refused_cut (told a edges) ≡ refused_in a
+by_cut (Ok n) edges = refl
+by_cut (Err r) edges = refl
 
 refused_by : (plant : Plant) (call : Call) (pool : List ℕ) → refusal (told_of plant call pool) ≡ refused_in (answer (causes_of plant call pool) 0)
 refused_by plant (add word class) pool = any_number (causes_of plant (add word class) pool) _ 0
@@ -104,7 +102,7 @@ never (c ∷ cs) n r h e f = go c.holds refl e (λ q. never cs n r h.1 q f)
     same : some c.refusal ≡ some r → c.refusal ≡ r
     same e = cc
 
-    go : (b : Bool) → c.holds ≡ b → refused_in (cond b (Refused c.refusal) (answer cs n)) ≡ some r → (refused_in (answer cs n) ≡ some r → ⊥) → ⊥
+    go : (b : Bool) → c.holds ≡ b → refused_in (cond b (Err c.refusal) (answer cs n)) ≡ some r → (refused_in (answer cs n) ≡ some r → ⊥) → ⊥
     go true is q ih = h.0 is (ap number_of (same q) ∙ f)
     go false is q ih = ih q
 
@@ -135,8 +133,8 @@ never_told plant call pool known r e =
 no_text : (f : Form) → ManyIsSingleFor f → (c : ManyCall) (k : ℕ) → ((i : ℕ) → get_or (cells_of (f.answer (single_call f c i))) 0 0 ≡ k → ⊥) → NoText k (told_texts (f.one c) c)
 no_text f single c k h = go (many_answer c) refl
   where
-    go : (x : Answer) → many_answer c ≡ x → NoText k (texts x (answers_by (f.one c) c) (out_by (f.one c) c) (scratch_by (f.one c) c))
-    go (Accepted n) e = λ i l q.
+    go : (x : Result ℕ Refusal) → many_answer c ≡ x → NoText k (texts x (answers_by (f.one c) c) (out_by (f.one c) c) (scratch_by (f.one c) c))
+    go (Ok n) e = λ i l q.
         let told_all = answers_by (f.one c) c in
         let z : 4 * i + 0 ≡ 4 * i = omega arith in
         h i (sym (ap (λ (m : List ℕ). get_or m 0 0) (single c n i e l).0)
@@ -144,16 +142,16 @@ no_text f single c k h = go (many_answer c) refl
         ∙ get_or-drop (4 * i) told_all 0 0
         ∙ ap (λ (m : ℕ). get_or told_all m 0) z
         ∙ q)
-    go (Refused r) e = tt
+    go (Err r) e = tt
 
 -- 4 is told where a single call is refused so, and 0 where it is accepted
-told_4 : (a : CutAnswer) → ((r : Refusal) → refused_cut a ≡ some r → number_of r ≡ 4 → ⊥) → get_or (cells_of a) 0 0 ≡ 4 → ⊥
-told_4 (cut_answer.Ends n edges) h e = absurd (omega arith)
-told_4 (cut_answer.Refused r) h e = h r refl e
+told_4 : (a : Result Ends Refusal) → ((r : Refusal) → refused_cut a ≡ some r → number_of r ≡ 4 → ⊥) → get_or (cells_of a) 0 0 ≡ 4 → ⊥
+told_4 (accepted_with n edges) h e = absurd (omega arith)
+told_4 (Err r) h e = h r refl e
 
-told_0 : (a : CutAnswer) → (refused_cut a ≡ none → ⊥) → get_or (cells_of a) 0 0 ≡ 0 → ⊥
-told_0 (cut_answer.Ends n edges) h e = h refl
-told_0 (cut_answer.Refused r) h e = some_number r e
+told_0 : (a : Result Ends Refusal) → (refused_cut a ≡ none → ⊥) → get_or (cells_of a) 0 0 ≡ 0 → ⊥
+told_0 (accepted_with n edges) h e = h refl
+told_0 (Err r) h e = some_number r e
 
 -- the call of the plant for a text by itself
 abbrev cut_for : asked.Call → Call
@@ -194,9 +192,9 @@ never_4 limit_a limit_b steps pool r = none_told r.calls (begun_passes limit_a l
 
 -- ---- a plain pool
 
-accepted_none : (cs : List Cause) (a : Answer) → answer cs 0 ≡ a → refused_in a ≡ none → None cs
-accepted_none cs (Accepted n) e h = none_of cs 0 n e
-accepted_none cs (Refused r) e h = absurd (let z : ◌≡◌ {A = ℕ} 0 1 = cc in omega arith)
+accepted_none : (cs : List Cause) (a : Result ℕ Refusal) → answer cs 0 ≡ a → refused_in a ≡ none → None cs
+accepted_none cs (Ok n) e h = none_of cs 0 n e
+accepted_none cs (Err r) e h = absurd (let z : ◌≡◌ {A = ℕ} 0 1 = cc in omega arith)
 
 module _ (plant : Plant) (pool : List ℕ) (plain : is_dictionary pool ≡ true) where
   -- a call that is accepted only with a pool that it knows

@@ -1,8 +1,7 @@
 -- WHAT A PLANT IS CHARGED (02, ticket 11): one for each distinct non-empty prefix of its own words,
 -- shared or not. A comment that starts in capitals names a statement.
-use Rattle.std.specs.Prelude.{ℕ, ◌+◌, ◌-◌, ◌≤◌, ◌<◌, ◌≡◌, true, List, length}
+use Rattle.std.specs.Prelude.{ℕ, ◌+◌, ◌-◌, ◌≤◌, ◌<◌, ◌≡◌, true, List, length, Ok, Err}
 use Rattle.refusal.specs.declared.Refusal.TheVariants.{TooFewNodes}
-use Rattle.refusal.specs.declared.Answer.TheVariants.{Accepted, Refused}
 use Rattle.refusal.specs.Firsts.{None}
 use Rattle.char_string_trim.specs.Trimming.{trimmed_of}
 use Rattle.trie_pool.specs.Rules.{capacity}
@@ -45,10 +44,10 @@ AddIsCharged =
     (plant : Plant) (word : List ℕ) (class : ℕ) (pool : List ℕ) (k : ℕ)
     → None (remove_causes word (plant_meaning plant pool))
     → Number (Prefix (with_word (trimmed_of word) (own_words plant pool))) k
-    → (limit_of plant pool < k → plant_add_answer plant word class pool ≡ Refused (TooFewNodes (k - limit_of plant pool)))
+    → (limit_of plant pool < k → plant_add_answer plant word class pool ≡ Err (TooFewNodes (k - limit_of plant pool)))
     × (k ≤ limit_of plant pool
     → plant_add_answer plant word class pool
-    ≡ Accepted (report_term (trimmed_of word) (own_terms plant pool) (plant_added plant word class pool)))
+    ≡ Ok (report_term (trimmed_of word) (own_terms plant pool) (plant_added plant word class pool)))
 
 -- REFUSAL 8 IN A READING, where neither 4 nor 9 is due: exactly if the charge k of the image's
 -- words would pass the plant's limit; by how many. What the plant held before does not count.
@@ -59,5 +58,5 @@ ReadIsCharged =
     → Bytes image
     → read_of image ≡ list ts
     → Number (Prefix (words_in (terms_in ts))) k
-    → (limit_of plant pool < k → plant_read_answer plant image pool ≡ Refused (TooFewNodes (k - limit_of plant pool)))
-    × (k ≤ limit_of plant pool → plant_read_answer plant image pool ≡ Accepted (length ts))
+    → (limit_of plant pool < k → plant_read_answer plant image pool ≡ Err (TooFewNodes (k - limit_of plant pool)))
+    × (k ≤ limit_of plant pool → plant_read_answer plant image pool ≡ Ok (length ts))

@@ -1,12 +1,13 @@
 -- DEMAND 3 IN PLANT CALLS (02, ticket 11), where it reads "the words of that plant": the same text,
 -- mode and words give the same ends and the same edge count, whichever plants hold them, in
 -- whatever plants' pools, and whatever scratch held.
-use Rattle.std.specs.Prelude.{ℕ, ◌*◌, ◌≡◌, List}
+use Rattle.std.specs.Prelude.{ℕ, ◌*◌, ◌≡◌, List, Result}
 use Rattle.std.proofs.Math.Option.{some}
+use Rattle.newmm_rules.specs.declared.Ends.{Ends}
+use Rattle.refusal.specs.declared.Refusal.{Refusal}
 use Rattle.trie_pool.specs.Meaning.{Words, words_in, no_term}
 use Rattle.trie_plants.specs.declared.Plant.{Plant}
 use Rattle.trie_plants.specs.Meaning.{plant_meaning}
-use Rattle.newmm_answers.specs.declared.CutAnswer.{CutAnswer}
 use Rattle.newmm_answers.specs.Calls.{Call}
 use Rattle.theorems_demands.specs.Demand3.{Operation, SameAnswerFor}
 use Rattle.newmm_plants.specs.Calls.{plant_answer_of, plant_out_of}
@@ -19,7 +20,7 @@ pub record PlantCut : Type 0 where
   pub given : Call
 
 -- such a call as demand 3 speaks of cutting calls
-abbrev pub plant_operation : (PlantCut → CutAnswer) → (PlantCut → List ℕ) → (ℕ → ℕ) → Operation
+abbrev pub plant_operation : (PlantCut → Result Ends Refusal) → (PlantCut → List ℕ) → (ℕ → ℕ) → Operation
 plant_operation answer after cells =
     record {
       Asked = PlantCut;

@@ -2,12 +2,12 @@
 -- Everything that the statements stand on is named here: what a plant asks, what it is told, what
 -- the contracts say of the call, and a run of calls of both plants. A comment that starts in
 -- capitals names a statement. Cells are told to no one here, nor how long a call took.
-use Rattle.std.specs.Prelude.{ℕ, ◌*◌, ◌<◌, ◌≡◌, Bool, true, false, cond, List, [], ◌∷◌, get_or}
+use Rattle.std.specs.Prelude.{ℕ, ◌*◌, ◌<◌, ◌≡◌, Bool, true, false, cond, List, [], ◌∷◌, get_or, Result, Ok, Err}
 use Rattle.std.proofs.Math.Option.{Option, none, some}
+use Rattle.newmm_answers.specs.Answers.{accepted_with}
+use Rattle.newmm_rules.specs.declared.Ends.{Ends}
 use Rattle.refusal.specs.declared.Refusal.{Refusal}
 use Rattle.refusal.specs.declared.Refusal.TheVariants.{NotADictionary}
-use Rattle.refusal.specs.declared.Answer.{Answer}
-use Rattle.refusal.specs.declared.Answer.TheVariants.{Accepted, Refused}
 use Rattle.refusal.specs.Answers.{output}
 use Rattle.char_string_trim.specs.Trimming.{trimmed_of}
 use Rattle.trie_pool.specs.Rules.{is_dictionary}
@@ -24,8 +24,6 @@ use Rattle.trie_plants_answers.specs.Answers.{plant_contains_answer, plant_prefi
 use Rattle.trie_plants_answers.specs.Changes.{PlantAfter, Started}
 use Rattle.word_list_answers.specs.Answers.{image_terms}
 use Rattle.newmm_rules.specs.declared.Mode.{Mode}
-use Rattle.newmm_answers.specs.declared.CutAnswer.{CutAnswer}
-use Rattle.newmm_answers.specs.declared.CutAnswer.TheVariants as cut_answer
 use Rattle.newmm_answers.specs.Calls as asked
 use Rattle.newmm_many_answers.specs.Turns.{Singly}
 use Rattle.newmm_many_answers.specs.Calls.{ManyCall, many_call, many_answer, answers_by, out_by, scratch_by}
@@ -53,11 +51,11 @@ pub data Call : Type 0 where
 
 -- What it is told: the answer, and each row that it lent to be written, as it is afterwards.
 pub data Told : Type 0 where
-  number : Answer → Told
+  number : Result ℕ Refusal → Told
   held : WordAnswer → Told
-  row : Answer → (out : List ℕ) → Told
-  rows : CutAnswer → (out scratch : List ℕ) → Told
-  texts : Answer → (answers out scratch : List ℕ) → Told
+  row : Result ℕ Refusal → (out : List ℕ) → Told
+  rows : Result Ends Refusal → (out scratch : List ℕ) → Told
+  texts : Result ℕ Refusal → (answers out scratch : List ℕ) → Told
 
 -- what a call with many texts is told, by the single calls that it stands for
 abbrev pub told_texts : Singly → ManyCall → Told
@@ -112,17 +110,17 @@ pub record Kept (plant : Plant) (call : Call) (old new : List ℕ) (told : Told)
   pub left : Left plant call old new
 
 -- the refusal that a plant is told, if it is one; of a call with many texts, that of the whole
-abbrev pub refused_in : Answer → Option Refusal
-refused_in (Accepted n) = none
-refused_in (Refused r) = some r
+abbrev pub refused_in : Result ℕ Refusal → Option Refusal
+refused_in (Ok n) = none
+refused_in (Err r) = some r
 
 abbrev pub refused_word : WordAnswer → Option Refusal
 refused_word (word_answer.Held n class) = none
 refused_word (word_answer.Refused r) = some r
 
-abbrev pub refused_cut : CutAnswer → Option Refusal
-refused_cut (cut_answer.Ends n edges) = none
-refused_cut (cut_answer.Refused r) = some r
+abbrev pub refused_cut : Result Ends Refusal → Option Refusal
+refused_cut (accepted_with n edges) = none
+refused_cut (Err r) = some r
 
 abbrev pub refusal : Told → Option Refusal
 refusal (number r) = refused_in r
@@ -133,8 +131,8 @@ refusal (texts r answers out scratch) = refused_in r
 
 -- No text of an accepted call is told this number: the first of its four cells.
 abbrev pub NoText : ℕ → Told → Type 0
-NoText k (texts (Accepted n) answers out scratch) = (i : ℕ) → i < n → get_or answers (4 * i) 0 ≡ k → ⊥
-NoText k (texts (Refused r) answers out scratch) = Unit {0}
+NoText k (texts (Ok n) answers out scratch) = (i : ℕ) → i < n → get_or answers (4 * i) 0 ≡ k → ⊥
+NoText k (texts (Err r) answers out scratch) = Unit {0}
 NoText k (number r) = Unit {0}
 NoText k (held r) = Unit {0}
 NoText k (row r out) = Unit {0}
@@ -214,8 +212,8 @@ pub record Run (limit_a limit_b : ℕ) (steps : List Step) (pool : List ℕ) : T
   pub lent : List ℕ
   pub begun : List ℕ
   pub told : ℕ
-  pub accepted : start_answer limit_a limit_b lent ≡ Accepted told
-  pub started : Started (Accepted told) limit_a limit_b lent begun
+  pub accepted : start_answer limit_a limit_b lent ≡ Ok told
+  pub started : Started (Ok told) limit_a limit_b lent begun
   pub calls : Steps steps begun pool
 
 abbrev pub limit_for : Plant → ℕ → ℕ → ℕ

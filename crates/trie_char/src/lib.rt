@@ -8,7 +8,7 @@ ghost use Rattle.trie_char_answers.specs.Answers.{fresh_answer, add_answer, adde
 ghost use Rattle.trie_char_answers.specs.Changes.{After};
 
 use char_string_trim::trimmed;
-use refusal::{Answer, Refusal};
+use refusal::Refusal;
 use trie_change::{add_word, remove_word, reset};
 use trie_char_answers::check_word;
 use trie_check::capacity;
@@ -16,29 +16,26 @@ use trie_pool::NODE;
 use trie_search::{mark_of, missing, nodes_in_use};
 
 // Makes a dictionary without words, whatever the cells held before.
-pub fn fresh(pool: &mut [u32]) -> Answer
+pub fn fresh(pool: &mut [u32]) -> Result<usize, Refusal>
     ensures value { result ≡ fresh_answer pool.old }
     ensures after { After result pool.old pool.new no_term }
 {
     if pool.len() < NODE {
-        return Answer::Refused(Refusal::TooFewNodes(1));
+        return Err(Refusal::TooFewNodes(1));
     }
     let cells = NODE * capacity(pool.len());
     reset(&mut pool[..cells]);
-    Answer::Accepted(0)
+    Ok(0)
 }
 
 // Adds the trimmed word with its class, or gives a word that is held this class; 1 if the words or
 // their classes changed, else 0.
-pub fn add_class(pool: &mut [u32], word: &[u32], class: u16) -> Answer
+pub fn add_class(pool: &mut [u32], word: &[u32], class: u16) -> Result<usize, Refusal>
     ensures value { result ≡ add_answer word.now class pool.old }
     ensures after { After result pool.old pool.new
         (added word.now class pool.old) }
 {
-    let checked = check_word(pool, word);
-    let Answer::Accepted(_) = checked else {
-        return checked;
-    };
+    check_word(pool, word)?;
     let w = trimmed(word);
     let nodes = capacity(pool.len());
     let cells = NODE * nodes;
@@ -46,21 +43,21 @@ pub fn add_class(pool: &mut [u32], word: &[u32], class: u16) -> Answer
     let free = nodes - nodes_in_use(pool);
     if free < more {
         let short = more - free;
-        return Answer::Refused(Refusal::TooFewNodes(short));
+        return Err(Refusal::TooFewNodes(short));
     }
     if w.len() == 0 {
-        return Answer::Accepted(0);
+        return Ok(0);
     }
     let mark = class as u32 + 1;
     if mark_of(&pool[..cells], w) == mark {
-        return Answer::Accepted(0);
+        return Ok(0);
     }
     add_word(&mut pool[..cells], w, mark);
-    Answer::Accepted(1)
+    Ok(1)
 }
 
 // Adds the trimmed word without a class, which means class 0.
-pub fn add(pool: &mut [u32], word: &[u32]) -> Answer
+pub fn add(pool: &mut [u32], word: &[u32]) -> Result<usize, Refusal>
     ensures value { result ≡ add_answer word.now 0 pool.old }
     ensures after { After result pool.old pool.new
         (added word.now 0 pool.old) }
@@ -69,20 +66,17 @@ pub fn add(pool: &mut [u32], word: &[u32]) -> Answer
 }
 
 // Removes the trimmed word; 1 if the words changed, else 0.
-pub fn remove(pool: &mut [u32], word: &[u32]) -> Answer
+pub fn remove(pool: &mut [u32], word: &[u32]) -> Result<usize, Refusal>
     ensures value { result ≡ remove_answer word.now pool.old }
     ensures after { After result pool.old pool.new
         (removed word.now pool.old) }
 {
-    let checked = check_word(pool, word);
-    let Answer::Accepted(_) = checked else {
-        return checked;
-    };
+    check_word(pool, word)?;
     let w = trimmed(word);
     let cells = NODE * capacity(pool.len());
     if mark_of(&pool[..cells], w) == 0 {
-        return Answer::Accepted(0);
+        return Ok(0);
     }
     remove_word(&mut pool[..cells], 0, w);
-    Answer::Accepted(1)
+    Ok(1)
 }

@@ -1,4 +1,5 @@
 -- What add, remove and fresh answer, and what becomes of the pool. Assumes nothing.
+use Rattle.std.specs.Prelude.{Result, Ok, Err}
 use Prim.Native.Nat.{ℕ, zero, suc, ◌+◌, ◌-◌, ◌*◌, ◌/◌, ◌≤◌, ◌<◌, min}
 use native.Mathlib.Omega.{arith}
 use mathlib.Core.Path.{◌≡◌, refl, sym, ap, subst, ◌∙◌}
@@ -12,8 +13,6 @@ use lib.ListN.{length, get_or, take, drop, length-append, length-drop}
 use lib.Seq.{get_or-take, take_at, drop_at}
 use Rattle.refusal.specs.declared.Refusal.{Refusal}
 use Rattle.refusal.specs.declared.Refusal.TheVariants.{TooFewNodes}
-use Rattle.refusal.specs.declared.Answer.{Answer}
-use Rattle.refusal.specs.declared.Answer.TheVariants.{Accepted, Refused}
 use Rattle.refusal.specs.Answers.{Cause, answer}
 use Rattle.char_string_scalars.specs.Scalars.{is_scalar}
 use Rattle.char_string_trim.specs.Trimming.{trimmed_of}
@@ -85,12 +84,12 @@ stayed old held' e h = record { means = terms_yes old e ∙ ap some (sym (terms_
 
 -- ---- an accepted word
 
-module _ (old word : List ℕ) {a : Answer} {k : ℕ} (is : a ≡ answer (remove_causes word (meaning old)) (length word)) (yes' : a ≡ Accepted k)
+module _ (old word : List ℕ) {a : Result ℕ Refusal} {k : ℕ} (is : a ≡ answer (remove_causes word (meaning old)) (length word)) (yes' : a ≡ Ok k)
     (n : ℕ) (n_is : n ≡ min (length old / 8) 1048576) (t : List ℕ) (t_is : t ≡ trimmed_of word) where
   abbrev part : List ℕ
   part = take (8 * n) old
 
-  first : answer (remove_causes word (meaning old)) (length word) ≡ Accepted k
+  first : answer (remove_causes word (meaning old)) (length word) ≡ Ok k
   first = sym is ∙ yes'
 
   pub known : is_dictionary old ≡ true
@@ -138,23 +137,23 @@ module _ (old word : List ℕ) {a : Answer} {k : ℕ} (is : a ≡ answer (remove
     abbrev cause : Cause
     cause = record { refusal = TooFewNodes (nodes_with old (trimmed_of word) - capacity old); holds = ltb (capacity old) (nodes_with old (trimmed_of word)) }
 
-    pub add_full : (q : ℕ) → n - u < more → Refused (TooFewNodes (more - (n - u))) ≡ answer (add_causes word old) q
+    pub add_full : (q : ℕ) → n - u < more → Err (TooFewNodes (more - (n - u))) ≡ answer (add_causes word old) q
     add_full q l =
         let d : more - (n - u) ≡ nodes_with old (trimmed_of word) - capacity old = omega (arith, nodes, used_fits) in
-        ap (λ (z : ℕ). Refused (TooFewNodes z)) d
+        ap (λ (z : ℕ). Err (TooFewNodes z)) d
         ∙ cause_yes (remove_causes word (meaning old)) cause (length word) q first (lt-ltb (capacity old) (nodes_with old (trimmed_of word)) (omega (arith, nodes, used_fits)))
 
     module _ (room : more ≤ n - u) where
-      accepted : (q : ℕ) → Accepted q ≡ answer (add_causes word old) q
+      accepted : (q : ℕ) → Ok q ≡ answer (add_causes word old) q
       accepted q = cause_no (remove_causes word (meaning old)) cause (length word) q first (le-ltb (capacity old) (nodes_with old (trimmed_of word)) (omega (arith, nodes, used_fits)))
 
-      told : (x : ℕ) → x ≡ report → Accepted x ≡ answer (add_causes word old) report
-      told x e = ap Accepted e ∙ accepted report
+      told : (x : ℕ) → x ≡ report → Ok x ≡ answer (add_causes word old) report
+      told x e = ap Ok e ∙ accepted report
 
-      same_terms : ((v : List ℕ) → terms_of old v ≡ after v) → (Accepted 0 ≡ answer (add_causes word old) report) × Became old old after
+      same_terms : ((v : List ℕ) → terms_of old v ≡ after v) → (Ok 0 ≡ answer (add_causes word old) report) × Became old old after
       same_terms h = (told 0 (no_change (trimmed_of word) (terms_of old) after h), stayed old after known h)
 
-      pub add_blank : length t ≡ 0 → (Accepted 0 ≡ answer (add_causes word old) report) × Became old old after
+      pub add_blank : length t ≡ 0 → (Ok 0 ≡ answer (add_causes word old) report) × Became old old after
       add_blank z = same_terms (with_blank (trimmed_of word) c (terms_of old) (sym size_t ∙ z))
 
       module _ (some' : length t ≡ 0 → ⊥) (mark : ℕ) (mark_is : mark ≡ c + 1) where
@@ -162,7 +161,7 @@ module _ (old word : List ℕ) {a : Answer} {k : ℕ} (is : a ≡ answer (remove
         one = let z : 1 ≤ length t = omega arith in omega (arith, size_t)
 
         -- a word that is held with this class
-        pub add_same : (m : ℕ) → term m ≡ term_at part t → m ≡ mark → (Accepted 0 ≡ answer (add_causes word old) report) × Became old old after
+        pub add_same : (m : ℕ) → term m ≡ term_at part t → m ≡ mark → (Ok 0 ≡ answer (add_causes word old) report) × Became old old after
         add_same m e h = same_terms (with_held (trimmed_of word) c (terms_of old) one (held_t e ∙ term_mark m c (h ∙ mark_is)))
 
         pub puts : c ≤ 65535 → Puts part t mark
@@ -183,7 +182,7 @@ module _ (old word : List ℕ) {a : Answer} {k : ℕ} (is : a ≡ answer (remove
             }
 
         pub add_done : (m : ℕ) → term m ≡ term_at part t → (m ≡ mark → ⊥) → (new : List ℕ) → length new ≡ length part → PutIn part new t mark
-            → (Accepted 1 ≡ answer (add_causes word old) report) × Became old (new ++ drop (8 * n) old) after
+            → (Ok 1 ≡ answer (add_causes word old) report) × Became old (new ++ drop (8 * n) old) after
         add_done m e h new l p =
             let there : term_at new t ≡ some c = p.held ∙ term_mark mark c mark_is in
             let now' : (v : List ℕ) → term_at new v ≡ after v =
@@ -200,10 +199,10 @@ module _ (old word : List ℕ) {a : Answer} {k : ℕ} (is : a ≡ answer (remove
   abbrev taken : ℕ
   taken = report_term (trimmed_of word) (terms_of old) without
 
-  pub remove_absent : (m : ℕ) → term m ≡ term_at part t → m ≡ 0 → (Accepted 0 ≡ answer (remove_causes word (meaning old)) taken) × Became old old without
+  pub remove_absent : (m : ℕ) → term m ≡ term_at part t → m ≡ 0 → (Ok 0 ≡ answer (remove_causes word (meaning old)) taken) × Became old old without
   remove_absent m e h =
       let same : (v : List ℕ) → terms_of old v ≡ without v = without_absent (trimmed_of word) (terms_of old) (held_t e ∙ ap term h) in (
-        ap Accepted (no_change (trimmed_of word) (terms_of old) without same) ∙ again (remove_causes word (meaning old)) (length word) taken first,
+        ap Ok (no_change (trimmed_of word) (terms_of old) without same) ∙ again (remove_causes word (meaning old)) (length word) taken first,
         stayed old without known same,
       )
 
@@ -211,19 +210,19 @@ module _ (old word : List ℕ) {a : Answer} {k : ℕ} (is : a ≡ answer (remove
   removes m e h = record { past_root = omega (arith, some_word part t m e h); sound = sound; path = []; leads = refl }
 
   pub remove_done : (m : ℕ) → term m ≡ term_at part t → (m ≡ 0 → ⊥) → (new : List ℕ) → length new ≡ length part → ((u : List ℕ) → reach part u ≡ at 0 → Removed part new u 0 t)
-      → (Accepted 1 ≡ answer (remove_causes word (meaning old)) taken) × Became old (new ++ drop (8 * n) old) without
+      → (Ok 1 ≡ answer (remove_causes word (meaning old)) taken) × Became old (new ++ drop (8 * n) old) without
   remove_done m e h new l f =
       let p = f [] refl in
       let now' : (v : List ℕ) → term_at new v ≡ without v =
       λ v. is_without_term t (terms_of old) (term_at new) p.gone (λ z ne. p.others z ne ∙ ap (λ (f : Terms). f z) (sym terms_are)) v ∙ ap (λ (w : List ℕ). without_term w (terms_of old) v) t_is in (
-        ap Accepted (gone m h ∙ report_is (trimmed_of word) (terms_of old) without (term m) none (held_t e) (sym (now' (trimmed_of word)) ∙ ap (term_at new) (sym t_is) ∙ p.gone))
+        ap Ok (gone m h ∙ report_is (trimmed_of word) (terms_of old) without (term m) none (held_t e) (sym (now' (trimmed_of word)) ∙ ap (term_at new) (sym t_is) ∙ p.gone))
             ∙ again (remove_causes word (meaning old)) (length word) taken first,
         became old n n_is new without (l ∙ long old n n_is) p.sound (plain_kept p.beside plain) now',
       )
 
 -- ---- a refused one
 
-module _ (old word : List ℕ) {a : Answer} {r : Refusal} (is : a ≡ answer (remove_causes word (meaning old)) (length word)) (no' : a ≡ Refused r) where
+module _ (old word : List ℕ) {a : Result ℕ Refusal} {r : Refusal} (is : a ≡ answer (remove_causes word (meaning old)) (length word)) (no' : a ≡ Err r) where
   pub remove_refused : (q : ℕ) → a ≡ answer (remove_causes word (meaning old)) q
   remove_refused q = handed_same (remove_causes word (meaning old)) (length word) q is no'
 
@@ -231,4 +230,4 @@ module _ (old word : List ℕ) {a : Answer} {r : Refusal} (is : a ≡ answer (re
   add_refused q = handed (remove_causes word (meaning old)) (node_causes old (trimmed_of word)) (length word) q is no'
 
   pub untouched : (held' : Terms) → After a old old held'
-  untouched held' = subst (λ (z : Answer). After z old old held') (sym no') refl
+  untouched held' = subst (λ (z : Result ℕ Refusal). After z old old held') (sym no') refl

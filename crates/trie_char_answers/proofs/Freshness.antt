@@ -1,4 +1,5 @@
 -- The root alone is a dictionary without words. Assumes nothing.
+use Rattle.std.specs.Prelude.{Ok, Err}
 use Prim.Native.Nat.{ℕ, ◌+◌, ◌*◌, ◌/◌, ◌≤◌, ◌<◌, min}
 use native.Mathlib.Omega.{arith}
 use mathlib.Core.Path.{◌≡◌, sym, ap, subst, ◌∙◌}
@@ -7,7 +8,6 @@ use mathlib.Core.List.{List, [], ◌∷◌, ◌++◌}
 use borrow.Author.Tests.{lt-ltb, le-ltb}
 use lib.ListN.{length, drop}
 use Rattle.refusal.specs.declared.Refusal.TheVariants.{TooFewNodes}
-use Rattle.refusal.specs.declared.Answer.TheVariants.{Accepted, Refused}
 use Rattle.refusal.specs.Answers.{answer}
 use Rattle.trie_pool.specs.Cells.{first_at, count_at, mark_at, used}
 use Rattle.trie_pool.specs.Words.{none, on_place, scan, child, walk, term, term_at}
@@ -65,12 +65,12 @@ module _ (p : List ℕ) (h : RootAlone p) (some : 8 ≤ length p) where
 
 -- ---- the answer
 
-pub fresh_short : (old : List ℕ) → length old < 8 → Refused (TooFewNodes 1) ≡ answer (fresh_causes old) 0
-fresh_short old l = sym (ap (λ (b : Bool). cond b (Refused (TooFewNodes 1)) (Accepted 0)) (lt-ltb (length old) 8 l))
+pub fresh_short : (old : List ℕ) → length old < 8 → Err (TooFewNodes 1) ≡ answer (fresh_causes old) 0
+fresh_short old l = sym (ap (λ (b : Bool). cond b (Err (TooFewNodes 1)) (Ok 0)) (lt-ltb (length old) 8 l))
 
 pub fresh_done : (old : List ℕ) (n : ℕ) → n ≡ min (length old / 8) 1048576 → 8 ≤ length old → (new : List ℕ) → length new ≡ 8 * n → RootAlone new
-    → (Accepted 0 ≡ answer (fresh_causes old) 0) × Became old (new ++ drop (8 * n) old) no_term
+    → (Ok 0 ≡ answer (fresh_causes old) 0) × Became old (new ++ drop (8 * n) old) no_term
 fresh_done old n n_is l new k h = (
-  sym (ap (λ (b : Bool). cond b (Refused (TooFewNodes 1)) (Accepted 0)) (le-ltb (length old) 8 l)),
+  sym (ap (λ (b : Bool). cond b (Err (TooFewNodes 1)) (Ok 0)) (le-ltb (length old) 8 l)),
   became old n n_is new no_term k (alone_sound new h (omega arith)) (alone_plain new h (omega arith)) (alone_terms new h (omega arith)),
 )

@@ -1,13 +1,13 @@
 -- No second pool fits what add, remove and fresh say of it, and every pool that they leave passes.
 -- Assumes nothing.
+use Rattle.std.specs.Prelude.{Result, Ok, Err}
+use Rattle.refusal.specs.declared.Refusal.{Refusal}
 use Prim.Native.Nat.{ℕ, ◌*◌}
 use native.Mathlib.Omega.{arith}
 use mathlib.Core.Path.{◌≡◌, refl, sym, ap, ◌∙◌}
 use mathlib.Core.Bool.{true}
 use mathlib.Core.List.{List, ◌++◌}
 use lib.ListN.{length, take, drop, take-append-drop}
-use Rattle.refusal.specs.declared.Answer.{Answer}
-use Rattle.refusal.specs.declared.Answer.TheVariants.{Accepted, Refused}
 use Rattle.trie_pool.specs.Cells.{used}
 use Rattle.trie_pool.specs.Words.{term_at}
 use Rattle.trie_pool.specs.Rules.{capacity, cells_of, is_dictionary}
@@ -55,6 +55,6 @@ one_became old p q held f g =
     fronts = ap (λ (k : ℕ). take (8 * k) p) cap_p ∙ cells ∙ sym (ap (λ (k : ℕ). take (8 * k) q) cap_q)
 
 -- so an answer leaves one pool
-pub one_after : (a : Answer) (old p q : List ℕ) (held : Terms) → After a old p held → After a old q held → p ≡ q
-one_after (Accepted n) old p q held f g = one_became old p q held f g
-one_after (Refused r) old p q held f g = f ∙ sym g
+pub one_after : (a : Result ℕ Refusal) (old p q : List ℕ) (held : Terms) → After a old p held → After a old q held → p ≡ q
+one_after (Ok n) old p q held f g = one_became old p q held f g
+one_after (Err r) old p q held f g = f ∙ sym g

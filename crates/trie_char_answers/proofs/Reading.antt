@@ -1,4 +1,5 @@
 -- What the readers answer. Assumes nothing.
+use Rattle.std.specs.Prelude.{Result, Ok, Err}
 use Prim.Native.Nat.{ℕ, zero, suc, ◌-◌, ◌*◌, ◌/◌, ◌≤◌, ◌<◌, min}
 use native.Mathlib.Omega.{arith}
 use mathlib.Core.Path.{◌≡◌, refl, sym, ap, ◌∙◌}
@@ -8,8 +9,6 @@ use mathlib.Core.Option.{Option}
 use lib.ListN.{length, take, drop}
 use Rattle.refusal.specs.declared.Refusal.{Refusal}
 use Rattle.refusal.specs.declared.Refusal.TheVariants.{NotADictionary, OutputTooShort}
-use Rattle.refusal.specs.declared.Answer.{Answer}
-use Rattle.refusal.specs.declared.Answer.TheVariants.{Accepted, Refused}
 use Rattle.refusal.specs.Answers.{answer, output, out_cause}
 use Rattle.trie_pool.specs.Words.{holds, term, term_at}
 use Rattle.trie_pool.specs.Cells.{used}
@@ -35,7 +34,7 @@ pub record View (m : Option Words) (ts : Terms) (p : List ℕ) : Type 0 where
   pub readable : Readable p 0
 
 -- those of a plain pool, where it is one
-module _ (pool text : List ℕ) {a : Answer} {k : ℕ} (is : a ≡ answer (read_causes text (meaning pool)) (length text)) (yes' : a ≡ Accepted k) where
+module _ (pool text : List ℕ) {a : Result ℕ Refusal} {k : ℕ} (is : a ≡ answer (read_causes text (meaning pool)) (length text)) (yes' : a ≡ Ok k) where
   known : is_dictionary pool ≡ true
   known = known_is pool (read_of text (meaning pool) (length text) k (sym is ∙ yes')).known
 
@@ -44,12 +43,12 @@ module _ (pool text : List ℕ) {a : Answer} {k : ℕ} (is : a ≡ answer (read_
 
 -- ---- an accepted text
 
-module _ {m : Option Words} {ts : Terms} {p : List ℕ} (v : View m ts p) (text : List ℕ) {a : Answer} {k : ℕ} (is : a ≡ answer (read_causes text m) (length text)) (yes' : a ≡ Accepted k) where
-  first : answer (read_causes text m) (length text) ≡ Accepted k
+module _ {m : Option Words} {ts : Terms} {p : List ℕ} (v : View m ts p) (text : List ℕ) {a : Result ℕ Refusal} {k : ℕ} (is : a ≡ answer (read_causes text m) (length text)) (yes' : a ≡ Ok k) where
+  first : answer (read_causes text m) (length text) ≡ Ok k
   first = sym is ∙ yes'
 
   contain_told : (c : ℕ) → term c ≡ term_at p text → tells_term (term c) ≡ told_term (answer (read_causes text m) (length text)) (ts text)
-  contain_told c e = ap tells_term (e ∙ sym (ap (λ (f : Terms). f text) v.terms)) ∙ sym (ap (λ (z : Answer). told_term z (ts text)) first)
+  contain_told c e = ap tells_term (e ∙ sym (ap (λ (f : Terms). f text) v.terms)) ∙ sym (ap (λ (z : Result ℕ Refusal). told_term z (ts text)) first)
 
   pub contain_no : (c w : ℕ) → term c ≡ term_at p text → w ≡ c → w ≡ 0 → Held 0 0 ≡ told_term (answer (read_causes text m) (length text)) (ts text)
   contain_no c w e f z = sym (ap (λ (k : ℕ). tells_term (term k)) (sym f ∙ z)) ∙ contain_told c e
@@ -68,14 +67,14 @@ module _ {m : Option Words} {ts : Terms} {p : List ℕ} (v : View m ts p) (text 
     count : c ≡ length (prefix_lengths (held m) text)
     count = c_is ∙ sym (ap length lengths)
 
-    pub prefix_short : (q : ℕ) → length out < c → Refused (OutputTooShort c) ≡ answer (prefix_causes text m out) q
+    pub prefix_short : (q : ℕ) → length out < c → Err (OutputTooShort c) ≡ answer (prefix_causes text m out) q
     prefix_short q = out_short (read_causes text m) (length (prefix_lengths (held m) text)) (length out) (length text) q c first count
 
     pub asks : c ≤ length out → Asks p text out
     asks l = record { here = v.readable; short = (read_of text m (length text) k first).short; room = omega (arith, c_is) }
 
     pub prefix_done : c ≤ length out → (new : List ℕ) (r : ℕ) → Wrote out (prefix_lengths (holds p) text) new r
-        → (Accepted r ≡ answer (prefix_causes text m out) (length (prefix_lengths (held m) text))) × (new ≡ output (Accepted r) (prefix_lengths (held m) text) out)
+        → (Ok r ≡ answer (prefix_causes text m out) (length (prefix_lengths (held m) text))) × (new ≡ output (Ok r) (prefix_lengths (held m) text) out)
     prefix_done l new r w = (
       out_fits (read_causes text m) (length (prefix_lengths (held m) text)) (length out) (length text) r first (w.count ∙ sym (ap length lengths)) (omega (arith, w.count, c_is)),
       w.is ∙ sym (ap (λ (z : List ℕ). z ++ drop (length z) out) lengths),
@@ -83,20 +82,20 @@ module _ {m : Option Words} {ts : Terms} {p : List ℕ} (v : View m ts p) (text 
 
 -- ---- a refused one
 
-module _ (m : Option Words) (text : List ℕ) {a : Answer} {r : Refusal} (is : a ≡ answer (read_causes text m) (length text)) (no' : a ≡ Refused r) where
+module _ (m : Option Words) (text : List ℕ) {a : Result ℕ Refusal} {r : Refusal} (is : a ≡ answer (read_causes text m) (length text)) (no' : a ≡ Err r) where
   pub contain_refused : (term : Option ℕ) → variants.Refused r ≡ told_term (answer (read_causes text m) (length text)) term
-  contain_refused term = sym (ap (λ (z : Answer). told_term z term) (sym is ∙ no'))
+  contain_refused term = sym (ap (λ (z : Result ℕ Refusal). told_term z term) (sym is ∙ no'))
 
   pub prefix_refused : (out : List ℕ) (q : ℕ) → a ≡ answer (prefix_causes text m out) q
   prefix_refused out q = handed (read_causes text m) (out_cause (length (prefix_lengths (held m) text)) (length out) ∷ []) (length text) q is no'
 
 -- ---- the word count
 
-pub amount_refused : (m : Option Words) (q : ℕ) → is_none m ≡ true → Refused NotADictionary ≡ answer (pool_causes m) q
-amount_refused m q e = sym (ap (λ (z : Bool). cond z (Refused NotADictionary) (Accepted q)) e)
+pub amount_refused : (m : Option Words) (q : ℕ) → is_none m ≡ true → Err NotADictionary ≡ answer (pool_causes m) q
+amount_refused m q e = sym (ap (λ (z : Bool). cond z (Err NotADictionary) (Ok q)) e)
 
-pub amount_is : (m : Option Words) (q : ℕ) {n : ℕ} → is_none m ≡ false → n ≡ q → Accepted n ≡ answer (pool_causes m) q
-amount_is m q e h = ap Accepted h ∙ sym (ap (λ (z : Bool). cond z (Refused NotADictionary) (Accepted q)) e)
+pub amount_is : (m : Option Words) (q : ℕ) {n : ℕ} → is_none m ≡ false → n ≡ q → Ok n ≡ answer (pool_causes m) q
+amount_is m q e h = ap Ok h ∙ sym (ap (λ (z : Bool). cond z (Err NotADictionary) (Ok q)) e)
 
 pub counts : (p : List ℕ) → Sound p (used p) 0 → Counts p
 counts p s = record { some = s.shaped.some; fits = s.fits }

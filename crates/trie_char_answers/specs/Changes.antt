@@ -1,8 +1,7 @@
 -- What becomes of a pool that was lent to be changed.
-use Rattle.std.specs.Prelude.{ℕ, ◌*◌, ◌≡◌, List, length, drop}
+use Rattle.std.specs.Prelude.{ℕ, ◌*◌, ◌≡◌, List, length, drop, Result, Ok, Err}
 use Rattle.std.proofs.Math.Option.{some}
-use Rattle.refusal.specs.declared.Answer.{Answer}
-use Rattle.refusal.specs.declared.Answer.TheVariants.{Accepted, Refused}
+use Rattle.refusal.specs.declared.Refusal.{Refusal}
 use Rattle.trie_pool.specs.Cells.{node_cells}
 use Rattle.trie_pool.specs.Rules.{capacity}
 use Rattle.trie_pool.specs.Meaning.{Terms, terms}
@@ -15,6 +14,6 @@ pub record Became (old new : List ℕ) (held : Terms) : Type 0 where
   pub kept : length new ≡ length old
 
 -- A refusal changes no pool.
-abbrev pub After : Answer → List ℕ → List ℕ → Terms → Type 0
-After (Accepted n) old new held = Became old new held
-After (Refused r) old new held = new ≡ old
+abbrev pub After : Result ℕ Refusal → List ℕ → List ℕ → Terms → Type 0
+After (Ok n) old new held = Became old new held
+After (Err r) old new held = new ≡ old

@@ -8,7 +8,7 @@ ghost use Rattle.trie_pool.specs.Meaning.{meaning};
 ghost use Rattle.trie_char_answers.specs.Refusals.{remove_causes};
 
 use char_string_trim::trim;
-use refusal::{Answer, Refusal};
+use refusal::Refusal;
 use trie_check::check;
 use trie_pool::MAX_WORD;
 
@@ -20,18 +20,15 @@ pub enum WordAnswer {
 }
 
 // Refusals 2, 3, 4 and 7, which add and remove share; accepted with the word's length.
-pub fn check_word(pool: &[u32], word: &[u32]) -> Answer
+pub fn check_word(pool: &[u32], word: &[u32]) -> Result<usize, Refusal>
     ensures { result ≡
         answer (remove_causes word.now (meaning pool.now)) (length word.now) }
 {
-    let checked = check(pool, word);
-    let Answer::Accepted(n) = checked else {
-        return checked;
-    };
+    let n = check(pool, word)?;
     let span = trim(word);
     let kept = span.end - span.start;
     if MAX_WORD < kept {
-        return Answer::Refused(Refusal::WordTooLong(kept));
+        return Err(Refusal::WordTooLong(kept));
     }
-    Answer::Accepted(n)
+    Ok(n)
 }

@@ -6,7 +6,7 @@ ghost use Rattle.refusal.specs.Answers.{output};
 ghost use Rattle.trie_char_answers.specs.Answers.{contains_answer, prefixes, prefixes_answer, word_count_answer};
 
 use cells::wide;
-use refusal::{Answer, Refusal};
+use refusal::Refusal;
 use trie_char_answers::WordAnswer;
 use trie_check::{capacity, check, is_dictionary};
 use trie_pool::NODE;
@@ -18,10 +18,10 @@ pub fn contain(pool: &[u32], word: &[u32]) -> WordAnswer
 {
     let checked = check(pool, word);
     match checked {
-        Answer::Refused(r) => {
+        Err(r) => {
             return WordAnswer::Refused(r);
         }
-        Answer::Accepted(_) => {
+        Ok(_) => {
             let cells = NODE * capacity(pool.len());
             let mark = wide(mark_of(&pool[..cells], word));
             if mark == 0 {
@@ -34,31 +34,28 @@ pub fn contain(pool: &[u32], word: &[u32]) -> WordAnswer
 
 // The lengths of the words that the text starts with, rising, at the front of out; accepted with
 // their number.
-pub fn prefix_lengths(pool: &[u32], text: &[u32], out: &mut [u32]) -> Answer
+pub fn prefix_lengths(pool: &[u32], text: &[u32], out: &mut [u32]) -> Result<usize, Refusal>
     ensures value { result ≡ prefixes_answer text.now pool.now out.old }
     ensures out_after { out.new ≡
         output result (prefixes text.now pool.now) out.old }
 {
-    let checked = check(pool, text);
-    let Answer::Accepted(_) = checked else {
-        return checked;
-    };
+    check(pool, text)?;
     let cells = NODE * capacity(pool.len());
     let needed = prefix_count(&pool[..cells], text);
     if out.len() < needed {
-        return Answer::Refused(Refusal::OutputTooShort(needed));
+        return Err(Refusal::OutputTooShort(needed));
     }
     let written = trie_search::prefix_lengths(&pool[..cells], text, out);
-    Answer::Accepted(written)
+    Ok(written)
 }
 
 // How many words the dictionary holds.
-pub fn amount_of_words(pool: &[u32]) -> Answer
+pub fn amount_of_words(pool: &[u32]) -> Result<usize, Refusal>
     ensures { result ≡ word_count_answer pool.now }
 {
     if !is_dictionary(pool) {
-        return Answer::Refused(Refusal::NotADictionary);
+        return Err(Refusal::NotADictionary);
     }
     let cells = NODE * capacity(pool.len());
-    Answer::Accepted(count_words(&pool[..cells]))
+    Ok(count_words(&pool[..cells]))
 }

@@ -11,7 +11,7 @@ ghost use Rattle.trie_pool.specs.Meaning.{meaning};
 ghost use Rattle.trie_check.specs.Refusals.{read_causes};
 
 use char_string_scalars::check_text;
-use refusal::{Answer, Refusal};
+use refusal::Refusal;
 use trie_pool::{MAX_NODES, NODE};
 use trie_well_formed::well_formed;
 
@@ -34,16 +34,13 @@ pub fn is_dictionary(pool: &[u32]) -> bool
 }
 
 // Refusals 2, 3 and 4, accepted with the text's length.
-pub fn check(pool: &[u32], text: &[u32]) -> Answer
+pub fn check(pool: &[u32], text: &[u32]) -> Result<usize, Refusal>
     ensures { result ≡
         answer (read_causes text.now (meaning pool.now)) (length text.now) }
 {
-    let checked = check_text(text);
-    let Answer::Accepted(n) = checked else {
-        return checked;
-    };
+    let n = check_text(text)?;
     if !is_dictionary(pool) {
-        return Answer::Refused(Refusal::NotADictionary);
+        return Err(Refusal::NotADictionary);
     }
-    Answer::Accepted(n)
+    Ok(n)
 }

@@ -1,4 +1,5 @@
 -- What add and remove answer in a plants' pool, and what becomes of it. Assumes nothing.
+use Rattle.std.specs.Prelude.{Result, Ok, Err}
 use Prim.Native.Nat.{ℕ, ◌+◌, ◌-◌, ◌*◌, ◌/◌, ◌≤◌, ◌<◌, min}
 use native.Mathlib.Omega.{arith}
 use mathlib.Core.Path.{◌≡◌, refl, sym, ap, subst, ◌∙◌}
@@ -9,8 +10,6 @@ use borrow.Author.Tests.{lt-ltb, le-ltb}
 use lib.ListN.{length, get_or, take, drop}
 use Rattle.refusal.specs.declared.Refusal.{Refusal}
 use Rattle.refusal.specs.declared.Refusal.TheVariants.{TooFewNodes}
-use Rattle.refusal.specs.declared.Answer.{Answer}
-use Rattle.refusal.specs.declared.Answer.TheVariants.{Accepted, Refused}
 use Rattle.refusal.specs.Answers.{Cause, answer}
 use Rattle.refusal.proofs.Causes.{again, handed, handed_same, cause_yes, cause_no}
 use Rattle.char_string_scalars.specs.Scalars.{is_scalar}
@@ -39,7 +38,7 @@ use Rattle.trie_plants_answers.proofs.Became.{became, stayed}
 
 -- ---- an accepted word
 
-module _ (plant : Plant) (old word : List ℕ) {x : Answer} {k : ℕ} (is : x ≡ answer (remove_causes word (plant_meaning plant old)) (length word)) (yes' : x ≡ Accepted k)
+module _ (plant : Plant) (old word : List ℕ) {x : Result ℕ Refusal} {k : ℕ} (is : x ≡ answer (remove_causes word (plant_meaning plant old)) (length word)) (yes' : x ≡ Ok k)
     (n : ℕ) (n_is : n ≡ min (length old / 8) 1048576) (a : ℕ) (a_is : a ≡ half_at plant) (t : List ℕ) (t_is : t ≡ trimmed_of word) where
   abbrev view : List ℕ
   view = take (8 * n - a) (drop a old)
@@ -47,7 +46,7 @@ module _ (plant : Plant) (old word : List ℕ) {x : Answer} {k : ℕ} (is : x �
   abbrev put : List ℕ → List ℕ
   put half = take a old ++ (half ++ drop (8 * n - a) (drop a old))
 
-  first : answer (remove_causes word (plant_meaning plant old)) (length word) ≡ Accepted k
+  first : answer (remove_causes word (plant_meaning plant old)) (length word) ≡ Ok k
   first = sym is ∙ yes'
 
   pub known : is_plants old ≡ true
@@ -104,20 +103,20 @@ module _ (plant : Plant) (old word : List ℕ) {x : Answer} {k : ℕ} (is : x �
       λ l. omega (arith, needs, room_is, used_is, used_fits, some_used plant old known),
     )
 
-    pub add_full : (q : ℕ) → free < more → Refused (TooFewNodes (more - free)) ≡ answer (plant_add_causes plant word old) q
+    pub add_full : (q : ℕ) → free < more → Err (TooFewNodes (more - free)) ≡ answer (plant_add_causes plant word old) q
     add_full q l =
         let d : more - free ≡ charge - limit_of plant old = omega (arith, needs, room_is, used_is, used_fits, some_used plant old known) in
-        ap (λ (z : ℕ). Refused (TooFewNodes z)) d
+        ap (λ (z : ℕ). Err (TooFewNodes z)) d
         ∙ cause_yes (remove_causes word (plant_meaning plant old)) cause (length word) q first (lt-ltb (limit_of plant old) charge (over.0 l))
 
     module _ (room : more ≤ free) where
-      told : (y : ℕ) → y ≡ report → Accepted y ≡ answer (plant_add_causes plant word old) report
-      told y e = ap Accepted e ∙ cause_no (remove_causes word (plant_meaning plant old)) cause (length word) report first (le-ltb (limit_of plant old) charge (over.1 room))
+      told : (y : ℕ) → y ≡ report → Ok y ≡ answer (plant_add_causes plant word old) report
+      told y e = ap Ok e ∙ cause_no (remove_causes word (plant_meaning plant old)) cause (length word) report first (le-ltb (limit_of plant old) charge (over.1 room))
 
-      same_terms : ((v : List ℕ) → own_terms plant old v ≡ after v) → (Accepted 0 ≡ answer (plant_add_causes plant word old) report) × PlantBecame plant old old after
+      same_terms : ((v : List ℕ) → own_terms plant old v ≡ after v) → (Ok 0 ≡ answer (plant_add_causes plant word old) report) × PlantBecame plant old old after
       same_terms h = (told 0 (no_change (trimmed_of word) (own_terms plant old) after h), stayed plant old after known h)
 
-      pub add_blank : length t ≡ 0 → (Accepted 0 ≡ answer (plant_add_causes plant word old) report) × PlantBecame plant old old after
+      pub add_blank : length t ≡ 0 → (Ok 0 ≡ answer (plant_add_causes plant word old) report) × PlantBecame plant old old after
       add_blank z = same_terms (with_blank (trimmed_of word) c (own_terms plant old) (sym size_t ∙ z))
 
       module _ (some' : length t ≡ 0 → ⊥) (mark : ℕ) (mark_is : mark ≡ c + 1) where
@@ -125,7 +124,7 @@ module _ (plant : Plant) (old word : List ℕ) {x : Answer} {k : ℕ} (is : x �
         one = let z : 1 ≤ length t = omega arith in omega (arith, size_t)
 
         -- a word that is held with this class
-        pub add_same : (m : ℕ) → term m ≡ term_at view t → m ≡ mark → (Accepted 0 ≡ answer (plant_add_causes plant word old) report) × PlantBecame plant old old after
+        pub add_same : (m : ℕ) → term m ≡ term_at view t → m ≡ mark → (Ok 0 ≡ answer (plant_add_causes plant word old) report) × PlantBecame plant old old after
         add_same m e h = same_terms (with_held (trimmed_of word) c (own_terms plant old) one (held_t e ∙ term_mark m c (h ∙ mark_is)))
 
         -- the nodes in use then
@@ -151,7 +150,7 @@ module _ (plant : Plant) (old word : List ℕ) {x : Answer} {k : ℕ} (is : x �
             }
 
         pub add_done : (m : ℕ) → term m ≡ term_at view t → (m ≡ mark → ⊥) → (new : List ℕ) → length new ≡ length view → PutIn view new t mark
-            → (Accepted 1 ≡ answer (plant_add_causes plant word old) report) × PlantBecame plant old (put new) after
+            → (Ok 1 ≡ answer (plant_add_causes plant word old) report) × PlantBecame plant old (put new) after
         add_done m e h new l p =
             let there : term_at new t ≡ some c = p.held ∙ term_mark mark c mark_is in
             let u : used new ≡ used view + lacking view t 0 = p.sound.spare.used in
@@ -169,10 +168,10 @@ module _ (plant : Plant) (old word : List ℕ) {x : Answer} {k : ℕ} (is : x �
   abbrev taken : ℕ
   taken = report_term (trimmed_of word) (own_terms plant old) without
 
-  pub remove_absent : (m : ℕ) → term m ≡ term_at view t → m ≡ 0 → (Accepted 0 ≡ answer (remove_causes word (plant_meaning plant old)) taken) × PlantBecame plant old old without
+  pub remove_absent : (m : ℕ) → term m ≡ term_at view t → m ≡ 0 → (Ok 0 ≡ answer (remove_causes word (plant_meaning plant old)) taken) × PlantBecame plant old old without
   remove_absent m e h =
       let same : (v : List ℕ) → own_terms plant old v ≡ without v = without_absent (trimmed_of word) (own_terms plant old) (held_t e ∙ ap term h) in (
-        ap Accepted (no_change (trimmed_of word) (own_terms plant old) without same) ∙ again (remove_causes word (plant_meaning plant old)) (length word) taken first,
+        ap Ok (no_change (trimmed_of word) (own_terms plant old) without same) ∙ again (remove_causes word (plant_meaning plant old)) (length word) taken first,
         stayed plant old without known same,
       )
 
@@ -180,19 +179,19 @@ module _ (plant : Plant) (old word : List ℕ) {x : Answer} {k : ℕ} (is : x �
   removes m e h = record { past_root = omega (arith, some_word view t m e h); sound = sound; path = []; leads = refl }
 
   pub remove_done : (m : ℕ) → term m ≡ term_at view t → (m ≡ 0 → ⊥) → (new : List ℕ) → length new ≡ length view → ((u : List ℕ) → reach view u ≡ at 0 → Removed view new u 0 t)
-      → (Accepted 1 ≡ answer (remove_causes word (plant_meaning plant old)) taken) × PlantBecame plant old (put new) without
+      → (Ok 1 ≡ answer (remove_causes word (plant_meaning plant old)) taken) × PlantBecame plant old (put new) without
   remove_done m e h new l f =
       let p = f [] refl in
       let now' : (v : List ℕ) → term_at new v ≡ without v =
       λ v. is_without_term t (own_terms plant old) (term_at new) p.gone (λ z ne. p.others z ne ∙ ap (λ (f : Terms). f z) (sym terms_are)) v ∙ ap (λ (w : List ℕ). without_term w (own_terms plant old) v) t_is in (
-        ap Accepted (gone m h ∙ report_is (trimmed_of word) (own_terms plant old) without (term m) none (held_t e) (sym (now' (trimmed_of word)) ∙ ap (term_at new) (sym t_is) ∙ p.gone))
+        ap Ok (gone m h ∙ report_is (trimmed_of word) (own_terms plant old) without (term m) none (held_t e) (sym (now' (trimmed_of word)) ∙ ap (term_at new) (sym t_is) ∙ p.gone))
             ∙ again (remove_causes word (plant_meaning plant old)) (length word) taken first,
         became plant old known n n_is a a_is new l p.beside p.sound (omega (arith, p.fewer, room_is, used_fits)) without now',
       )
 
 -- ---- a refused one
 
-module _ (plant : Plant) (old word : List ℕ) {x : Answer} {r : Refusal} (is : x ≡ answer (remove_causes word (plant_meaning plant old)) (length word)) (no' : x ≡ Refused r) where
+module _ (plant : Plant) (old word : List ℕ) {x : Result ℕ Refusal} {r : Refusal} (is : x ≡ answer (remove_causes word (plant_meaning plant old)) (length word)) (no' : x ≡ Err r) where
   pub remove_refused : (q : ℕ) → x ≡ answer (remove_causes word (plant_meaning plant old)) q
   remove_refused q = handed_same (remove_causes word (plant_meaning plant old)) (length word) q is no'
 
@@ -200,4 +199,4 @@ module _ (plant : Plant) (old word : List ℕ) {x : Answer} {r : Refusal} (is : 
   add_refused q = handed (remove_causes word (plant_meaning plant old)) (limit_cause plant old (charge_with plant old (trimmed_of word)) ∷ []) (length word) q is no'
 
   pub untouched : (held' : Terms) → PlantAfter plant x old old held'
-  untouched held' = subst (λ (z : Answer). PlantAfter plant z old old held') (sym no') refl
+  untouched held' = subst (λ (z : Result ℕ Refusal). PlantAfter plant z old old held') (sym no') refl

@@ -1,4 +1,6 @@
 -- An accepted call leaves one plants' pool, and the other plant in it as it was. Assumes nothing.
+use Rattle.std.specs.Prelude.{Result, Ok, Err}
+use Rattle.refusal.specs.declared.Refusal.{Refusal}
 use Prim.Native.Nat.{ℕ, ◌+◌, ◌-◌, ◌*◌, ◌<◌}
 use native.Mathlib.Omega.{arith}
 use mathlib.Core.Path.{◌≡◌, sym, ap, ◌∙◌}
@@ -6,8 +8,6 @@ use mathlib.Core.Bool.{true}
 use mathlib.Core.List.{List}
 use mathlib.Core.Option.{some}
 use lib.ListN.{get_or}
-use Rattle.refusal.specs.declared.Answer.{Answer}
-use Rattle.refusal.specs.declared.Answer.TheVariants.{Accepted, Refused}
 use Rattle.trie_pool.specs.Cells.{used}
 use Rattle.trie_pool.specs.Words.{holds, term_at, lacking}
 use Rattle.trie_pool.specs.Rules.{capacity}
@@ -116,9 +116,9 @@ one_plant_became plant old p q held f g =
         go B B s t = s
 
 -- so an answer leaves one pool
-pub one_plant_after : (plant : Plant) (a : Answer) (old p q : List ℕ) (held : Terms) → PlantAfter plant a old p held → PlantAfter plant a old q held → p ≡ q
-one_plant_after plant (Accepted n) old p q held f g = one_plant_became plant old p q held f g
-one_plant_after plant (Refused r) old p q held f g = f ∙ sym g
+pub one_plant_after : (plant : Plant) (a : Result ℕ Refusal) (old p q : List ℕ) (held : Terms) → PlantAfter plant a old p held → PlantAfter plant a old q held → p ≡ q
+one_plant_after plant (Ok n) old p q held f g = one_plant_became plant old p q held f g
+one_plant_after plant (Err r) old p q held f g = f ∙ sym g
 
 -- a start, too
 pub one_begins : (limit_a limit_b : ℕ) (old p q : List ℕ) → PlantsBegin limit_a limit_b old p → PlantsBegin limit_a limit_b old q → p ≡ q
@@ -135,6 +135,6 @@ one_begins limit_a limit_b old p q f g =
         let h = begins_passes limit_a limit_b old q g in
         omega (arith, limits x, some_used x p e, in_room x p e, some_used x q h, in_room x q h)
 
-pub one_started : (a : Answer) (limit_a limit_b : ℕ) (old p q : List ℕ) → Started a limit_a limit_b old p → Started a limit_a limit_b old q → p ≡ q
-one_started (Accepted n) limit_a limit_b old p q f g = one_begins limit_a limit_b old p q f g
-one_started (Refused r) limit_a limit_b old p q f g = f ∙ sym g
+pub one_started : (a : Result ℕ Refusal) (limit_a limit_b : ℕ) (old p q : List ℕ) → Started a limit_a limit_b old p → Started a limit_a limit_b old q → p ≡ q
+one_started (Ok n) limit_a limit_b old p q f g = one_begins limit_a limit_b old p q f g
+one_started (Err r) limit_a limit_b old p q f g = f ∙ sym g

@@ -1,4 +1,5 @@
 -- A start leaves two roots, whose fourth cells say the limits. Assumes nothing.
+use Rattle.std.specs.Prelude.{Ok, Err}
 use Prim.Native.Nat.{ℕ, zero, suc, ◌+◌, ◌-◌, ◌*◌, ◌/◌, ◌≤◌, ◌<◌, min}
 use native.Mathlib.Omega.{arith}
 use native.Mathlib.Decide.{dec_lt}
@@ -11,7 +12,6 @@ use borrow.Author.Tests.{lt-ltb, le-ltb, le-leb}
 use lib.ListN.{length, get_or, set, drop, length-set, length-append, length-drop, get_or-append, get_or-eq_default}
 use lib.Seq.{get_or-set_same, get_or-set_other, drop-set-lt, drop_at}
 use Rattle.refusal.specs.declared.Refusal.TheVariants.{TooFewNodes, LimitsTooLarge}
-use Rattle.refusal.specs.declared.Answer.TheVariants.{Accepted, Refused}
 use Rattle.refusal.specs.Answers.{answer}
 use Rattle.refusal.proofs.Causes.{cause_yes, cause_no}
 use Rattle.trie_pool.specs.Cells.{used}
@@ -32,17 +32,17 @@ use Rattle.trie_plants_answers.specs.Changes.{PlantsBegin}
 
 -- ---- refusals
 
-pub start_short : (limit_a limit_b : ℕ) (old : List ℕ) → length old < 8 → Refused (TooFewNodes 1) ≡ answer (start_causes limit_a limit_b old) 0
-start_short limit_a limit_b old l = sym (ap (λ (b : Bool). cond b (Refused (TooFewNodes 1)) (cond (limits_cause limit_a limit_b old).holds (Refused LimitsTooLarge) (Accepted 0))) (lt-ltb (length old) 8 l))
+pub start_short : (limit_a limit_b : ℕ) (old : List ℕ) → length old < 8 → Err (TooFewNodes 1) ≡ answer (start_causes limit_a limit_b old) 0
+start_short limit_a limit_b old l = sym (ap (λ (b : Bool). cond b (Err (TooFewNodes 1)) (cond (limits_cause limit_a limit_b old).holds (Err LimitsTooLarge) (Ok 0))) (lt-ltb (length old) 8 l))
 
 module _ (limit_a limit_b : ℕ) (old : List ℕ) (room : 8 ≤ length old) where
-  first : answer (fresh_causes old) 0 ≡ Accepted 0
-  first = ap (λ (b : Bool). cond b (Refused (TooFewNodes 1)) (Accepted 0)) (le-ltb (length old) 8 room)
+  first : answer (fresh_causes old) 0 ≡ Ok 0
+  first = ap (λ (b : Bool). cond b (Err (TooFewNodes 1)) (Ok 0)) (le-ltb (length old) 8 room)
 
-  pub start_large : capacity old - 1 < limit_a + limit_b → Refused LimitsTooLarge ≡ answer (start_causes limit_a limit_b old) 0
+  pub start_large : capacity old - 1 < limit_a + limit_b → Err LimitsTooLarge ≡ answer (start_causes limit_a limit_b old) 0
   start_large l = cause_yes (fresh_causes old) (limits_cause limit_a limit_b old) 0 0 first (lt-ltb (capacity old - 1) (limit_a + limit_b) l)
 
-  pub start_fits : limit_a + limit_b ≤ capacity old - 1 → Accepted 0 ≡ answer (start_causes limit_a limit_b old) 0
+  pub start_fits : limit_a + limit_b ≤ capacity old - 1 → Ok 0 ≡ answer (start_causes limit_a limit_b old) 0
   start_fits l = cause_no (fresh_causes old) (limits_cause limit_a limit_b old) 0 0 first (le-ltb (capacity old - 1) (limit_a + limit_b) l)
 
 -- ---- the pool: roots is what the nodes were set to before the last four cells were written

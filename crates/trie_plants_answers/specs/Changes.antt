@@ -1,8 +1,7 @@
 -- What becomes of a pool that was lent to a plant call to be changed, or to a start.
-use Rattle.std.specs.Prelude.{ℕ, ◌+◌, ◌*◌, ◌<◌, ◌≡◌, List, length, get_or, drop}
+use Rattle.std.specs.Prelude.{ℕ, ◌+◌, ◌*◌, ◌<◌, ◌≡◌, List, length, get_or, drop, Result, Ok, Err}
 use Rattle.std.proofs.Math.Option.{some}
-use Rattle.refusal.specs.declared.Answer.{Answer}
-use Rattle.refusal.specs.declared.Answer.TheVariants.{Accepted, Refused}
+use Rattle.refusal.specs.declared.Refusal.{Refusal}
 use Rattle.trie_pool.specs.Cells.{node_cells}
 use Rattle.trie_pool.specs.Rules.{capacity}
 use Rattle.trie_pool.specs.Meaning.{Terms, no_term}
@@ -27,9 +26,9 @@ pub record PlantBecame (plant : Plant) (old new : List ℕ) (held : Terms) : Typ
   pub kept : length new ≡ length old
 
 -- A refusal changes no pool.
-abbrev pub PlantAfter : Plant → Answer → List ℕ → List ℕ → Terms → Type 0
-PlantAfter plant (Accepted n) old new held = PlantBecame plant old new held
-PlantAfter plant (Refused r) old new held = new ≡ old
+abbrev pub PlantAfter : Plant → Result ℕ Refusal → List ℕ → List ℕ → Terms → Type 0
+PlantAfter plant (Ok n) old new held = PlantBecame plant old new held
+PlantAfter plant (Err r) old new held = new ≡ old
 
 -- The pool in which two plants with these limits hold no word, whatever the cells held before:
 -- there is one such pool.
@@ -40,6 +39,6 @@ pub record PlantsBegin (limit_a limit_b : ℕ) (old new : List ℕ) : Type 0 whe
   pub later : drop (node_cells * capacity old) new ≡ drop (node_cells * capacity old) old
   pub kept : length new ≡ length old
 
-abbrev pub Started : Answer → ℕ → ℕ → List ℕ → List ℕ → Type 0
-Started (Accepted n) limit_a limit_b old new = PlantsBegin limit_a limit_b old new
-Started (Refused r) limit_a limit_b old new = new ≡ old
+abbrev pub Started : Result ℕ Refusal → ℕ → ℕ → List ℕ → List ℕ → Type 0
+Started (Ok n) limit_a limit_b old new = PlantsBegin limit_a limit_b old new
+Started (Err r) limit_a limit_b old new = new ≡ old

@@ -10,7 +10,7 @@ ghost use Rattle.trie_plants_answers.specs.Changes.{PlantAfter, Started};
 
 use cells::{narrow, wide};
 use char_string_trim::trimmed;
-use refusal::{Answer, Refusal};
+use refusal::Refusal;
 use trie_change::{add_word, remove_word, reset};
 use trie_check::capacity;
 use trie_plants::{Plant, half_at};
@@ -20,20 +20,20 @@ use trie_search::{mark_of, missing};
 
 // Makes a pool of two plants without words, whatever the cells held before. The limits, in nodes,
 // sum to at most capacity less one.
-pub fn start(pool: &mut [u32], limit_a: usize, limit_b: usize) -> Answer
+pub fn start(pool: &mut [u32], limit_a: usize, limit_b: usize) -> Result<usize, Refusal>
     ensures value { result ≡ start_answer limit_a limit_b pool.old }
     ensures started { Started result limit_a limit_b pool.old pool.new }
 {
     if pool.len() < NODE {
-        return Answer::Refused(Refusal::TooFewNodes(1));
+        return Err(Refusal::TooFewNodes(1));
     }
     let nodes = capacity(pool.len());
     let room = nodes - 1;
     if room < limit_a {
-        return Answer::Refused(Refusal::LimitsTooLarge);
+        return Err(Refusal::LimitsTooLarge);
     }
     if room - limit_a < limit_b {
-        return Answer::Refused(Refusal::LimitsTooLarge);
+        return Err(Refusal::LimitsTooLarge);
     }
     let a = narrow(limit_a + 1);
     let b = narrow(limit_b + 1);
@@ -43,7 +43,7 @@ pub fn start(pool: &mut [u32], limit_a: usize, limit_b: usize) -> Answer
     pool[HALF + IN_USE] = 1;
     pool[HALF + FIRST] = 1;
     pool[HALF + MARK] = b;
-    Answer::Accepted(0)
+    Ok(0)
 }
 
 // The nodes that the plant may still take: its limit less its charge.
@@ -56,15 +56,12 @@ fn free_nodes(half: &[u32]) -> usize
 
 // Adds the trimmed word to the plant's words with its class, or gives a word that it holds this
 // class; 1 if its words or their classes changed, else 0.
-pub fn add_in(pool: &mut [u32], plant: Plant, word: &[u32], class: u16) -> Answer
+pub fn add_in(pool: &mut [u32], plant: Plant, word: &[u32], class: u16) -> Result<usize, Refusal>
     ensures value { result ≡ plant_add_answer plant word.now class pool.old }
     ensures plant_after { PlantAfter plant result pool.old pool.new
         (plant_added plant word.now class pool.old) }
 {
-    let checked = check_plant_word(pool, plant, word);
-    let Answer::Accepted(_) = checked else {
-        return checked;
-    };
+    check_plant_word(pool, plant, word)?;
     let w = trimmed(word);
     let cells = NODE * capacity(pool.len());
     let a = half_at(plant);
@@ -72,35 +69,32 @@ pub fn add_in(pool: &mut [u32], plant: Plant, word: &[u32], class: u16) -> Answe
     let free = free_nodes(&pool[a..cells]);
     if free < more {
         let over = more - free;
-        return Answer::Refused(Refusal::TooFewNodes(over));
+        return Err(Refusal::TooFewNodes(over));
     }
     if w.len() == 0 {
-        return Answer::Accepted(0);
+        return Ok(0);
     }
     let mark = class as u32 + 1;
     if mark_of(&pool[a..cells], w) == mark {
-        return Answer::Accepted(0);
+        return Ok(0);
     }
     add_word(&mut pool[a..cells], w, mark);
-    Answer::Accepted(1)
+    Ok(1)
 }
 
 // Removes the trimmed word from the plant's words; 1 if they changed, else 0.
-pub fn remove_in(pool: &mut [u32], plant: Plant, word: &[u32]) -> Answer
+pub fn remove_in(pool: &mut [u32], plant: Plant, word: &[u32]) -> Result<usize, Refusal>
     ensures value { result ≡ plant_remove_answer plant word.now pool.old }
     ensures plant_after { PlantAfter plant result pool.old pool.new
         (plant_removed plant word.now pool.old) }
 {
-    let checked = check_plant_word(pool, plant, word);
-    let Answer::Accepted(_) = checked else {
-        return checked;
-    };
+    check_plant_word(pool, plant, word)?;
     let w = trimmed(word);
     let cells = NODE * capacity(pool.len());
     let a = half_at(plant);
     if mark_of(&pool[a..cells], w) == 0 {
-        return Answer::Accepted(0);
+        return Ok(0);
     }
     remove_word(&mut pool[a..cells], 0, w);
-    Answer::Accepted(1)
+    Ok(1)
 }

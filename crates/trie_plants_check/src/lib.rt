@@ -16,7 +16,7 @@ ghost use Rattle.trie_plants.specs.Meaning.{plant_meaning};
 use cells::wide;
 use char_string_scalars::check_text;
 use char_string_trim::trim;
-use refusal::{Answer, Refusal};
+use refusal::Refusal;
 use trie_check::capacity;
 use trie_half::half_ok;
 use trie_plants::Plant;
@@ -84,35 +84,29 @@ pub fn is_plants(pool: &[u32]) -> bool
 }
 
 // Refusals 2, 3 and 4, accepted with the text's length.
-pub fn check_plant(pool: &[u32], plant: Plant, text: &[u32]) -> Answer
+pub fn check_plant(pool: &[u32], plant: Plant, text: &[u32]) -> Result<usize, Refusal>
     ensures { result ≡
         answer (read_causes text.now (plant_meaning plant pool.now))
         (length text.now) }
 {
-    let checked = check_text(text);
-    let Answer::Accepted(n) = checked else {
-        return checked;
-    };
+    let n = check_text(text)?;
     if !is_plants(pool) {
-        return Answer::Refused(Refusal::NotADictionary);
+        return Err(Refusal::NotADictionary);
     }
-    Answer::Accepted(n)
+    Ok(n)
 }
 
 // Refusals 2, 3, 4 and 7, which add and remove share; accepted with the word's length.
-pub fn check_plant_word(pool: &[u32], plant: Plant, word: &[u32]) -> Answer
+pub fn check_plant_word(pool: &[u32], plant: Plant, word: &[u32]) -> Result<usize, Refusal>
     ensures { result ≡
         answer (remove_causes word.now (plant_meaning plant pool.now))
         (length word.now) }
 {
-    let checked = check_plant(pool, plant, word);
-    let Answer::Accepted(n) = checked else {
-        return checked;
-    };
+    let n = check_plant(pool, plant, word)?;
     let span = trim(word);
     let kept = span.end - span.start;
     if MAX_WORD < kept {
-        return Answer::Refused(Refusal::WordTooLong(kept));
+        return Err(Refusal::WordTooLong(kept));
     }
-    Answer::Accepted(n)
+    Ok(n)
 }

@@ -1,11 +1,11 @@
 -- The cells that are lent on of a plants' pool. Assumes nothing.
+use Rattle.std.specs.Prelude.{Result, Ok}
+use Rattle.refusal.specs.declared.Refusal.{Refusal}
 use Prim.Native.Nat.{ℕ, ◌+◌, ◌-◌, ◌*◌, ◌/◌, ◌≤◌, min}
 use mathlib.Core.Path.{◌≡◌, sym, ◌∙◌}
 use mathlib.Core.Bool.{true}
 use mathlib.Core.List.{List}
 use lib.ListN.{length, take, drop}
-use Rattle.refusal.specs.declared.Answer.{Answer}
-use Rattle.refusal.specs.declared.Answer.TheVariants.{Accepted}
 use Rattle.refusal.specs.Answers.{answer}
 use Rattle.trie_check.specs.Refusals.{read_causes}
 use Rattle.trie_check.proofs.Refusals.{read_of}
@@ -17,7 +17,7 @@ use Rattle.trie_plants.specs.Meaning.{plant_meaning}
 use Rattle.trie_plants_answers.specs.Answers.{own_terms}
 use Rattle.trie_plants.proofs.Parts.{known_is, from, held_view, terms_view, readable_view}
 
-module _ (plant : Plant) (pool text : List ℕ) {a : Answer} {k : ℕ} (is : a ≡ answer (read_causes text (plant_meaning plant pool)) (length text)) (yes' : a ≡ Accepted k) (n : ℕ) (n_is : n ≡ min (length pool / 8) 1048576) (h : ℕ) (h_is : h ≡ half_at plant) where
+module _ (plant : Plant) (pool text : List ℕ) {a : Result ℕ Refusal} {k : ℕ} (is : a ≡ answer (read_causes text (plant_meaning plant pool)) (length text)) (yes' : a ≡ Ok k) (n : ℕ) (n_is : n ≡ min (length pool / 8) 1048576) (h : ℕ) (h_is : h ≡ half_at plant) where
   known : is_plants pool ≡ true
   known = known_is plant pool (read_of text (plant_meaning plant pool) (length text) k (sym is ∙ yes')).known
 

@@ -8,7 +8,7 @@ ghost use Rattle.trie_plants_answers.specs.Answers.{plant_contains_answer, plant
 ghost use Rattle.trie_plants_answers.specs.Answers.{plant_prefixes_answer, plant_count_answer};
 
 use cells::wide;
-use refusal::{Answer, Refusal};
+use refusal::Refusal;
 use trie_char_answers::WordAnswer;
 use trie_check::capacity;
 use trie_plants::{Plant, half_at};
@@ -22,10 +22,10 @@ pub fn contain_in(pool: &[u32], plant: Plant, word: &[u32]) -> WordAnswer
 {
     let checked = check_plant(pool, plant, word);
     match checked {
-        Answer::Refused(r) => {
+        Err(r) => {
             return WordAnswer::Refused(r);
         }
-        Answer::Accepted(_) => {
+        Ok(_) => {
             let cells = NODE * capacity(pool.len());
             let at = half_at(plant);
             let mark = wide(mark_of(&pool[at..cells], word));
@@ -39,33 +39,30 @@ pub fn contain_in(pool: &[u32], plant: Plant, word: &[u32]) -> WordAnswer
 
 // The lengths of the plant's words that the text starts with, rising, at the front of out; accepted
 // with their number.
-pub fn prefix_lengths_in(pool: &[u32], plant: Plant, text: &[u32], out: &mut [u32]) -> Answer
+pub fn prefix_lengths_in(pool: &[u32], plant: Plant, text: &[u32], out: &mut [u32]) -> Result<usize, Refusal>
     ensures value { result ≡ plant_prefixes_answer plant text.now pool.now out.old }
     ensures out_after { out.new ≡
         output result (plant_prefixes plant text.now pool.now) out.old }
 {
-    let checked = check_plant(pool, plant, text);
-    let Answer::Accepted(_) = checked else {
-        return checked;
-    };
+    check_plant(pool, plant, text)?;
     let cells = NODE * capacity(pool.len());
     let at = half_at(plant);
     let needed = prefix_count(&pool[at..cells], text);
     if out.len() < needed {
-        return Answer::Refused(Refusal::OutputTooShort(needed));
+        return Err(Refusal::OutputTooShort(needed));
     }
     let written = prefix_lengths(&pool[at..cells], text, out);
-    Answer::Accepted(written)
+    Ok(written)
 }
 
 // How many words the plant holds.
-pub fn amount_of_words_in(pool: &[u32], plant: Plant) -> Answer
+pub fn amount_of_words_in(pool: &[u32], plant: Plant) -> Result<usize, Refusal>
     ensures { result ≡ plant_count_answer plant pool.now }
 {
     if !is_plants(pool) {
-        return Answer::Refused(Refusal::NotADictionary);
+        return Err(Refusal::NotADictionary);
     }
     let cells = NODE * capacity(pool.len());
     let at = half_at(plant);
-    Answer::Accepted(count_words(&pool[at..cells]))
+    Ok(count_words(&pool[at..cells]))
 }

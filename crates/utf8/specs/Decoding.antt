@@ -1,6 +1,6 @@
 -- 01, "Bytes to scalars": the decoder, its refusals and its output.
-use Rattle.std.specs.Prelude.{ℕ, zero, suc, ◌+◌, Bool, true, false, not, cond, List, [], ◌∷◌, ◌++◌, length, take, drop, eqb}
-use Rattle.refusal.specs.declared.Answer.{Answer}
+use Rattle.std.specs.Prelude.{ℕ, zero, suc, ◌+◌, Bool, true, false, not, cond, List, [], ◌∷◌, ◌++◌, length, take, drop, eqb, Result}
+use Rattle.refusal.specs.declared.Refusal.{Refusal}
 use Rattle.refusal.specs.declared.Refusal.TheVariants.{IllFormed}
 use Rattle.refusal.specs.Answers.{Cause, answer, long_cause, out_cause}
 use Rattle.utf8_sequences.specs.Utf8.{scalar_of}
@@ -64,5 +64,5 @@ decode_causes bytes room =
     ∷ [])
 
 -- accepted with the number of scalars
-abbrev pub decoded : List ℕ → Room → Answer
+abbrev pub decoded : List ℕ → Room → Result ℕ Refusal
 decoded bytes room = answer (decode_causes bytes room) (length (scalars_of bytes))

@@ -9,7 +9,7 @@ ghost use Rattle.utf8.specs.Positions.{positions_of, end_in_bytes};
 ghost use Rattle.utf8.specs.inner.Passes.{counted_of, Read};
 
 use cells::narrow;
-use refusal::{Answer, MAX_SCALARS, Refusal};
+use refusal::{MAX_SCALARS, Refusal};
 use utf8_sequences::{lead_table, next_size, piece_at, piece_of_e0, thai_at, thai_of_four};
 
 // What the first pass finds: how many scalars the longest well-formed prefix has, its length in
@@ -167,27 +167,27 @@ fn fill(s: &[u8], out: &mut [u32], positions: &mut [u32])
 
 // Writes the scalars of the bytes to the front of `out`, the byte position of each and of the end
 // to the front of `positions`, and answers how many scalars there are. Refusals 1, 2, 6.
-pub fn decode(bytes: &[u8], out: &mut [u32], positions: &mut [u32]) -> Answer
+pub fn decode(bytes: &[u8], out: &mut [u32], positions: &mut [u32]) -> Result<usize, Refusal>
     ensures value { result ≡ decoded bytes.now (room_in out.old positions.old) }
     ensures out_after { out.new ≡ output result (scalars_of bytes.now) out.old }
     ensures positions_after { positions.new ≡ output result (positions_of bytes.now) positions.old }
 {
     let c = count(bytes);
     if !c.whole {
-        return Answer::Refused(Refusal::IllFormed(c.taken));
+        return Err(Refusal::IllFormed(c.taken));
     }
     if MAX_SCALARS < c.scalars {
-        return Answer::Refused(Refusal::TooManyScalars(c.scalars));
+        return Err(Refusal::TooManyScalars(c.scalars));
     }
     if out.len() < c.scalars {
-        return Answer::Refused(Refusal::OutputTooShort(c.scalars));
+        return Err(Refusal::OutputTooShort(c.scalars));
     }
     let places = c.scalars + 1;
     if positions.len() < places {
-        return Answer::Refused(Refusal::OutputTooShort(places));
+        return Err(Refusal::OutputTooShort(places));
     }
     fill(bytes, out, positions);
-    Answer::Accepted(c.scalars)
+    Ok(c.scalars)
 }
 
 // An end in bytes.

@@ -19,7 +19,7 @@ ghost use Rattle.why_replies.specs.Replies.{asks_sheet, asked, cutting_by, RowsA
 
 use newmm_reasons::cut_reasons;
 use newmm_rules::Mode;
-use refusal::Answer;
+use refusal::Refusal;
 use sheet_replies::{Asked, MAX_LINE, answer_line, ended};
 use sheet_texts::Reply;
 use why_texts::write_why;
@@ -105,8 +105,8 @@ fn cut(
 {
     let decoded = utf8::decode(text, scalars, positions);
     match decoded {
-        Answer::Refused(r) => Reply::Refused(r),
-        Answer::Accepted(n) => ended(cut_reasons(&scalars[..n], pool, pairs, scratch, mode)),
+        Err(r) => Reply::Refused(r),
+        Ok(n) => ended(cut_reasons(&scalars[..n], pool, pairs, scratch, mode)),
     }
 }
 

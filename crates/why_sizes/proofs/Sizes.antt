@@ -1,4 +1,6 @@
 -- What is told for a line takes at most 50,127 bytes. Assumes nothing.
+use Rattle.std.specs.Prelude.{Result, Ok, Err}
+use Rattle.refusal.specs.declared.Refusal.{Refusal}
 use Prim.Native.Nat.{ℕ, zero, suc, ◌+◌, ◌-◌, ◌*◌, ◌/◌, ◌≤◌, ◌<◌}
 use native.Mathlib.Omega.{arith}
 use native.Mathlib.Decide.{dec_lt}
@@ -9,8 +11,6 @@ use lib.Dec.{eqb}
 use lib.ListN.{length, get_or, take, drop, length-append, length-take, length-map, get_or-append}
 use lib.Seq.{take-append_seam, take_all}
 use borrow.Author.Tests.{not-false}
-use Rattle.refusal.specs.declared.Answer.{Answer}
-use Rattle.refusal.specs.declared.Answer.TheVariants as answers
 use Rattle.refusal.specs.Answers.{output}
 use Rattle.refusal.proofs.Causes.{none_of}
 use Rattle.utf8.specs.Decoding.{run_all, scalars_of, Room, room_in, decode_causes, decoded}
@@ -154,9 +154,9 @@ module _ (text : List ℕ) (short : length text ≤ 1023) (whole : (run_all text
 -- ---- a line
 
 -- any other reply
-report_fits : (a : Answer) (text positions pairs : List ℕ) → length (why_text (reported a) text positions pairs) ≤ 50127
-report_fits (answers.Accepted n) text positions pairs = omega (arith, report_size (answers.Accepted n))
-report_fits (answers.Refused r) text positions pairs = omega (arith, report_size (answers.Refused r))
+report_fits : (a : Result ℕ Refusal) (text positions pairs : List ℕ) → length (why_text (reported a) text positions pairs) ≤ 50127
+report_fits (Ok n) text positions pairs = omega (arith, report_size (Ok n))
+report_fits (Err r) text positions pairs = omega (arith, report_size (Err r))
 
 nothing_fits : (text pool scalars positions pairs : List ℕ) (cells : ℕ) → length (explained_by Nothing text pool scalars positions pairs cells) ≤ 50127
 unfolding explained_by reply_to
@@ -182,11 +182,11 @@ module _ (text : List ℕ) (short : length text ≤ 1023) (pool scalars position
       climbs : Climbs 0 (map end_of told) (length (scalars_of text))
       climbs = subst (λ (l : List ℕ). Climbs 0 l (length (scalars_of text))) (sym (same_ends words (scalars_of text) mode)) (cut_climbs mode words (scalars_of text))
 
-      go : (d a : Answer) → decoded text room ≡ d → accepts mode (scalars_of text) (meaning pool) cells (length pairs / 2) ≡ a
+      go : (d a : Result ℕ Refusal) → decoded text room ≡ d → accepts mode (scalars_of text) (meaning pool) cells (length pairs / 2) ≡ a
           → length (why_text (ended (next d a)) text (output d (positions_of text) positions) (output (next d a) (pairs_of told) pairs)) ≤ 50127
-      go (answers.Refused r) a e f = omega (arith, refusal_size r [])
-      go (answers.Accepted n) (answers.Refused r) e f = omega (arith, refusal_size r [])
-      go (answers.Accepted n) (answers.Accepted k) e f =
+      go (Err r) a e f = omega (arith, refusal_size r [])
+      go (Ok n) (Err r) e f = omega (arith, refusal_size r [])
+      go (Ok n) (Ok k) e f =
           let whole = not-false (run_all text).whole (none_of (decode_causes text room) (length (scalars_of text)) n e).0 in
           cut_size text short whole (drop (length (positions_of text)) positions) told climbs (drop (length (pairs_of told)) pairs) k
           (as_many words (scalars_of text) mode ∙ accepted_is (cut_causes mode (scalars_of text) (meaning pool) cells (length pairs / 2)) _ k f)

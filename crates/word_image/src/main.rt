@@ -4,7 +4,7 @@
 // standard error, and no image is written then.
 #![tactic(auto)]
 
-use refusal::{Answer, Refusal};
+use refusal::Refusal;
 use sheet_bytes::{front, keep, line_end};
 use sheet_io::{Got, read_some, write_whole};
 use std::io::{Read, Write};
@@ -83,7 +83,7 @@ fn write<P: Print, W: Write>(told: &P, output: &mut W, pool: &[u32; POOL]) {
     let mut image = [0u8; IMAGE];
     let answer = write_image(pool, &mut image);
     match answer {
-        Answer::Accepted(n) => {
+        Ok(n) => {
             write_whole(
                 told,
                 output,
@@ -91,7 +91,7 @@ fn write<P: Print, W: Write>(told: &P, output: &mut W, pool: &[u32; POOL]) {
                 b"word_image: writing standard output",
             );
         }
-        Answer::Refused(r) => {
+        Err(r) => {
             let _ = print!(told; "word_image: ");
             tell_refusal(told, r);
         }
@@ -123,10 +123,10 @@ fn take<P: Print>(
     }
 }
 
-fn is_added<P: Print>(told: &P, answer: Answer, lines: u64) -> bool {
+fn is_added<P: Print>(told: &P, answer: Result<usize, Refusal>, lines: u64) -> bool {
     match answer {
-        Answer::Accepted(_) => true,
-        Answer::Refused(r) => {
+        Ok(_) => true,
+        Err(r) => {
             tell_line(told, lines);
             tell_refusal(told, r);
             false

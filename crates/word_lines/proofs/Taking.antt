@@ -1,12 +1,12 @@
 -- What becomes of a line. Assumes nothing.
+use Rattle.std.specs.Prelude.{Result, Ok, Err}
+use Rattle.refusal.specs.declared.Refusal.{Refusal}
 use Prim.Native.Nat.{ℕ, ◌≤◌, ◌<◌}
 use mathlib.Core.Path.{◌≡◌, refl, sym, ◌∙◌, ap, subst}
 use mathlib.Core.Bool.{Bool, true, false}
 use mathlib.Core.List.{List}
 use borrow.Author.Tests.{le-leb, lt-leb}
 use lib.ListN.{take}
-use Rattle.refusal.specs.declared.Answer.{Answer}
-use Rattle.refusal.specs.declared.Answer.TheVariants as answers
 use Rattle.refusal.specs.Answers.{output}
 use Rattle.utf8.specs.Decoding.{scalars_of, room_in, decoded}
 use Rattle.utf8.specs.Positions.{positions_of}
@@ -21,21 +21,21 @@ use Rattle.word_lines.specs.declared.Taken.TheVariants.{NoClass, Answered}
 use Rattle.word_lines.specs.Lines.{tab_in, class_behind, class_of, word_of, is_term, add_term, taken_by, PoolBy, row_by}
 
 -- the answer that a reply reports
-answer_in : Reply → Answer
-answer_in replies.Unknown = answers.Accepted 0
-answer_in (replies.Report n) = answers.Accepted n
-answer_in (replies.Ends n) = answers.Accepted n
-answer_in (replies.Refused r) = answers.Refused r
+answer_in : Reply → Result ℕ Refusal
+answer_in replies.Unknown = Ok 0
+answer_in (replies.Report n) = Ok n
+answer_in (replies.Ends n) = Ok n
+answer_in (replies.Refused r) = Err r
 
-back : (a : Answer) → answer_in (reported a) ≡ a
+back : (a : Result ℕ Refusal) → answer_in (reported a) ≡ a
 unfolding answer_in
-back (answers.Accepted n) = refl
-back (answers.Refused r) = refl
+back (Ok n) = refl
+back (Err r) = refl
 
 -- The answer for the scalars that are lent on is that for the text.
-pub answered_text : (text scalars positions : List ℕ) {scalars₁ positions₁ : List ℕ} {d : Answer}
+pub answered_text : (text scalars positions : List ℕ) {scalars₁ positions₁ : List ℕ} {d : Result ℕ Refusal}
     → (d ≡ decoded text (room_in scalars positions)) × ((scalars₁ ≡ output d (scalars_of text) scalars) × (positions₁ ≡ output d (positions_of text) positions))
-    → {n : ℕ} → d ≡ answers.Accepted n → (f : List ℕ → Answer) {a : Answer} → a ≡ f (take n scalars₁) → a ≡ next (decoded text (room_in scalars positions)) (f (scalars_of text))
+    → {n : ℕ} → d ≡ Ok n → (f : List ℕ → Result ℕ Refusal) {a : Result ℕ Refusal} → a ≡ f (take n scalars₁) → a ≡ next (decoded text (room_in scalars positions)) (f (scalars_of text))
 answered_text text scalars positions g y f {a} e =
     sym (back a) ∙ ap answer_in (reported_text text scalars positions g y f e refl) ∙ back (next (decoded text (room_in scalars positions)) (f (scalars_of text)))
 
@@ -58,7 +58,7 @@ module _ (line pool scalars positions : List ℕ) {tab class : ℕ} (at_tab : ta
       subst (λ (b : Bool). Takes pool pool scalars scalars positions positions NoClass b (word_of line) (class_of line)) no' (refl, (refl, (refl, refl)))
 
   -- the word before it is added
-  pub word_added : class ≤ 65535 → {w : List ℕ} → w ≡ take tab line → (pool₁ : List ℕ) {scalars₁ positions₁ : List ℕ} {a : Answer}
+  pub word_added : class ≤ 65535 → {w : List ℕ} → w ≡ take tab line → (pool₁ : List ℕ) {scalars₁ positions₁ : List ℕ} {a : Result ℕ Refusal}
       → (a ≡ add_term w class pool (room_in scalars positions)) × (After (add_term w class pool (room_in scalars positions)) pool pool₁ (added (scalars_of w) class pool)
       × ((scalars₁ ≡ output (decoded w (room_in scalars positions)) (scalars_of w) scalars) × (positions₁ ≡ output (decoded w (room_in scalars positions)) (positions_of w) positions)))
       → Takes pool pool₁ scalars scalars₁ positions positions₁ (Answered a) (is_term line) (word_of line) (class_of line)

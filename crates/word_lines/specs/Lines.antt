@@ -1,7 +1,7 @@
 -- The lines of a word list: what a line says, what adding it answers, and the line of a word.
-use Rattle.std.specs.Prelude.{ℕ, suc, ◌+◌, ◌*◌, ◌-◌, ◌≡◌, Bool, true, false, cond, not, ◌&&◌, List, [], ◌∷◌, ◌++◌, eqb, leb, ltb, length, take, drop}
+use Rattle.std.specs.Prelude.{ℕ, suc, ◌+◌, ◌*◌, ◌-◌, ◌≡◌, Bool, true, false, cond, not, ◌&&◌, List, [], ◌∷◌, ◌++◌, eqb, leb, ltb, length, take, drop, Result}
+use Rattle.refusal.specs.declared.Refusal.{Refusal}
 use Rattle.lists.specs.Scans.{leading, within}
-use Rattle.refusal.specs.declared.Answer.{Answer}
 use Rattle.refusal.specs.Answers.{output}
 use Rattle.utf8.specs.Decoding.{scalars_of, Room, decoded}
 use Rattle.trie_pool.specs.Meaning.{Terms}
@@ -49,11 +49,11 @@ abbrev pub is_term : List ℕ → Bool
 is_term line = leb (class_of line) max_class
 
 -- The word is decoded first, then added with its class, by the dictionary's own call.
-abbrev pub add_term : List ℕ → ℕ → List ℕ → Room → Answer
+abbrev pub add_term : List ℕ → ℕ → List ℕ → Room → Result ℕ Refusal
 add_term word class pool room = next (decoded word room) (add_answer (scalars_of word) class pool)
 
 -- What became of a line.
-abbrev pub taken_by : Bool → Answer → Taken
+abbrev pub taken_by : Bool → Result ℕ Refusal → Taken
 taken_by true a = Answered a
 taken_by false a = NoClass
 
@@ -61,11 +61,11 @@ abbrev pub taken : List ℕ → List ℕ → Room → Taken
 taken line pool room = taken_by (is_term line) (add_term (word_of line) (class_of line) pool room)
 
 -- What becomes of the pool, and of a row that decoding writes.
-abbrev pub PoolBy : Bool → Answer → List ℕ → List ℕ → Terms → Type 0
+abbrev pub PoolBy : Bool → Result ℕ Refusal → List ℕ → List ℕ → Terms → Type 0
 PoolBy true a old new held = After a old new held
 PoolBy false a old new held = new ≡ old
 
-abbrev pub row_by : Bool → Answer → List ℕ → List ℕ → List ℕ
+abbrev pub row_by : Bool → Result ℕ Refusal → List ℕ → List ℕ → List ℕ
 row_by true a told row = output a told row
 row_by false a told row = row
 

@@ -13,7 +13,7 @@ ghost use Rattle.sheet_texts.specs.Texts.{written, amount};
 ghost use Rattle.word_lines.specs.Lines.{tab_in, with_digit, number_in, class_behind, class_of, word_of, is_term};
 ghost use Rattle.word_lines.specs.Lines.{add_term, taken, PoolBy, row_by, term_line};
 
-use refusal::Answer;
+use refusal::Refusal;
 use sheet_bytes::{front, keep};
 use sheet_texts::keep_number;
 use trie_char::add_class;
@@ -95,7 +95,7 @@ fn add_term(
     pool: &mut [u32],
     scalars: &mut [u32],
     positions: &mut [u32],
-) -> Answer
+) -> Result<usize, Refusal>
     ensures value { result ≡
         add_term word.now class pool.old (room_in scalars.old positions.old) }
     ensures after { After
@@ -109,10 +109,7 @@ fn add_term(
         output (decoded word.now (room_in scalars.old positions.old))
         (positions_of word.now) positions.old }
 {
-    let decoded = utf8::decode(word, scalars, positions);
-    let Answer::Accepted(n) = decoded else {
-        return decoded;
-    };
+    let n = utf8::decode(word, scalars, positions)?;
     add_class(pool, &scalars[..n], class)
 }
 

@@ -1,5 +1,7 @@
 -- What reading an image answers, by the test of the pool, the survey of the image and the nodes
 -- that it needs; and the pool that it leaves. Assumes nothing.
+use Rattle.std.specs.Prelude.{Result, Ok, Err}
+use Rattle.refusal.specs.declared.Refusal.{Refusal}
 use Prim.Native.Nat.{ℕ, suc, ◌+◌, ◌-◌, ◌*◌, ◌/◌, ◌≤◌, ◌<◌, min}
 use native.Mathlib.Omega.{arith}
 use mathlib.Core.Path.{◌≡◌, refl, sym, ap, subst, ◌∙◌}
@@ -10,8 +12,6 @@ use lib.Dec.{ltb}
 use lib.ListN.{length, get_or, take, drop, replicate, length-replicate, get_or-replicate, get_or-eq_default}
 use native.Mathlib.Decide.{dec_lt}
 use Rattle.refusal.specs.declared.Refusal.TheVariants.{NotADictionary, BadImage, TooFewNodes}
-use Rattle.refusal.specs.declared.Answer.{Answer}
-use Rattle.refusal.specs.declared.Answer.TheVariants.{Accepted, Refused}
 use Rattle.refusal.specs.Answers.{answer}
 use Rattle.trie_pool.specs.Cells.{used}
 use Rattle.trie_pool.specs.Words.{term_at}
@@ -65,20 +65,20 @@ told_right image levels r words nodes s e = subst (λ (z : Surveyed). Surveys im
 
 module _ (pool image : List ℕ) (b : Bool) (is : b ≡ is_dictionary pool) where
   -- 4
-  pub not_one : b ≡ false → Refused NotADictionary ≡ read_answer image pool
-  not_one e = sym (ap (λ (z : Bool). cond z (Refused NotADictionary) (answer (image_cause image ∷ room_cause image pool ∷ []) (length (list_of image)))) (meaning_is_none pool false (sym e ∙ is)))
+  pub not_one : b ≡ false → Err NotADictionary ≡ read_answer image pool
+  not_one e = sym (ap (λ (z : Bool). cond z (Err NotADictionary) (answer (image_cause image ∷ room_cause image pool ∷ []) (length (list_of image)))) (meaning_is_none pool false (sym e ∙ is)))
 
   -- past 4: what the image says decides
-  abbrev by : Read → Answer
-  by z = cond (is_broken z) (Refused (BadImage (broken_at z)))
-      (cond (ltb (capacity pool) (suc (charge (list_in z)))) (Refused (TooFewNodes (suc (charge (list_in z)) - capacity pool))) (Accepted (length (list_in z))))
+  abbrev by : Read → Result ℕ Refusal
+  by z = cond (is_broken z) (Err (BadImage (broken_at z)))
+      (cond (ltb (capacity pool) (suc (charge (list_in z)))) (Err (TooFewNodes (suc (charge (list_in z)) - capacity pool))) (Ok (length (list_in z))))
 
   module _ (e : b ≡ true) where
     past : read_answer image pool ≡ by (read_of image)
-    past = ap (λ (z : Bool). cond z (Refused NotADictionary) (by (read_of image))) (meaning_is_none pool true (sym e ∙ is))
+    past = ap (λ (z : Bool). cond z (Err NotADictionary) (by (read_of image))) (meaning_is_none pool true (sym e ∙ is))
 
     -- 9
-    pub not_right : (at : ℕ) → read_of image ≡ broken at → Refused (BadImage at) ≡ read_answer image pool
+    pub not_right : (at : ℕ) → read_of image ≡ broken at → Err (BadImage at) ≡ read_answer image pool
     not_right at r = sym (past ∙ ap by r)
 
     module _ (n : ℕ) (n_is : n ≡ min (length pool / 8) 1048576) {levels : List ℕ} {words nodes : ℕ} (l : Listed image levels words nodes) where
@@ -86,12 +86,12 @@ module _ (pool image : List ℕ) (b : Bool) (is : b ≡ is_dictionary pool) wher
       by_list = past ∙ ap by l.reads
 
       -- 8
-      pub too_few : n < 1 + nodes → Refused (TooFewNodes (1 + nodes - n)) ≡ read_answer image pool
+      pub too_few : n < 1 + nodes → Err (TooFewNodes (1 + nodes - n)) ≡ read_answer image pool
       too_few h =
           let d : 1 + nodes - n ≡ suc (charge l.terms) - capacity pool = omega (arith, n_is, l.charged) in
           let more : capacity pool < suc (charge l.terms) = omega (arith, n_is, l.charged) in
-          ap (λ (z : ℕ). Refused (TooFewNodes z)) d
-          ∙ sym (by_list ∙ ap (λ (z : Bool). cond z (Refused (TooFewNodes (suc (charge l.terms) - capacity pool))) (Accepted (length l.terms))) (lt-ltb (capacity pool) (suc (charge l.terms)) more))
+          ap (λ (z : ℕ). Err (TooFewNodes z)) d
+          ∙ sym (by_list ∙ ap (λ (z : Bool). cond z (Err (TooFewNodes (suc (charge l.terms) - capacity pool))) (Ok (length l.terms))) (lt-ltb (capacity pool) (suc (charge l.terms)) more))
 
       module _ (h : 1 + nodes ≤ n) where
         pub builds : Builds image (take (8 * n) pool) levels (1 + nodes)
@@ -106,14 +106,14 @@ module _ (pool image : List ℕ) (b : Bool) (is : b ≡ is_dictionary pool) wher
           small = omega (arith, n_is);
         }
 
-        accepted : Accepted words ≡ read_answer image pool
+        accepted : Ok words ≡ read_answer image pool
         accepted =
             let room : suc (charge l.terms) ≤ capacity pool = omega (arith, n_is, l.charged) in
-            ap Accepted l.number
-            ∙ sym (by_list ∙ ap (λ (z : Bool). cond z (Refused (TooFewNodes (suc (charge l.terms) - capacity pool))) (Accepted (length l.terms))) (le-ltb (capacity pool) (suc (charge l.terms)) room))
+            ap Ok l.number
+            ∙ sym (by_list ∙ ap (λ (z : Bool). cond z (Err (TooFewNodes (suc (charge l.terms) - capacity pool))) (Ok (length l.terms))) (le-ltb (capacity pool) (suc (charge l.terms)) room))
 
         pub done : (new : List ℕ) → length new ≡ length (take (8 * n) pool) → Placed image new → Beside (take (8 * n) pool) new
-            → (Accepted words ≡ read_answer image pool) × Became pool (new ++ drop (8 * n) pool) (image_terms image)
+            → (Ok words ≡ read_answer image pool) × Became pool (new ++ drop (8 * n) pool) (image_terms image)
         done new k p q =
             let o = p.is l.terms l.reads (used new) refl in (
               accepted,

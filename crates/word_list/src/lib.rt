@@ -7,31 +7,31 @@ ghost use Rattle.word_list_answers.specs.Answers.{read_answer, image_terms};
 
 use image_build::build;
 use image_read::{Surveyed, survey};
-use refusal::{Answer, Refusal};
+use refusal::Refusal;
 use trie_check::{capacity, is_dictionary};
 use trie_pool::NODE;
 
 // Replaces the words of a dictionary and their classes by those of an image; accepted with their
 // number. Refusals 4, 9, 8.
-pub fn read_image(pool: &mut [u32], image: &[u8]) -> Answer
+pub fn read_image(pool: &mut [u32], image: &[u8]) -> Result<usize, Refusal>
     ensures value { result ≡ read_answer image.now pool.old }
     ensures after { After result pool.old pool.new (image_terms image.now) }
 {
     if !is_dictionary(pool) {
-        return Answer::Refused(Refusal::NotADictionary);
+        return Err(Refusal::NotADictionary);
     }
     let mut levels = [0usize; 257];
     let mut prev = [0u32; 255];
     let mut row = [0u32; 255];
     let mut positions = [0u32; 256];
     match survey(image, &mut levels, &mut prev, &mut row, &mut positions) {
-        Surveyed::Broken(at) => Answer::Refused(Refusal::BadImage(at)),
+        Surveyed::Broken(at) => Err(Refusal::BadImage(at)),
         Surveyed::Right { words, nodes } => {
             let room = capacity(pool.len());
             let n = 1 + nodes;
             if room < n {
                 let missing = n - room;
-                return Answer::Refused(Refusal::TooFewNodes(missing));
+                return Err(Refusal::TooFewNodes(missing));
             }
             let cells = NODE * room;
             build(
@@ -43,7 +43,7 @@ pub fn read_image(pool: &mut [u32], image: &[u8]) -> Answer
                 &mut row,
                 &mut positions,
             );
-            Answer::Accepted(words)
+            Ok(words)
         }
     }
 }

@@ -1,6 +1,6 @@
 -- 02, ticket 7: what reading an image into a pool answers, and the words that it leaves.
-use Rattle.std.specs.Prelude.{ℕ, suc, ◌-◌, Bool, true, false, List, [], ◌∷◌, ◌++◌, ltb, length}
-use Rattle.refusal.specs.declared.Answer.{Answer}
+use Rattle.std.specs.Prelude.{ℕ, suc, ◌-◌, Bool, true, false, List, [], ◌∷◌, ◌++◌, ltb, length, Result}
+use Rattle.refusal.specs.declared.Refusal.{Refusal}
 use Rattle.refusal.specs.declared.Refusal.TheVariants.{BadImage, TooFewNodes}
 use Rattle.refusal.specs.Answers.{Cause, answer}
 use Rattle.trie_pool.specs.Rules.{capacity}
@@ -46,7 +46,7 @@ abbrev pub image_causes : List ℕ → List ℕ → List Cause
 image_causes image pool = pool_causes (meaning pool) ++ (image_cause image ∷ room_cause image pool ∷ [])
 
 -- accepted with the number of words
-abbrev pub read_answer : List ℕ → List ℕ → Answer
+abbrev pub read_answer : List ℕ → List ℕ → Result ℕ Refusal
 read_answer image pool = answer (image_causes image pool) (length (list_of image))
 
 -- the words of the image with their classes

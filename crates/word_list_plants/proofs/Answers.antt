@@ -1,5 +1,7 @@
 -- What reading an image into a plant's half answers, by the test of the pool, the survey of the
 -- image and the plant's limit; and the pool that it leaves. Assumes nothing.
+use Rattle.std.specs.Prelude.{Result, Ok, Err}
+use Rattle.refusal.specs.declared.Refusal.{Refusal}
 use Prim.Native.Nat.{ℕ, ◌+◌, ◌-◌, ◌*◌, ◌/◌, ◌≤◌, ◌<◌, min}
 use native.Mathlib.Omega.{arith}
 use mathlib.Core.Path.{◌≡◌, refl, sym, ap, ◌∙◌}
@@ -9,8 +11,6 @@ use borrow.Author.Tests.{lt-ltb, le-ltb}
 use lib.Dec.{ltb}
 use lib.ListN.{length, get_or, take, drop}
 use Rattle.refusal.specs.declared.Refusal.TheVariants.{NotADictionary, BadImage, TooFewNodes}
-use Rattle.refusal.specs.declared.Answer.{Answer}
-use Rattle.refusal.specs.declared.Answer.TheVariants.{Accepted, Refused}
 use Rattle.refusal.specs.Answers.{answer}
 use Rattle.trie_pool.specs.Cells.{used}
 use Rattle.trie_leaf.specs.inner.Planting.{Beside}
@@ -33,23 +33,23 @@ use Rattle.word_list_plants.specs.Answers.{plant_read_answer}
 
 module _ (plant : Plant) (pool image : List ℕ) (b : Bool) (is : b ≡ is_plants pool) where
   -- 4
-  pub not_one : b ≡ false → Refused NotADictionary ≡ plant_read_answer plant image pool
-  not_one e = sym (ap (λ (z : Bool). cond z (Refused NotADictionary) (answer (image_cause image ∷ limit_cause plant pool (charge (list_of image)) ∷ []) (length (list_of image)))) (meaning_is_none plant pool false (sym e ∙ is)))
+  pub not_one : b ≡ false → Err NotADictionary ≡ plant_read_answer plant image pool
+  not_one e = sym (ap (λ (z : Bool). cond z (Err NotADictionary) (answer (image_cause image ∷ limit_cause plant pool (charge (list_of image)) ∷ []) (length (list_of image)))) (meaning_is_none plant pool false (sym e ∙ is)))
 
   -- past 4: what the image says decides
-  abbrev by : Read → Answer
-  by z = cond (is_broken z) (Refused (BadImage (broken_at z)))
-      (cond (ltb (limit_of plant pool) (charge (list_in z))) (Refused (TooFewNodes (charge (list_in z) - limit_of plant pool))) (Accepted (length (list_in z))))
+  abbrev by : Read → Result ℕ Refusal
+  by z = cond (is_broken z) (Err (BadImage (broken_at z)))
+      (cond (ltb (limit_of plant pool) (charge (list_in z))) (Err (TooFewNodes (charge (list_in z) - limit_of plant pool))) (Ok (length (list_in z))))
 
   module _ (e : b ≡ true) where
     known : is_plants pool ≡ true
     known = sym is ∙ e
 
     past : plant_read_answer plant image pool ≡ by (read_of image)
-    past = ap (λ (z : Bool). cond z (Refused NotADictionary) (by (read_of image))) (meaning_is_none plant pool true (sym known))
+    past = ap (λ (z : Bool). cond z (Err NotADictionary) (by (read_of image))) (meaning_is_none plant pool true (sym known))
 
     -- 9
-    pub not_right : (at : ℕ) → read_of image ≡ broken at → Refused (BadImage at) ≡ plant_read_answer plant image pool
+    pub not_right : (at : ℕ) → read_of image ≡ broken at → Err (BadImage at) ≡ plant_read_answer plant image pool
     not_right at r = sym (past ∙ ap by r)
 
     module _ (a : ℕ) (a_is : a ≡ half_at plant) where
@@ -71,12 +71,12 @@ module _ (plant : Plant) (pool image : List ℕ) (b : Bool) (is : b ≡ is_plant
         by_list = past ∙ ap by l.reads
 
         -- 8
-        pub too_few : room < 1 + nodes → Refused (TooFewNodes (1 + nodes - room)) ≡ plant_read_answer plant image pool
+        pub too_few : room < 1 + nodes → Err (TooFewNodes (1 + nodes - room)) ≡ plant_read_answer plant image pool
         too_few h =
             let d : 1 + nodes - room ≡ charge l.terms - limit_of plant pool = omega (arith, room_of_plant, some_room, l.charged) in
             let more : limit_of plant pool < charge l.terms = omega (arith, room_of_plant, some_room, l.charged) in
-            ap (λ (z : ℕ). Refused (TooFewNodes z)) d
-            ∙ sym (by_list ∙ ap (λ (z : Bool). cond z (Refused (TooFewNodes (charge l.terms - limit_of plant pool))) (Accepted (length l.terms))) (lt-ltb (limit_of plant pool) (charge l.terms) more))
+            ap (λ (z : ℕ). Err (TooFewNodes z)) d
+            ∙ sym (by_list ∙ ap (λ (z : Bool). cond z (Err (TooFewNodes (charge l.terms - limit_of plant pool))) (Ok (length l.terms))) (lt-ltb (limit_of plant pool) (charge l.terms) more))
 
         module _ (h : 1 + nodes ≤ room) (n : ℕ) (n_is : n ≡ min (length pool / 8) 1048576) where
           pub builds : Builds image (take (8 * n - a) (drop a pool)) levels (1 + nodes)
@@ -91,14 +91,14 @@ module _ (plant : Plant) (pool image : List ℕ) (b : Bool) (is : b ≡ is_plant
             small = omega (arith, room_of_plant, room_fits plant pool known);
           }
 
-          accepted : Accepted words ≡ plant_read_answer plant image pool
+          accepted : Ok words ≡ plant_read_answer plant image pool
           accepted =
               let few : charge l.terms ≤ limit_of plant pool = omega (arith, room_of_plant, l.charged) in
-              ap Accepted l.number
-              ∙ sym (by_list ∙ ap (λ (z : Bool). cond z (Refused (TooFewNodes (charge l.terms - limit_of plant pool))) (Accepted (length l.terms))) (le-ltb (limit_of plant pool) (charge l.terms) few))
+              ap Ok l.number
+              ∙ sym (by_list ∙ ap (λ (z : Bool). cond z (Err (TooFewNodes (charge l.terms - limit_of plant pool))) (Ok (length l.terms))) (le-ltb (limit_of plant pool) (charge l.terms) few))
 
           pub done : (new : List ℕ) → length new ≡ length (take (8 * n - a) (drop a pool)) → used new ≡ 1 + nodes → Placed image new → Beside (take (8 * n - a) (drop a pool)) new
-              → (Accepted words ≡ plant_read_answer plant image pool) × PlantBecame plant pool (take a pool ++ (new ++ drop (8 * n - a) (drop a pool))) (image_terms image)
+              → (Ok words ≡ plant_read_answer plant image pool) × PlantBecame plant pool (take a pool ++ (new ++ drop (8 * n - a) (drop a pool))) (image_terms image)
           done new k u p q =
               let o = p.is l.terms l.reads (used new) refl in (
                 accepted,

@@ -1,6 +1,6 @@
 -- 02, ticket 11: what reading an image into a plant's half answers. Images are of one plant.
-use Rattle.std.specs.Prelude.{ℕ, List, [], ◌∷◌, ◌++◌, length}
-use Rattle.refusal.specs.declared.Answer.{Answer}
+use Rattle.std.specs.Prelude.{ℕ, List, [], ◌∷◌, ◌++◌, length, Result}
+use Rattle.refusal.specs.declared.Refusal.{Refusal}
 use Rattle.refusal.specs.Answers.{Cause, answer}
 use Rattle.trie_check.specs.Refusals.{pool_causes}
 use Rattle.image_rules.specs.Lists.{charge}
@@ -16,5 +16,5 @@ plant_image_causes plant image pool =
     ++ (image_cause image ∷ limit_cause plant pool (charge (list_of image)) ∷ [])
 
 -- accepted with the number of words
-abbrev pub plant_read_answer : Plant → List ℕ → List ℕ → Answer
+abbrev pub plant_read_answer : Plant → List ℕ → List ℕ → Result ℕ Refusal
 plant_read_answer plant image pool = answer (plant_image_causes plant image pool) (length (list_of image))

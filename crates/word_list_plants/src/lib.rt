@@ -9,7 +9,7 @@ ghost use Rattle.word_list_plants.specs.Answers.{plant_read_answer};
 use cells::wide;
 use image_build::build;
 use image_read::{Surveyed, survey};
-use refusal::{Answer, Refusal};
+use refusal::Refusal;
 use trie_check::capacity;
 use trie_plants::{Plant, half_at};
 use trie_plants_check::is_plants;
@@ -17,19 +17,19 @@ use trie_pool::{MARK, NODE};
 
 // Replaces the words of a plant and their classes by those of an image; accepted with their number.
 // Refusals 4, 9, 8.
-pub fn read_image_in(pool: &mut [u32], plant: Plant, image: &[u8]) -> Answer
+pub fn read_image_in(pool: &mut [u32], plant: Plant, image: &[u8]) -> Result<usize, Refusal>
     ensures value { result ≡ plant_read_answer plant image.now pool.old }
     ensures plant_after { PlantAfter plant result pool.old pool.new (image_terms image.now) }
 {
     if !is_plants(pool) {
-        return Answer::Refused(Refusal::NotADictionary);
+        return Err(Refusal::NotADictionary);
     }
     let mut levels = [0usize; 257];
     let mut prev = [0u32; 255];
     let mut row = [0u32; 255];
     let mut positions = [0u32; 256];
     match survey(image, &mut levels, &mut prev, &mut row, &mut positions) {
-        Surveyed::Broken(at) => Answer::Refused(Refusal::BadImage(at)),
+        Surveyed::Broken(at) => Err(Refusal::BadImage(at)),
         Surveyed::Right { words, nodes } => {
             let a = half_at(plant);
             // The limit and one, for the root.
@@ -37,7 +37,7 @@ pub fn read_image_in(pool: &mut [u32], plant: Plant, image: &[u8]) -> Answer
             let n = 1 + nodes;
             if room < n {
                 let missing = n - room;
-                return Answer::Refused(Refusal::TooFewNodes(missing));
+                return Err(Refusal::TooFewNodes(missing));
             }
             let cells = NODE * capacity(pool.len());
             build(
@@ -49,7 +49,7 @@ pub fn read_image_in(pool: &mut [u32], plant: Plant, image: &[u8]) -> Answer
                 &mut row,
                 &mut positions,
             );
-            Answer::Accepted(words)
+            Ok(words)
         }
     }
 }

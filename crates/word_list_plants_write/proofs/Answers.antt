@@ -1,5 +1,6 @@
 -- What writing a plant's image answers, by the test of the pool and the bytes that are needed.
 -- Assumes nothing.
+use Rattle.std.specs.Prelude.{Ok, Err}
 use Prim.Native.Nat.{ℕ, ◌-◌, ◌*◌, ◌/◌, ◌≤◌, ◌<◌, min}
 use native.Mathlib.Omega.{arith}
 use mathlib.Core.Path.{◌≡◌, sym, ap, ◌∙◌}
@@ -7,7 +8,6 @@ use mathlib.Core.Bool.{Bool, true, false, cond}
 use mathlib.Core.List.{List, [], ◌∷◌}
 use lib.ListN.{length, take, drop}
 use Rattle.refusal.specs.declared.Refusal.TheVariants.{NotADictionary, OutputTooShort}
-use Rattle.refusal.specs.declared.Answer.TheVariants.{Accepted, Refused}
 use Rattle.refusal.specs.Answers.{answer, output, out_cause}
 use Rattle.refusal.proofs.Causes.{out_short, out_fits}
 use Rattle.trie_pool.specs.Cells.{used}
@@ -26,12 +26,12 @@ use Rattle.word_list_plants_write.specs.Answers.{plant_image, plant_write_answer
 
 module _ (plant : Plant) (pool : List ℕ) (b : Bool) (is : b ≡ is_plants pool) (out : List ℕ) where
   -- 4
-  pub not_one : b ≡ false → Refused NotADictionary ≡ plant_write_answer plant pool out
-  not_one e = sym (ap (λ (z : Bool). cond z (Refused NotADictionary) (answer (out_cause (length (plant_image plant pool)) (length out) ∷ []) (length (plant_image plant pool)))) (meaning_is_none plant pool false (sym e ∙ is)))
+  pub not_one : b ≡ false → Err NotADictionary ≡ plant_write_answer plant pool out
+  not_one e = sym (ap (λ (z : Bool). cond z (Err NotADictionary) (answer (out_cause (length (plant_image plant pool)) (length out) ∷ []) (length (plant_image plant pool)))) (meaning_is_none plant pool false (sym e ∙ is)))
 
   module _ (e : b ≡ true) (n : ℕ) (n_is : n ≡ min (length pool / 8) 1048576) (a : ℕ) (a_is : a ≡ half_at plant) where
-    first : (q : ℕ) → answer (pool_causes (plant_meaning plant pool)) q ≡ Accepted q
-    first q = ap (λ (z : Bool). cond z (Refused NotADictionary) (Accepted q)) (meaning_is_none plant pool true (sym e ∙ is))
+    first : (q : ℕ) → answer (pool_causes (plant_meaning plant pool)) q ≡ Ok q
+    first q = ap (λ (z : Bool). cond z (Err NotADictionary) (Ok q)) (meaning_is_none plant pool true (sym e ∙ is))
 
     pub starts : a ≤ 8 * n
     starts = omega (arith, from plant pool n n_is a a_is (sym is ∙ e))
@@ -48,14 +48,14 @@ module _ (plant : Plant) (pool : List ℕ) (b : Bool) (is : b ≡ is_plants pool
       needs_is = m_is ∙ ap length image_is
 
       -- 6
-      pub too_short : length out < m → Refused (OutputTooShort m) ≡ plant_write_answer plant pool out
+      pub too_short : length out < m → Err (OutputTooShort m) ≡ plant_write_answer plant pool out
       too_short l = out_short (pool_causes (plant_meaning plant pool)) (length (plant_image plant pool)) (length out) 0 (length (plant_image plant pool)) m (first 0) needs_is l
 
       pub room : m ≤ length out → length (image_of (list_of (take (8 * n - a) (drop a pool)))) ≤ length out
       room l = omega (arith, m_is)
 
       pub done : m ≤ length out → (new : List ℕ) → new ≡ laid_at 0 (image_of (list_of (take (8 * n - a) (drop a pool)))) out
-          → (Accepted m ≡ plant_write_answer plant pool out) × (new ≡ output (Accepted m) (plant_image plant pool) out)
+          → (Ok m ≡ plant_write_answer plant pool out) × (new ≡ output (Ok m) (plant_image plant pool) out)
       done l new w = (
         out_fits (pool_causes (plant_meaning plant pool)) (length (plant_image plant pool)) (length out) 0 m (first 0) needs_is l,
         w ∙ ap (λ (z : List ℕ). laid_at 0 z out) image_is ∙ laid_front (plant_image plant pool) out,

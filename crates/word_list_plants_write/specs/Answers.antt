@@ -1,6 +1,6 @@
 -- 02, ticket 11: what writing a plant's image answers. Images are of one plant.
-use Rattle.std.specs.Prelude.{ℕ, List, [], ◌∷◌, ◌++◌, length}
-use Rattle.refusal.specs.declared.Answer.{Answer}
+use Rattle.std.specs.Prelude.{ℕ, List, [], ◌∷◌, ◌++◌, length, Result}
+use Rattle.refusal.specs.declared.Refusal.{Refusal}
 use Rattle.refusal.specs.Answers.{Cause, out_cause, answer}
 use Rattle.trie_check.specs.Refusals.{pool_causes}
 use Rattle.image_rules.specs.Records.{image_of}
@@ -19,5 +19,5 @@ plant_write_causes plant pool out =
     pool_causes (plant_meaning plant pool) ++ (out_cause (length (plant_image plant pool)) (length out) ∷ [])
 
 -- It is accepted with the bytes of the image.
-abbrev pub plant_write_answer : Plant → List ℕ → List ℕ → Answer
+abbrev pub plant_write_answer : Plant → List ℕ → List ℕ → Result ℕ Refusal
 plant_write_answer plant pool out = answer (plant_write_causes plant pool out) (length (plant_image plant pool))

@@ -7,7 +7,7 @@ ghost use Rattle.word_list_plants_write.specs.Answers.{plant_image, plant_write_
 
 use image_size::image_size;
 use image_write::fill_image;
-use refusal::{Answer, Refusal};
+use refusal::Refusal;
 use trie_check::capacity;
 use trie_plants::{Plant, half_at};
 use trie_plants_check::is_plants;
@@ -15,19 +15,19 @@ use trie_pool::NODE;
 
 // Writes the words of a plant and their classes as an image to the front of out; accepted with its
 // bytes. Refusals 4, 6.
-pub fn write_image_in(pool: &[u32], plant: Plant, out: &mut [u8]) -> Answer
+pub fn write_image_in(pool: &[u32], plant: Plant, out: &mut [u8]) -> Result<usize, Refusal>
     ensures value { result ≡ plant_write_answer plant pool.now out.old }
     ensures out_after { out.new ≡ output result (plant_image plant pool.now) out.old }
 {
     if !is_plants(pool) {
-        return Answer::Refused(Refusal::NotADictionary);
+        return Err(Refusal::NotADictionary);
     }
     let cells = NODE * capacity(pool.len());
     let a = half_at(plant);
     let needed = image_size(&pool[a..cells]);
     if out.len() < needed {
-        return Answer::Refused(Refusal::OutputTooShort(needed));
+        return Err(Refusal::OutputTooShort(needed));
     }
     fill_image(&pool[a..cells], out);
-    Answer::Accepted(needed)
+    Ok(needed)
 }

@@ -1,5 +1,6 @@
 -- What writing an image answers, by the test of the pool and the bytes that are needed. Assumes
 -- nothing.
+use Rattle.std.specs.Prelude.{Ok, Err}
 use Prim.Native.Nat.{ℕ, ◌+◌, ◌*◌, ◌/◌, ◌≤◌, ◌<◌, min}
 use native.Mathlib.Omega.{arith}
 use mathlib.Core.Path.{◌≡◌, refl, sym, ap, subst, ◌∙◌}
@@ -7,8 +8,6 @@ use mathlib.Core.Bool.{Bool, true, false, cond}
 use mathlib.Core.List.{List, [], ◌∷◌, ◌++◌}
 use lib.ListN.{length, take, drop}
 use Rattle.refusal.specs.declared.Refusal.TheVariants.{NotADictionary, OutputTooShort}
-use Rattle.refusal.specs.declared.Answer.{Answer}
-use Rattle.refusal.specs.declared.Answer.TheVariants.{Accepted, Refused}
 use Rattle.refusal.specs.Answers.{answer, output, out_cause}
 use Rattle.refusal.proofs.Causes.{out_short, out_fits}
 use Rattle.trie_pool.specs.Cells.{used}
@@ -29,12 +28,12 @@ laid_front part row = let z : 0 + length part ≡ length part = omega arith in a
 
 module _ (pool : List ℕ) (b : Bool) (is : b ≡ is_dictionary pool) (out : List ℕ) where
   -- 4
-  pub not_one : b ≡ false → Refused NotADictionary ≡ write_answer pool out
-  not_one e = sym (ap (λ (z : Bool). cond z (Refused NotADictionary) (answer (out_cause (length (image_in pool)) (length out) ∷ []) (length (image_in pool)))) (meaning_is_none pool false (sym e ∙ is)))
+  pub not_one : b ≡ false → Err NotADictionary ≡ write_answer pool out
+  not_one e = sym (ap (λ (z : Bool). cond z (Err NotADictionary) (answer (out_cause (length (image_in pool)) (length out) ∷ []) (length (image_in pool)))) (meaning_is_none pool false (sym e ∙ is)))
 
   module _ (e : b ≡ true) (n : ℕ) (n_is : n ≡ min (length pool / 8) 1048576) where
-    first : (q : ℕ) → answer (pool_causes (meaning pool)) q ≡ Accepted q
-    first q = ap (λ (z : Bool). cond z (Refused NotADictionary) (Accepted q)) (meaning_is_none pool true (sym e ∙ is))
+    first : (q : ℕ) → answer (pool_causes (meaning pool)) q ≡ Ok q
+    first q = ap (λ (z : Bool). cond z (Err NotADictionary) (Ok q)) (meaning_is_none pool true (sym e ∙ is))
 
     pub part_sound : Sound (take (8 * n) pool) (used (take (8 * n) pool)) 0
     part_sound = sound_part pool n n_is (sym is ∙ e)
@@ -48,14 +47,14 @@ module _ (pool : List ℕ) (b : Bool) (is : b ≡ is_dictionary pool) (out : Lis
       needs_is = m_is ∙ ap length image_is
 
       -- 6
-      pub too_short : length out < m → Refused (OutputTooShort m) ≡ write_answer pool out
+      pub too_short : length out < m → Err (OutputTooShort m) ≡ write_answer pool out
       too_short l = out_short (pool_causes (meaning pool)) (length (image_in pool)) (length out) 0 (length (image_in pool)) m (first 0) needs_is l
 
       pub room : m ≤ length out → length (image_of (list_of (take (8 * n) pool))) ≤ length out
       room l = omega (arith, m_is)
 
       pub done : m ≤ length out → (new : List ℕ) → new ≡ laid_at 0 (image_of (list_of (take (8 * n) pool))) out
-          → (Accepted m ≡ write_answer pool out) × (new ≡ output (Accepted m) (image_in pool) out)
+          → (Ok m ≡ write_answer pool out) × (new ≡ output (Ok m) (image_in pool) out)
       done l new w = (
         out_fits (pool_causes (meaning pool)) (length (image_in pool)) (length out) 0 m (first 0) needs_is l,
         w ∙ ap (λ (z : List ℕ). laid_at 0 z out) image_is ∙ laid_front (image_in pool) out,

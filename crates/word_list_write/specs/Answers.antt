@@ -1,6 +1,6 @@
 -- 02, ticket 7: what writing an image answers.
-use Rattle.std.specs.Prelude.{ℕ, List, [], ◌∷◌, ◌++◌, length}
-use Rattle.refusal.specs.declared.Answer.{Answer}
+use Rattle.std.specs.Prelude.{ℕ, List, [], ◌∷◌, ◌++◌, length, Result}
+use Rattle.refusal.specs.declared.Refusal.{Refusal}
 use Rattle.refusal.specs.Answers.{Cause, out_cause, answer}
 use Rattle.trie_pool.specs.Rules.{cells_of}
 use Rattle.trie_pool.specs.Meaning.{meaning}
@@ -17,5 +17,5 @@ abbrev pub write_causes : List ℕ → List ℕ → List Cause
 write_causes pool out = pool_causes (meaning pool) ++ (out_cause (length (image_in pool)) (length out) ∷ [])
 
 -- It is accepted with the bytes of the image.
-abbrev pub write_answer : List ℕ → List ℕ → Answer
+abbrev pub write_answer : List ℕ → List ℕ → Result ℕ Refusal
 write_answer pool out = answer (write_causes pool out) (length (image_in pool))

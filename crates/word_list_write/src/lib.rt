@@ -7,24 +7,24 @@ ghost use Rattle.word_list_write.specs.Answers.{image_in, write_answer};
 
 use image_size::image_size;
 use image_write::fill_image;
-use refusal::{Answer, Refusal};
+use refusal::Refusal;
 use trie_check::{capacity, is_dictionary};
 use trie_pool::NODE;
 
 // Writes the words of a dictionary and their classes as an image to the front of out; accepted with
 // its bytes. Refusals 4, 6.
-pub fn write_image(pool: &[u32], out: &mut [u8]) -> Answer
+pub fn write_image(pool: &[u32], out: &mut [u8]) -> Result<usize, Refusal>
     ensures value { result ≡ write_answer pool.now out.old }
     ensures out_after { out.new ≡ output result (image_in pool.now) out.old }
 {
     if !is_dictionary(pool) {
-        return Answer::Refused(Refusal::NotADictionary);
+        return Err(Refusal::NotADictionary);
     }
     let cells = NODE * capacity(pool.len());
     let needed = image_size(&pool[..cells]);
     if out.len() < needed {
-        return Answer::Refused(Refusal::OutputTooShort(needed));
+        return Err(Refusal::OutputTooShort(needed));
     }
     fill_image(&pool[..cells], out);
-    Answer::Accepted(needed)
+    Ok(needed)
 }

@@ -1,6 +1,8 @@
+use Rattle.std.specs.Prelude.{Result}
+use Rattle.newmm_rules.specs.declared.Ends.{Ends}
+use Rattle.refusal.specs.declared.Refusal.{Refusal}
 use native.Mathlib.Omega.{arith}
 use mathlib.Core.Path.{sym, ◌∙◌, ap}
-use Rattle.newmm_answers.specs.declared.CutAnswer.{CutAnswer}
 use Rattle.figures_rules.specs.Outcomes.{of_refused}
 use Rattle.figures.specs.inner.Counting.{figures_in}
 use Rattle.figures.proofs.of_told.Goals as goal
@@ -16,9 +18,9 @@ of_refused-requires c =
 pub returns-in-Ends : goal.returns-in-Ends
 returns-in-Ends c =
     c.of_cut.ensures ∙ sym
-    (ap (λ (t : CutAnswer). figures_in t c.args.characters c.args.cells.now) c.in-Ends.is)
+    (ap (λ (t : Result Ends Refusal). figures_in t c.args.characters c.args.cells.now) c.in-Ends.is)
 
 pub returns-in-Refused : goal.returns-in-Refused
 returns-in-Refused c =
     c.of_refused.ensures ∙ ap of_refused c.number.ensures ∙ sym
-    (ap (λ (t : CutAnswer). figures_in t c.args.characters c.args.cells.now) c.in-Refused.is)
+    (ap (λ (t : Result Ends Refusal). figures_in t c.args.characters c.args.cells.now) c.in-Refused.is)

@@ -1,17 +1,17 @@
 -- The figures of a text whose tokens stand in cells of scratch.
-use Rattle.std.specs.Prelude.{ℕ, ◌≤◌, ◌≡◌, List, length, take}
+use Rattle.std.specs.Prelude.{ℕ, ◌≤◌, ◌≡◌, List, length, take, Result, Err}
+use Rattle.newmm_answers.specs.Answers.{accepted_with}
+use Rattle.newmm_rules.specs.declared.Ends.{Ends}
 use Rattle.refusal.specs.declared.Refusal.{Refusal}
 use Rattle.refusal.specs.Numbers.{number_of}
-use Rattle.newmm_answers.specs.declared.CutAnswer.{CutAnswer}
-use Rattle.newmm_answers.specs.declared.CutAnswer.TheVariants.{Ends, Refused}
 use Rattle.figures_rules.specs.Outcomes.{of_cut, of_refused, Reasons}
 use Rattle.figures_cells.specs.inner.Reasons.{reasons_in}
 
-abbrev pub figures_in : CutAnswer → ℕ → List ℕ → List ℕ
-figures_in (Ends k edges) characters cells = of_cut characters (reasons_in (take k cells)) edges
-figures_in (Refused r) characters cells = of_refused (number_of r)
+abbrev pub figures_in : Result Ends Refusal → ℕ → List ℕ → List ℕ
+figures_in (accepted_with k edges) characters cells = of_cut characters (reasons_in (take k cells)) edges
+figures_in (Err r) characters cells = of_refused (number_of r)
 
 -- the cells of the tokens are there, each with a reason; a refusal is a text's
-pub record Countable (told : CutAnswer) (cells : List ℕ) : Type 0 where
-  pub cut : (k edges : ℕ) → told ≡ Ends k edges → (k ≤ length cells) × Reasons (reasons_in (take k cells))
-  pub refused : (r : Refusal) → told ≡ Refused r → (1 ≤ number_of r) × (number_of r ≤ 6)
+pub record Countable (told : Result Ends Refusal) (cells : List ℕ) : Type 0 where
+  pub cut : (k edges : ℕ) → told ≡ accepted_with k edges → (k ≤ length cells) × Reasons (reasons_in (take k cells))
+  pub refused : (r : Refusal) → told ≡ Err r → (1 ≤ number_of r) × (number_of r ≤ 6)

@@ -11,5 +11,5 @@ slice_bounds-read_image-end c = sym (c.fresh.auto.pool ∙ length-replicate {0} 
 pub slice_bounds-front-end : goal.slice_bounds-front-end
 slice_bounds-front-end c = sym (c.read_all-got.auto.image ∙ length-replicate {0} {A = ℕ} 524288 0)
 
-pub slice_bounds-front-end-in-Accepted : goal.slice_bounds-front-end-in-Accepted
-slice_bounds-front-end-in-Accepted c = sym (c.read_all-got.auto.image ∙ length-replicate {0} {A = ℕ} 524288 0)
+pub slice_bounds-front-end-in-Ok : goal.slice_bounds-front-end-in-Ok
+slice_bounds-front-end-in-Ok c = sym (c.read_all-got.auto.image ∙ length-replicate {0} {A = ℕ} 524288 0)

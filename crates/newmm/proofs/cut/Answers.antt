@@ -14,7 +14,7 @@ slice_bounds-cut_checked-end c = sym (long c.args.pool.now c.capacity-cells.resu
 
 pub cut_checked-requires : goal.cut_checked-requires
 cut_checked-requires c =
-    let passed : Passes c.args.text.now (meaning c.args.pool.now) (length c.args.scratch.now) = passes c.args.text.now _ _ c.check_cut-checked.ensures c.in-Accepted.is in
+    let passed : Passes c.args.text.now (meaning c.args.pool.now) (length c.args.scratch.now) = passes c.args.text.now _ _ c.check_cut-checked.ensures c.in-Ok.is in
     let viewed : Viewed (meaning c.args.pool.now) (take (8 * c.capacity-cells.result) c.args.pool.now) = plain_view _ _ c.capacity-cells.ensures (known (passed)) in
     sees (viewed) (passed)
 
@@ -23,9 +23,9 @@ returns-in-Refused c =
     early_cuts c.args.mode c.args.text.now (meaning c.args.pool.now) c.args.scratch.now
     c.check_cut-checked.ensures c.args.out.now c.in-Refused.is
 
-pub returns-in-Accepted : goal.returns-in-Accepted
-returns-in-Accepted c =
-    let passed : Passes c.args.text.now (meaning c.args.pool.now) (length c.args.scratch.now) = passes c.args.text.now _ _ c.check_cut-checked.ensures c.in-Accepted.is in
+pub returns-in-Ok : goal.returns-in-Ok
+returns-in-Ok c =
+    let passed : Passes c.args.text.now (meaning c.args.pool.now) (length c.args.scratch.now) = passes c.args.text.now _ _ c.check_cut-checked.ensures c.in-Ok.is in
     let viewed : Viewed (meaning c.args.pool.now) (take (8 * c.capacity-cells.result) c.args.pool.now) = plain_view _ _ c.capacity-cells.ensures (known (passed)) in
     by_view (viewed) c.args.text.now c.args.out.now c.args.scratch.now c.args.mode
     c.cut_checked.ensures

@@ -7,14 +7,14 @@ pub returns-in_default : goal.returns-in_default
 returns-in_default c = refused_early c.args.text.now (meaning c.args.pool.now) c.args.cells c.check-checked.ensures c.in_default.is
 
 pub scratch_for-needed-requires : goal.scratch_for-needed-requires
-scratch_for-needed-requires c = omega (arith, short c.args.text.now (meaning c.args.pool.now) 0 c.check-checked.ensures c.in-Accepted.is)
+scratch_for-needed-requires c = omega (arith, short c.args.text.now (meaning c.args.pool.now) 0 c.check-checked.ensures c.in-Ok.is)
 
 pub returns-then-cells-needed : goal.returns-then-cells-needed
 returns-then-cells-needed c =
     refused_scratch c.args.text.now (meaning c.args.pool.now) c.args.cells c.check-checked.ensures
-    c.in-Accepted.is c.scratch_for-needed.ensures c.if-cells-needed.true
+    c.in-Ok.is c.scratch_for-needed.ensures c.if-cells-needed.true
 
 pub returns : goal.returns
 returns c =
     accepted_early c.args.text.now (meaning c.args.pool.now) c.args.cells c.check-checked.ensures
-    c.in-Accepted.is c.scratch_for-needed.ensures c.if-cells-needed.false
+    c.in-Ok.is c.scratch_for-needed.ensures c.if-cells-needed.false

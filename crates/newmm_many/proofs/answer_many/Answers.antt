@@ -21,7 +21,7 @@ slice_bounds-answer_texts-end c = sym (long c.args.pool.now c.capacity-cells.res
 pub answer_texts-requires : goal.answer_texts-requires
 answer_texts-requires c = (
   whole_of (length c.args.texts.now) c.args.text_ends.now (length c.args.answers.now)
-      (length c.args.text_ends.now) (sym c.check_many-checked.ensures ∙ c.in-Accepted.is),
+      (length c.args.text_ends.now) (sym c.check_many-checked.ensures ∙ c.in-Ok.is),
   λ e. readable
       c.args.pool.now c.capacity-cells.result c.capacity-cells.ensures (sym c.is_dictionary-known.ensures ∙ e),
 )
@@ -32,4 +32,4 @@ returns c =
     (many_call c.args.texts.now c.args.text_ends.now c.args.pool.now c.args.answers.now
     c.args.out.now c.args.scratch.now c.args.mode)
     (seen_pool c.args.pool.now c.capacity-cells.result c.capacity-cells.ensures c.is_dictionary-known.result
-    c.is_dictionary-known.ensures) c.check_many-checked.ensures c.in-Accepted.is c.answer_texts.ensures
+    c.is_dictionary-known.ensures) c.check_many-checked.ensures c.in-Ok.is c.answer_texts.ensures

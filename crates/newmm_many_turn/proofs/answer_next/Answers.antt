@@ -13,7 +13,7 @@ blank_all-requires c = c.requires.1
 
 pub answer_ready-told-requires : goal.answer_ready-told-requires
 answer_ready-told-requires c =
-    let passed : Passes c.args.text.now (seen_as c.args.known c.args.view.now) (length c.args.scratch.now) = passes _ _ _ (as_seen c.args.text.now c.args.view.now c.args.known (length c.args.scratch.now) (length c.args.text.now) c.check_known-checked.ensures) c.in-Accepted.is in
+    let passed : Passes c.args.text.now (seen_as c.args.known c.args.view.now) (length c.args.scratch.now) = passes _ _ _ (as_seen c.args.text.now c.args.view.now c.args.known (length c.args.scratch.now) (length c.args.text.now) c.check_known-checked.ensures) c.in-Ok.is in
     let viewed : Viewed (seen_as c.args.known c.args.view.now) c.args.view.now = seen_view c.args.known c.args.view.now c.requires.0 (known passed) in
     let seen : Sees c.args.text.now c.args.view.now (length c.args.scratch.now) = sees viewed passed in (
       still_sees c.args.scratch.now c.blank_all.ensures seen,
@@ -31,9 +31,9 @@ returns-in-Refused c =
       blank = c.requires.1;
     }
 
-pub returns-in-Accepted : goal.returns-in-Accepted
-returns-in-Accepted c =
-    let passed : Passes c.args.text.now (seen_as c.args.known c.args.view.now) (length c.args.scratch.now) = passes _ _ _ (as_seen c.args.text.now c.args.view.now c.args.known (length c.args.scratch.now) (length c.args.text.now) c.check_known-checked.ensures) c.in-Accepted.is in let viewed : Viewed (seen_as c.args.known c.args.view.now) c.args.view.now = seen_view c.args.known c.args.view.now c.requires.0 (known passed) in let seen : Sees c.args.text.now c.args.view.now (length c.args.scratch.now) = sees viewed passed in record {
+pub returns-in-Ok : goal.returns-in-Ok
+returns-in-Ok c =
+    let passed : Passes c.args.text.now (seen_as c.args.known c.args.view.now) (length c.args.scratch.now) = passes _ _ _ (as_seen c.args.text.now c.args.view.now c.args.known (length c.args.scratch.now) (length c.args.text.now) c.check_known-checked.ensures) c.in-Ok.is in let viewed : Viewed (seen_as c.args.known c.args.view.now) c.args.view.now = seen_view c.args.known c.args.view.now c.requires.0 (known passed) in let seen : Sees c.args.text.now c.args.view.now (length c.args.scratch.now) = sees viewed passed in record {
       single_is = single_by_view c.args.wanted c.args.mode c.args.text.now c.args.out.now viewed
           c.args.scratch.now
           (cleared_single c.args.wanted c.args.mode c.args.out.now c.args.scratch.now

@@ -5,7 +5,7 @@ use Rattle.newmm_rules.specs.Cutting.{Cut, cut}
 use Rattle.newmm_bfs.specs.inner.Strips.{Sized, Start, cells_for, edge_cell, first_of, count_of, candidate_of, flags_in}
 use Rattle.tcc.specs.Flags.{end_flags}
 use Rattle.trie_pool.specs.inner.Sound.{Readable}
-use Rattle.newmm_one_cut.specs.declared.Ends.{Ends}
+use Rattle.newmm_rules.specs.declared.Ends.{Ends}
 
 -- the first candidate above b, or m
 pub record NextIs (row : List ℕ) (m b r : ℕ) : Type 0 where

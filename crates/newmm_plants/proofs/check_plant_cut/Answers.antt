@@ -13,15 +13,15 @@ scratch_for-needed-requires c =
     omega (
       arith,
       short c.args.text.now (plant_meaning c.args.plant c.args.pool.now) 0
-          c.check_plant-checked.ensures c.in-Accepted.is,
+          c.check_plant-checked.ensures c.in-Ok.is,
     )
 
 pub returns-then-cells-needed : goal.returns-then-cells-needed
 returns-then-cells-needed c =
     refused_scratch c.args.text.now (plant_meaning c.args.plant c.args.pool.now) c.args.cells
-    c.check_plant-checked.ensures c.in-Accepted.is c.scratch_for-needed.ensures c.if-cells-needed.true
+    c.check_plant-checked.ensures c.in-Ok.is c.scratch_for-needed.ensures c.if-cells-needed.true
 
 pub returns : goal.returns
 returns c =
     accepted_early c.args.text.now (plant_meaning c.args.plant c.args.pool.now) c.args.cells
-    c.check_plant-checked.ensures c.in-Accepted.is c.scratch_for-needed.ensures c.if-cells-needed.false
+    c.check_plant-checked.ensures c.in-Ok.is c.scratch_for-needed.ensures c.if-cells-needed.false

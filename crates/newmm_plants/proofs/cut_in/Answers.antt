@@ -15,19 +15,19 @@ offset_bounds-pool-a c = omega (arith, c.half_at-a.ensures, half_low c.args.plan
 
 pub slice_bounds-cut_checked-count : goal.slice_bounds-cut_checked-count
 slice_bounds-cut_checked-count c =
-    let passed : Passes c.args.text.now (plant_meaning c.args.plant c.args.pool.now) (length c.args.scratch.now) = passes c.args.text.now _ _ c.check_plant_cut-checked.ensures c.in-Accepted.is in
+    let passed : Passes c.args.text.now (plant_meaning c.args.plant c.args.pool.now) (length c.args.scratch.now) = passes c.args.text.now _ _ c.check_plant_cut-checked.ensures c.in-Ok.is in
     let starts : c.half_at-a.result ≤ 8 * c.capacity-cells.result = view_from _ _ _ c.capacity-cells.ensures _ c.half_at-a.ensures (known passed) in
     omega (arith, starts)
 
 pub slice_bounds-cut_checked-start : goal.slice_bounds-cut_checked-start
 slice_bounds-cut_checked-start c =
-    let passed : Passes c.args.text.now (plant_meaning c.args.plant c.args.pool.now) (length c.args.scratch.now) = passes c.args.text.now _ _ c.check_plant_cut-checked.ensures c.in-Accepted.is in
+    let passed : Passes c.args.text.now (plant_meaning c.args.plant c.args.pool.now) (length c.args.scratch.now) = passes c.args.text.now _ _ c.check_plant_cut-checked.ensures c.in-Ok.is in
     let starts : c.half_at-a.result ≤ 8 * c.capacity-cells.result = view_from _ _ _ c.capacity-cells.ensures _ c.half_at-a.ensures (known passed) in
     omega (arith, starts)
 
 pub cut_checked-requires : goal.cut_checked-requires
 cut_checked-requires c =
-    let passed : Passes c.args.text.now (plant_meaning c.args.plant c.args.pool.now) (length c.args.scratch.now) = passes c.args.text.now _ _ c.check_plant_cut-checked.ensures c.in-Accepted.is in
+    let passed : Passes c.args.text.now (plant_meaning c.args.plant c.args.pool.now) (length c.args.scratch.now) = passes c.args.text.now _ _ c.check_plant_cut-checked.ensures c.in-Ok.is in
     let viewed : Viewed (plant_meaning c.args.plant c.args.pool.now) (take (8 * c.capacity-cells.result - c.half_at-a.result) (drop c.half_at-a.result c.args.pool.now)) = plant_view _ _ _ c.capacity-cells.ensures _ c.half_at-a.ensures (known passed) in
     sees viewed passed
 
@@ -36,9 +36,9 @@ returns-in-Refused c =
     early_cuts c.args.mode c.args.text.now (plant_meaning c.args.plant c.args.pool.now)
     c.args.scratch.now c.check_plant_cut-checked.ensures c.args.out.now c.in-Refused.is
 
-pub returns-in-Accepted : goal.returns-in-Accepted
-returns-in-Accepted c =
-    let passed : Passes c.args.text.now (plant_meaning c.args.plant c.args.pool.now) (length c.args.scratch.now) = passes c.args.text.now _ _ c.check_plant_cut-checked.ensures c.in-Accepted.is in
+pub returns-in-Ok : goal.returns-in-Ok
+returns-in-Ok c =
+    let passed : Passes c.args.text.now (plant_meaning c.args.plant c.args.pool.now) (length c.args.scratch.now) = passes c.args.text.now _ _ c.check_plant_cut-checked.ensures c.in-Ok.is in
     let viewed : Viewed (plant_meaning c.args.plant c.args.pool.now) (take (8 * c.capacity-cells.result - c.half_at-a.result) (drop c.half_at-a.result c.args.pool.now)) = plant_view _ _ _ c.capacity-cells.ensures _ c.half_at-a.ensures (known passed) in
     by_view viewed c.args.text.now c.args.out.now c.args.scratch.now c.args.mode
     c.cut_checked.ensures

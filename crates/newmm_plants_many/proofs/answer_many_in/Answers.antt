@@ -17,7 +17,7 @@ returns-in_default c =
 pub answer_texts-requires : goal.answer_texts-requires
 answer_texts-requires c = (
   whole_of (length c.args.texts.now) c.args.text_ends.now (length c.args.answers.now)
-      (length c.args.text_ends.now) (sym c.check_many-checked.ensures ∙ c.in-Accepted.is),
+      (length c.args.text_ends.now) (sym c.check_many-checked.ensures ∙ c.in-Ok.is),
   λ e. readable_plant
       c.args.plant c.args.pool.now c.capacity-cells.result c.capacity-cells.ensures c.view_from-a.result
       c.view_from-a.ensures (sym c.is_plants-known.ensures ∙ e),
@@ -30,4 +30,4 @@ returns c =
     c.args.out.now c.args.scratch.now c.args.mode)
     (seen_plant c.args.plant c.args.pool.now c.capacity-cells.result c.capacity-cells.ensures
     c.view_from-a.result c.view_from-a.ensures c.is_plants-known.result c.is_plants-known.ensures)
-    c.check_many-checked.ensures c.in-Accepted.is c.answer_texts.ensures
+    c.check_many-checked.ensures c.in-Ok.is c.answer_texts.ensures

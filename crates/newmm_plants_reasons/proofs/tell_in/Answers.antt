@@ -15,19 +15,19 @@ offset_bounds-pool-a c = omega (arith, c.half_at-a.ensures, half_low c.args.plan
 
 pub slice_bounds-tell_checked-count : goal.slice_bounds-tell_checked-count
 slice_bounds-tell_checked-count c =
-    let passed : Passes c.args.text.now (plant_meaning c.args.plant c.args.pool.now) (length c.args.scratch.now) = passes c.args.text.now _ _ c.check_plant_cut-checked.ensures c.in-Accepted.is in
+    let passed : Passes c.args.text.now (plant_meaning c.args.plant c.args.pool.now) (length c.args.scratch.now) = passes c.args.text.now _ _ c.check_plant_cut-checked.ensures c.in-Ok.is in
     let starts : c.half_at-a.result ≤ 8 * c.capacity-cells.result = view_from _ _ _ c.capacity-cells.ensures _ c.half_at-a.ensures (known passed) in
     omega (arith, starts)
 
 pub slice_bounds-tell_checked-start : goal.slice_bounds-tell_checked-start
 slice_bounds-tell_checked-start c =
-    let passed : Passes c.args.text.now (plant_meaning c.args.plant c.args.pool.now) (length c.args.scratch.now) = passes c.args.text.now _ _ c.check_plant_cut-checked.ensures c.in-Accepted.is in
+    let passed : Passes c.args.text.now (plant_meaning c.args.plant c.args.pool.now) (length c.args.scratch.now) = passes c.args.text.now _ _ c.check_plant_cut-checked.ensures c.in-Ok.is in
     let starts : c.half_at-a.result ≤ 8 * c.capacity-cells.result = view_from _ _ _ c.capacity-cells.ensures _ c.half_at-a.ensures (known passed) in
     omega (arith, starts)
 
 pub tell_checked-requires : goal.tell_checked-requires
 tell_checked-requires c =
-    let passed : Passes c.args.text.now (plant_meaning c.args.plant c.args.pool.now) (length c.args.scratch.now) = passes c.args.text.now _ _ c.check_plant_cut-checked.ensures c.in-Accepted.is in
+    let passed : Passes c.args.text.now (plant_meaning c.args.plant c.args.pool.now) (length c.args.scratch.now) = passes c.args.text.now _ _ c.check_plant_cut-checked.ensures c.in-Ok.is in
     let viewed : Viewed (plant_meaning c.args.plant c.args.pool.now) (take (8 * c.capacity-cells.result - c.half_at-a.result) (drop c.half_at-a.result c.args.pool.now)) = plant_view _ _ _ c.capacity-cells.ensures _ c.half_at-a.ensures (known passed) in
     sees viewed passed
 
@@ -36,9 +36,9 @@ returns-in-Refused c =
     early_tells c.args.mode c.args.text.now (plant_meaning c.args.plant c.args.pool.now)
     c.args.scratch.now c.args.room c.check_plant_cut-checked.ensures c.in-Refused.is
 
-pub returns-in-Accepted : goal.returns-in-Accepted
-returns-in-Accepted c =
-    let passed : Passes c.args.text.now (plant_meaning c.args.plant c.args.pool.now) (length c.args.scratch.now) = passes c.args.text.now _ _ c.check_plant_cut-checked.ensures c.in-Accepted.is in
+pub returns-in-Ok : goal.returns-in-Ok
+returns-in-Ok c =
+    let passed : Passes c.args.text.now (plant_meaning c.args.plant c.args.pool.now) (length c.args.scratch.now) = passes c.args.text.now _ _ c.check_plant_cut-checked.ensures c.in-Ok.is in
     let viewed : Viewed (plant_meaning c.args.plant c.args.pool.now) (take (8 * c.capacity-cells.result - c.half_at-a.result) (drop c.half_at-a.result c.args.pool.now)) = plant_view _ _ _ c.capacity-cells.ensures _ c.half_at-a.ensures (known passed) in
     told_by_view viewed c.args.text.now c.args.scratch.now c.args.room c.args.mode
     c.tell_checked.ensures

@@ -1,6 +1,8 @@
 -- What is told of a token, in one cell of scratch.
-use Rattle.std.specs.Prelude.{ℕ, ◌+◌, ◌*◌, ◌/◌, ◌%◌, ◌≡◌, List, [], ◌∷◌, map, length}
+use Rattle.std.specs.Prelude.{ℕ, ◌+◌, ◌*◌, ◌/◌, ◌%◌, ◌≡◌, List, [], ◌∷◌, map, length, Result}
 use Rattle.std.proofs.Math.Option.{Option}
+use Rattle.newmm_rules.specs.declared.Ends.{Ends}
+use Rattle.refusal.specs.declared.Refusal.{Refusal}
 use Rattle.refusal.specs.Answers.{output}
 use Rattle.trie_pool.specs.Meaning.{Words}
 use Rattle.trie_check.specs.Refusals.{held}
@@ -8,7 +10,6 @@ use Rattle.newmm_rules.specs.Cutting.{Cut}
 use Rattle.newmm_rules.specs.declared.Mode.{Mode}
 use Rattle.newmm_rules.specs.Modes.{in_parts}
 use Rattle.newmm_reason_rules.specs.Reasons.{Told}
-use Rattle.newmm_answers.specs.declared.CutAnswer.{CutAnswer}
 use Rattle.newmm_answers.specs.Answers.{plain_cut, cut_of, accepts, cut_answer, scratch_after}
 use Rattle.newmm_reasons_answers.specs.Told.{parts_by, told_part, told_parts, told_of}
 
@@ -45,7 +46,7 @@ text_cells mode words text = record { ends = cells_of (told_of mode words text);
 -- What a call with room for so many records is answered, and what it leaves in scratch, the pool
 -- having this meaning: the cells of an accepted call stand at the front, and the rest is as a cut
 -- leaves it.
-abbrev pub Tells : (text : List ℕ) → Option Words → (scratch : List ℕ) → ℕ → Mode → CutAnswer → List ℕ → Type 0
+abbrev pub Tells : (text : List ℕ) → Option Words → (scratch : List ℕ) → ℕ → Mode → Result Ends Refusal → List ℕ → Type 0
 Tells text m scratch room mode answer after =
     (answer ≡ cut_answer mode text m (length scratch) room)
     × (after ≡

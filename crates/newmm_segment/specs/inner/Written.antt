@@ -3,7 +3,7 @@ use Rattle.std.specs.Prelude.{ℕ, ◌+◌, ◌*◌, ◌≤◌, ◌≡◌, List,
 use Rattle.char_string_last_space.specs.Spaces.{last_space}
 use Rattle.trie_pool.specs.inner.Sound.{Readable}
 use Rattle.newmm_rules.specs.Cutting.{Cut}
-use Rattle.newmm_one_cut.specs.declared.Ends.{Ends}
+use Rattle.newmm_rules.specs.declared.Ends.{Ends}
 use Rattle.newmm_rules.specs.inner.Climbing.{Climbs}
 use Rattle.newmm_rules.specs.Parts.{Cutter, sample_of, cut_at, sampled}
 use Rattle.newmm_rules.specs.Modes.{shifted, edges_of}

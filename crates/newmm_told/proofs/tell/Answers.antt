@@ -14,7 +14,7 @@ slice_bounds-tell_checked-end c = sym (long c.args.pool.now c.capacity-cells.res
 
 pub tell_checked-requires : goal.tell_checked-requires
 tell_checked-requires c =
-    let passed : Passes c.args.text.now (meaning c.args.pool.now) (length c.args.scratch.now) = passes c.args.text.now _ _ c.check_cut-checked.ensures c.in-Accepted.is in
+    let passed : Passes c.args.text.now (meaning c.args.pool.now) (length c.args.scratch.now) = passes c.args.text.now _ _ c.check_cut-checked.ensures c.in-Ok.is in
     let viewed : Viewed (meaning c.args.pool.now) (take (8 * c.capacity-cells.result) c.args.pool.now) = plain_view _ _ c.capacity-cells.ensures (known passed) in
     sees viewed passed
 
@@ -23,9 +23,9 @@ returns-in-Refused c =
     early_tells c.args.mode c.args.text.now (meaning c.args.pool.now) c.args.scratch.now
     c.args.room c.check_cut-checked.ensures c.in-Refused.is
 
-pub returns-in-Accepted : goal.returns-in-Accepted
-returns-in-Accepted c =
-    let passed : Passes c.args.text.now (meaning c.args.pool.now) (length c.args.scratch.now) = passes c.args.text.now _ _ c.check_cut-checked.ensures c.in-Accepted.is in
+pub returns-in-Ok : goal.returns-in-Ok
+returns-in-Ok c =
+    let passed : Passes c.args.text.now (meaning c.args.pool.now) (length c.args.scratch.now) = passes c.args.text.now _ _ c.check_cut-checked.ensures c.in-Ok.is in
     let viewed : Viewed (meaning c.args.pool.now) (take (8 * c.capacity-cells.result) c.args.pool.now) = plain_view _ _ c.capacity-cells.ensures (known passed) in
     told_by_view viewed c.args.text.now c.args.scratch.now c.args.room c.args.mode
     c.tell_checked.ensures

@@ -5,12 +5,12 @@ use Rattle.release_lines.proofs.count_text.Goals as goal
 pub slice_bounds-feed-end : goal.slice_bounds-feed-end
 slice_bounds-feed-end c =
     lent_fits c.args.text.now c.args.scalars.now c.args.positions.now (c.decode-decoded.ensures.value, (c.decode-decoded.ensures.out_after, c.decode-decoded.ensures.positions_after))
-    c.in-Accepted.is
+    c.in-Ok.is
 
-pub slice_bounds-feed-end-in-Accepted : goal.slice_bounds-feed-end-in-Accepted
-slice_bounds-feed-end-in-Accepted c =
+pub slice_bounds-feed-end-in-Ok : goal.slice_bounds-feed-end-in-Ok
+slice_bounds-feed-end-in-Ok c =
     lent_size c.args.text.now c.args.scalars.now c.args.positions.now (c.decode-decoded.ensures.value, (c.decode-decoded.ensures.out_after, c.decode-decoded.ensures.positions_after))
-    c.in-Accepted.is
+    c.in-Ok.is
 
 pub returns-in-Refused : goal.returns-in-Refused
 returns-in-Refused c =
@@ -25,14 +25,14 @@ returns-in-Refused c =
           c.feed_refused.ensures.1;
     }
 
-pub returns-in-Accepted : goal.returns-in-Accepted
-returns-in-Accepted c =
+pub returns-in-Ok : goal.returns-in-Ok
+returns-in-Ok c =
     record {
       value = full_once_fed c.args.text.now c.args.scalars.now c.args.positions.now (c.decode-decoded.ensures.value, (c.decode-decoded.ensures.out_after, c.decode-decoded.ensures.positions_after))
           c.args.figures.now c.args.pool.now c.args.pairs.now c.args.scratch.now
-          c.args.mode c.in-Accepted.is c.feed.ensures.0 c.is_fed_full.ensures;
+          c.args.mode c.in-Ok.is c.feed.ensures.0 c.is_fed_full.ensures;
       figures_after = fed_figures
           c.args.text.now c.args.scalars.now c.args.positions.now (c.decode-decoded.ensures.value, (c.decode-decoded.ensures.out_after, c.decode-decoded.ensures.positions_after))
           c.args.figures.now c.args.pool.now c.args.pairs.now c.args.scratch.now
-          c.args.mode c.in-Accepted.is c.feed.ensures.1.0;
+          c.args.mode c.in-Ok.is c.feed.ensures.1.0;
     }

@@ -12,12 +12,12 @@ use Rattle.sheet_replies.proofs.cut.Goals as goal
 pub slice_bounds-cut-end : goal.slice_bounds-cut-end
 slice_bounds-cut-end c =
     lent_fits c.args.text.now c.args.scalars.now c.args.positions.now (c.decode-decoded.ensures.value, (c.decode-decoded.ensures.out_after, c.decode-decoded.ensures.positions_after))
-    c.in-Accepted.is
+    c.in-Ok.is
 
-pub slice_bounds-cut-end-in-Accepted : goal.slice_bounds-cut-end-in-Accepted
-slice_bounds-cut-end-in-Accepted c =
+pub slice_bounds-cut-end-in-Ok : goal.slice_bounds-cut-end-in-Ok
+slice_bounds-cut-end-in-Ok c =
     lent_size c.args.text.now c.args.scalars.now c.args.positions.now (c.decode-decoded.ensures.value, (c.decode-decoded.ensures.out_after, c.decode-decoded.ensures.positions_after))
-    c.in-Accepted.is
+    c.in-Ok.is
 
 pub returns-in-Refused : goal.returns-in-Refused
 returns-in-Refused c =
@@ -42,24 +42,24 @@ returns-in-Refused c =
           (length c.args.scratch.now)) 0) c.args.scratch.now;
     }
 
-pub returns-in-Accepted : goal.returns-in-Accepted
-returns-in-Accepted c =
+pub returns-in-Ok : goal.returns-in-Ok
+returns-in-Ok c =
     record {
       value = ended_text c.args.text.now c.args.scalars.now c.args.positions.now (c.decode-decoded.ensures.value, (c.decode-decoded.ensures.out_after, c.decode-decoded.ensures.positions_after))
-          c.in-Accepted.is c.args.mode c.args.pool.now (length c.args.scratch.now)
+          c.in-Ok.is c.args.mode c.args.pool.now (length c.args.scratch.now)
           (length c.args.ends.now) c.cut.ensures.0 c.ended.ensures;
       scalars_after = (decoded_are c.args.text.now c.args.scalars.now c.args.positions.now
           (c.decode-decoded.ensures.value, (c.decode-decoded.ensures.out_after, c.decode-decoded.ensures.positions_after))).0;
       positions_after = (decoded_are c.args.text.now c.args.scalars.now c.args.positions.now
           (c.decode-decoded.ensures.value, (c.decode-decoded.ensures.out_after, c.decode-decoded.ensures.positions_after))).1;
       ends_after = out_text c.args.text.now c.args.scalars.now c.args.positions.now (c.decode-decoded.ensures.value, (c.decode-decoded.ensures.out_after, c.decode-decoded.ensures.positions_after))
-          c.in-Accepted.is
+          c.in-Ok.is
           (λ (w : List ℕ). accepts c.args.mode w (meaning c.args.pool.now) (length c.args.scratch.now)
           (length c.args.ends.now))
           (λ (w : List ℕ). (cut_of c.args.mode (held (meaning c.args.pool.now)) w).ends) c.args.ends.now
           c.cut.ensures.1.0;
       scratch_after = clear_text c.args.text.now c.args.scalars.now c.args.positions.now
-          (c.decode-decoded.ensures.value, (c.decode-decoded.ensures.out_after, c.decode-decoded.ensures.positions_after)) c.in-Accepted.is
+          (c.decode-decoded.ensures.value, (c.decode-decoded.ensures.out_after, c.decode-decoded.ensures.positions_after)) c.in-Ok.is
           (λ (w : List ℕ). answer (first_causes w (meaning c.args.pool.now) (length c.args.scratch.now)) 0)
           c.args.scratch.now c.cut.ensures.1.1;
     }

@@ -8,12 +8,12 @@ use Rattle.sheet_replies.proofs.remove.Goals as goal
 pub slice_bounds-remove-end : goal.slice_bounds-remove-end
 slice_bounds-remove-end c =
     lent_fits c.args.text.now c.args.scalars.now c.args.positions.now (c.decode-decoded.ensures.value, (c.decode-decoded.ensures.out_after, c.decode-decoded.ensures.positions_after))
-    c.in-Accepted.is
+    c.in-Ok.is
 
-pub slice_bounds-remove-end-in-Accepted : goal.slice_bounds-remove-end-in-Accepted
-slice_bounds-remove-end-in-Accepted c =
+pub slice_bounds-remove-end-in-Ok : goal.slice_bounds-remove-end-in-Ok
+slice_bounds-remove-end-in-Ok c =
     lent_size c.args.text.now c.args.scalars.now c.args.positions.now (c.decode-decoded.ensures.value, (c.decode-decoded.ensures.out_after, c.decode-decoded.ensures.positions_after))
-    c.in-Accepted.is
+    c.in-Ok.is
 
 pub returns-in-Refused : goal.returns-in-Refused
 returns-in-Refused c =
@@ -28,15 +28,15 @@ returns-in-Refused c =
       positions_after = both.1;
     }
 
-pub returns-in-Accepted : goal.returns-in-Accepted
-returns-in-Accepted c =
+pub returns-in-Ok : goal.returns-in-Ok
+returns-in-Ok c =
     let both = decoded_are c.args.text.now c.args.scalars.now
     c.args.positions.now (c.decode-decoded.ensures.value, (c.decode-decoded.ensures.out_after, c.decode-decoded.ensures.positions_after)) in record {
       value = reported_text c.args.text.now c.args.scalars.now c.args.positions.now
-          (c.decode-decoded.ensures.value, (c.decode-decoded.ensures.out_after, c.decode-decoded.ensures.positions_after)) c.in-Accepted.is (λ (w : List ℕ). remove_answer w c.args.pool.now)
+          (c.decode-decoded.ensures.value, (c.decode-decoded.ensures.out_after, c.decode-decoded.ensures.positions_after)) c.in-Ok.is (λ (w : List ℕ). remove_answer w c.args.pool.now)
           c.remove.ensures.value c.reported.ensures;
       after = pool_text c.args.text.now c.args.scalars.now c.args.positions.now (c.decode-decoded.ensures.value, (c.decode-decoded.ensures.out_after, c.decode-decoded.ensures.positions_after))
-          c.in-Accepted.is (λ (w : List ℕ). remove_answer w c.args.pool.now)
+          c.in-Ok.is (λ (w : List ℕ). remove_answer w c.args.pool.now)
           (λ (w : List ℕ). removed w c.args.pool.now) c.args.pool.now c.remove.new.pool
           c.remove.ensures.value c.remove.ensures.after;
       scalars_after = both.0;

@@ -11,10 +11,10 @@ returns-in_default c = record { value = refused c.args.text.now (length c.args.o
 
 pub put_ends-requires : goal.put_ends-requires
 put_ends-requires c = (
-  (right c.args.text.now (sym c.check_text-checked.ensures ∙ c.in-Accepted.is)).small,
+  (right c.args.text.now (sym c.check_text-checked.ensures ∙ c.in-Ok.is)).small,
   omega (
     arith,
-    (right c.args.text.now (sym c.check_text-checked.ensures ∙ c.in-Accepted.is)).whole,
+    (right c.args.text.now (sym c.check_text-checked.ensures ∙ c.in-Ok.is)).whole,
     few
         c.args.text.now,
     c.if-n-out.true,
@@ -25,12 +25,12 @@ pub returns-then-n-out : goal.returns-then-n-out
 returns-then-n-out c =
     record {
       value = fitting c.args.text.now (length c.args.out.now)
-          (sym c.check_text-checked.ensures ∙ c.in-Accepted.is) c.put_ends.ensures.value
+          (sym c.check_text-checked.ensures ∙ c.in-Ok.is) c.put_ends.ensures.value
           (omega (
             arith,
             c.put_ends.ensures.value,
             (right c.args.text.now
-                (sym c.check_text-checked.ensures ∙ c.in-Accepted.is)).whole,
+                (sym c.check_text-checked.ensures ∙ c.in-Ok.is)).whole,
             few c.args.text.now,
             c.if-n-out.true,
           ));
@@ -40,14 +40,14 @@ returns-then-n-out c =
 pub returns-then-out-needed : goal.returns-then-out-needed
 returns-then-out-needed c =
     record {
-      value = short c.args.text.now (length c.args.out.now) (sym c.check_text-checked.ensures ∙ c.in-Accepted.is)
+      value = short c.args.text.now (length c.args.out.now) (sym c.check_text-checked.ensures ∙ c.in-Ok.is)
           c.count_ends-needed.ensures c.if-out-needed.true;
       out_after = refl;
     }
 
 pub put_ends-requires-2 : goal.put_ends-requires-2
 put_ends-requires-2 c = (
-  (right c.args.text.now (sym c.check_text-checked.ensures ∙ c.in-Accepted.is)).small,
+  (right c.args.text.now (sym c.check_text-checked.ensures ∙ c.in-Ok.is)).small,
   omega
       (arith, c.count_ends-needed.ensures, c.if-out-needed.false),
 )
@@ -56,7 +56,7 @@ pub returns : goal.returns
 returns c =
     record {
       value = fitting c.args.text.now (length c.args.out.now)
-          (sym c.check_text-checked.ensures ∙ c.in-Accepted.is) c.put_ends-2.ensures.value
+          (sym c.check_text-checked.ensures ∙ c.in-Ok.is) c.put_ends-2.ensures.value
           (omega (arith, c.put_ends-2.ensures.value, c.count_ends-needed.ensures, c.if-out-needed.false));
       out_after = c.put_ends-2.ensures.out_after;
     }

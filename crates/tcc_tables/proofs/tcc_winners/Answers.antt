@@ -17,7 +17,7 @@ returns-in_default c = (
 -- THE TABLES' RULE, computed: read back, they are the alternatives.
 pub told_by-requires : goal.told_by-requires
 unfolding part ungrouped tried_at
-told_by-requires c = record { tables = record { right = refl; tried = refl; classed = record { many = refl; all = tt }; ends = refl; rising = tt }; text_value = passed c.args.text.now c.check_text-checked.ensures c.in-Accepted.is }
+told_by-requires c = record { tables = record { right = refl; tried = refl; classed = record { many = refl; all = tt }; ends = refl; rising = tt }; text_value = passed c.args.text.now c.check_text-checked.ensures c.in-Ok.is }
 
 pub returns : goal.returns
 returns c = c.told_by.ensures

@@ -24,7 +24,7 @@ slice_bounds-mark_of-end-2 c = sym (long c.args.pool.now _ c.capacity-cells.ensu
 pub mark_of-requires : goal.mark_of-requires
 mark_of-requires c =
     readable c.args.pool.now _ c.capacity-cells.ensures
-    (known c.args.pool.now c.args.word.now c.check_word-checked.ensures c.in-Accepted.is _
+    (known c.args.pool.now c.args.word.now c.check_word-checked.ensures c.in-Ok.is _
     c.capacity-cells.ensures _ c.trimmed-w.ensures.result_value)
 
 pub shape_of-pool-then-mark_of-eq0 : goal.shape_of-pool-then-mark_of-eq0
@@ -32,7 +32,7 @@ shape_of-pool-then-mark_of-eq0 c = refl
 
 pub returns-then-mark_of-eq0 : goal.returns-then-mark_of-eq0
 returns-then-mark_of-eq0 c =
-    let both = remove_absent c.args.pool.now c.args.word.now c.check_word-checked.ensures c.in-Accepted.is _
+    let both = remove_absent c.args.pool.now c.args.word.now c.check_word-checked.ensures c.in-Ok.is _
     c.capacity-cells.ensures _ c.trimmed-w.ensures.result_value _ c.mark_of.ensures c.if-mark_of-eq0.true in record { value = both.0; after = both.1 }
 
 pub slice_bounds-remove_word-end : goal.slice_bounds-remove_word-end
@@ -43,11 +43,11 @@ slice_bounds-remove_word-end-2 c = sym (long c.args.pool.now _ c.capacity-cells.
 
 pub remove_word-requires : goal.remove_word-requires
 remove_word-requires c =
-    removes c.args.pool.now c.args.word.now c.check_word-checked.ensures c.in-Accepted.is _
+    removes c.args.pool.now c.args.word.now c.check_word-checked.ensures c.in-Ok.is _
     c.capacity-cells.ensures _ c.trimmed-w.ensures.result_value _ c.mark_of.ensures c.if-mark_of-eq0.false
 
 pub returns : goal.returns
 returns c =
-    let both = remove_done c.args.pool.now c.args.word.now c.check_word-checked.ensures c.in-Accepted.is _
+    let both = remove_done c.args.pool.now c.args.word.now c.check_word-checked.ensures c.in-Ok.is _
     c.capacity-cells.ensures _ c.trimmed-w.ensures.result_value _ c.mark_of.ensures c.if-mark_of-eq0.false _
     c.remove_word.auto.p c.remove_word.ensures in record { value = both.0; after = both.1 }

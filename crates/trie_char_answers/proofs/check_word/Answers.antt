@@ -14,10 +14,10 @@ overflow_sub-kept c =
 
 pub returns-then-kept-gt-MAX_WORD : goal.returns-then-kept-gt-MAX_WORD
 returns-then-kept-gt-MAX_WORD c =
-    word_long c.args.word.now (meaning c.args.pool.now) c.check-checked.ensures _ c.in-Accepted.is
+    word_long c.args.word.now (meaning c.args.pool.now) c.check-checked.ensures _ c.in-Ok.is
     (length_is c.args.word.now _ c.trim-span.ensures) c.if-kept-gt-MAX_WORD.true
 
 pub returns : goal.returns
 returns c =
-    word_short c.args.word.now (meaning c.args.pool.now) c.check-checked.ensures _ c.in-Accepted.is
+    word_short c.args.word.now (meaning c.args.pool.now) c.check-checked.ensures _ c.in-Ok.is
     (length_is c.args.word.now _ c.trim-span.ensures) c.if-kept-gt-MAX_WORD.false

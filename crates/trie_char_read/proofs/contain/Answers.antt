@@ -14,17 +14,17 @@ slice_bounds-mark_of-end c = sym (long c.args.pool.now _ c.capacity-cells.ensure
 
 pub mark_of-requires : goal.mark_of-requires
 mark_of-requires c =
-    (view c.args.pool.now c.args.word.now c.check-checked.ensures c.in-Accepted.is _
+    (view c.args.pool.now c.args.word.now c.check-checked.ensures c.in-Ok.is _
     c.capacity-cells.ensures).readable
 
 pub returns-then-mark-eq0 : goal.returns-then-mark-eq0
 returns-then-mark-eq0 c =
-    contain_no (view c.args.pool.now c.args.word.now c.check-checked.ensures c.in-Accepted.is _
-    c.capacity-cells.ensures) c.args.word.now c.check-checked.ensures c.in-Accepted.is _ _
+    contain_no (view c.args.pool.now c.args.word.now c.check-checked.ensures c.in-Ok.is _
+    c.capacity-cells.ensures) c.args.word.now c.check-checked.ensures c.in-Ok.is _ _
     c.mark_of.ensures c.wide-mark.ensures c.if-mark-eq0.true
 
 pub returns : goal.returns
 returns c =
-    contain_yes (view c.args.pool.now c.args.word.now c.check-checked.ensures c.in-Accepted.is _
-    c.capacity-cells.ensures) c.args.word.now c.check-checked.ensures c.in-Accepted.is _ _
+    contain_yes (view c.args.pool.now c.args.word.now c.check-checked.ensures c.in-Ok.is _
+    c.capacity-cells.ensures) c.args.word.now c.check-checked.ensures c.in-Ok.is _ _
     c.mark_of.ensures c.wide-mark.ensures c.if-mark-eq0.false

@@ -18,15 +18,15 @@ slice_bounds-prefix_count-end c = sym (long c.args.pool.now _ c.capacity-cells.e
 
 pub prefix_count-needed-requires : goal.prefix_count-needed-requires
 prefix_count-needed-requires c =
-    (view c.args.pool.now c.args.text.now c.check-checked.ensures c.in-Accepted.is _
+    (view c.args.pool.now c.args.text.now c.check-checked.ensures c.in-Ok.is _
     c.capacity-cells.ensures).readable
 
 pub returns-then-out-needed : goal.returns-then-out-needed
 returns-then-out-needed c =
     record {
       value = prefix_short (view c.args.pool.now c.args.text.now c.check-checked.ensures
-          c.in-Accepted.is _ c.capacity-cells.ensures) c.args.text.now c.check-checked.ensures
-          c.in-Accepted.is c.args.out.now _ c.prefix_count-needed.ensures _ c.if-out-needed.true;
+          c.in-Ok.is _ c.capacity-cells.ensures) c.args.text.now c.check-checked.ensures
+          c.in-Ok.is c.args.out.now _ c.prefix_count-needed.ensures _ c.if-out-needed.true;
       out_after = refl;
     }
 
@@ -35,12 +35,12 @@ slice_bounds-prefix_lengths-end c = sym (long c.args.pool.now _ c.capacity-cells
 
 pub prefix_lengths-written-requires : goal.prefix_lengths-written-requires
 prefix_lengths-written-requires c =
-    asks (view c.args.pool.now c.args.text.now c.check-checked.ensures c.in-Accepted.is _
-    c.capacity-cells.ensures) c.args.text.now c.check-checked.ensures c.in-Accepted.is
+    asks (view c.args.pool.now c.args.text.now c.check-checked.ensures c.in-Ok.is _
+    c.capacity-cells.ensures) c.args.text.now c.check-checked.ensures c.in-Ok.is
     c.args.out.now _ c.prefix_count-needed.ensures c.if-out-needed.false
 
 pub returns : goal.returns
 returns c =
-    let both = prefix_done (view c.args.pool.now c.args.text.now c.check-checked.ensures c.in-Accepted.is _
-    c.capacity-cells.ensures) c.args.text.now c.check-checked.ensures c.in-Accepted.is
+    let both = prefix_done (view c.args.pool.now c.args.text.now c.check-checked.ensures c.in-Ok.is _
+    c.capacity-cells.ensures) c.args.text.now c.check-checked.ensures c.in-Ok.is
     c.args.out.now _ c.prefix_count-needed.ensures c.if-out-needed.false _ _ c.prefix_lengths-written.ensures in record { value = both.0; out_after = both.1 }

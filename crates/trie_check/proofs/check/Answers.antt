@@ -11,10 +11,10 @@ returns-in_default c =
 
 pub returns-then-not-is_dictionary : goal.returns-then-not-is_dictionary
 returns-then-not-is_dictionary c =
-    check_pool c.args.text.now (meaning c.args.pool.now) c.check_text-checked.ensures c.in-Accepted.is
+    check_pool c.args.text.now (meaning c.args.pool.now) c.check_text-checked.ensures c.in-Ok.is
     (meaning_is_none c.args.pool.now _ (sym c.if-not-is_dictionary.true ∙ c.is_dictionary.ensures))
 
 pub returns : goal.returns
 returns c =
-    check_all c.args.text.now (meaning c.args.pool.now) c.check_text-checked.ensures c.in-Accepted.is
+    check_all c.args.text.now (meaning c.args.pool.now) c.check_text-checked.ensures c.in-Ok.is
     (meaning_is_none c.args.pool.now _ (sym c.if-not-is_dictionary.false ∙ c.is_dictionary.ensures))

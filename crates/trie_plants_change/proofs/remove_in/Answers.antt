@@ -19,14 +19,14 @@ pub slice_bounds-mark_of-count : goal.slice_bounds-mark_of-count
 slice_bounds-mark_of-count c =
     let f = from c.args.plant c.args.pool.now _ c.capacity-cells.ensures _ c.half_at-a.ensures
     (known c.args.plant c.args.pool.now c.args.word.now c.check_plant_word-checked.ensures
-    c.in-Accepted.is _ c.capacity-cells.ensures _ c.half_at-a.ensures _ c.trimmed-w.ensures.result_value) in
+    c.in-Ok.is _ c.capacity-cells.ensures _ c.half_at-a.ensures _ c.trimmed-w.ensures.result_value) in
     omega (arith, f)
 
 pub slice_bounds-mark_of-start : goal.slice_bounds-mark_of-start
 slice_bounds-mark_of-start c =
     let f = from c.args.plant c.args.pool.now _ c.capacity-cells.ensures _ c.half_at-a.ensures
     (known c.args.plant c.args.pool.now c.args.word.now c.check_plant_word-checked.ensures
-    c.in-Accepted.is _ c.capacity-cells.ensures _ c.half_at-a.ensures _ c.trimmed-w.ensures.result_value)
+    c.in-Ok.is _ c.capacity-cells.ensures _ c.half_at-a.ensures _ c.trimmed-w.ensures.result_value)
     in
     omega (arith, f)
 
@@ -34,12 +34,12 @@ pub mark_of-requires : goal.mark_of-requires
 mark_of-requires c =
     readable_view c.args.plant c.args.pool.now _ c.capacity-cells.ensures _ c.half_at-a.ensures
     (known c.args.plant c.args.pool.now c.args.word.now c.check_plant_word-checked.ensures
-    c.in-Accepted.is _ c.capacity-cells.ensures _ c.half_at-a.ensures _ c.trimmed-w.ensures.result_value)
+    c.in-Ok.is _ c.capacity-cells.ensures _ c.half_at-a.ensures _ c.trimmed-w.ensures.result_value)
 
 pub returns-then-mark_of-eq0 : goal.returns-then-mark_of-eq0
 returns-then-mark_of-eq0 c =
     let both = remove_absent c.args.plant c.args.pool.now c.args.word.now c.check_plant_word-checked.ensures
-    c.in-Accepted.is _ c.capacity-cells.ensures _ c.half_at-a.ensures _ c.trimmed-w.ensures.result_value _
+    c.in-Ok.is _ c.capacity-cells.ensures _ c.half_at-a.ensures _ c.trimmed-w.ensures.result_value _
     c.mark_of.ensures c.if-mark_of-eq0.true in record { value = both.0; plant_after = both.1 }
 
 pub offset_bounds-pool-a-2 : goal.offset_bounds-pool-a-2
@@ -49,24 +49,24 @@ pub slice_bounds-remove_word-count : goal.slice_bounds-remove_word-count
 slice_bounds-remove_word-count c =
     let f = from c.args.plant c.args.pool.now _ c.capacity-cells.ensures _ c.half_at-a.ensures
     (known c.args.plant c.args.pool.now c.args.word.now c.check_plant_word-checked.ensures
-    c.in-Accepted.is _ c.capacity-cells.ensures _ c.half_at-a.ensures _ c.trimmed-w.ensures.result_value) in
+    c.in-Ok.is _ c.capacity-cells.ensures _ c.half_at-a.ensures _ c.trimmed-w.ensures.result_value) in
     omega (arith, f)
 
 pub slice_bounds-remove_word-start : goal.slice_bounds-remove_word-start
 slice_bounds-remove_word-start c =
     let f = from c.args.plant c.args.pool.now _ c.capacity-cells.ensures _ c.half_at-a.ensures
     (known c.args.plant c.args.pool.now c.args.word.now c.check_plant_word-checked.ensures
-    c.in-Accepted.is _ c.capacity-cells.ensures _ c.half_at-a.ensures _ c.trimmed-w.ensures.result_value) in
+    c.in-Ok.is _ c.capacity-cells.ensures _ c.half_at-a.ensures _ c.trimmed-w.ensures.result_value) in
     omega (arith, f)
 
 pub remove_word-requires : goal.remove_word-requires
 remove_word-requires c =
     removes c.args.plant c.args.pool.now c.args.word.now c.check_plant_word-checked.ensures
-    c.in-Accepted.is _ c.capacity-cells.ensures _ c.half_at-a.ensures _ c.trimmed-w.ensures.result_value _
+    c.in-Ok.is _ c.capacity-cells.ensures _ c.half_at-a.ensures _ c.trimmed-w.ensures.result_value _
     c.mark_of.ensures c.if-mark_of-eq0.false
 
 pub returns : goal.returns
 returns c =
     let both = remove_done c.args.plant c.args.pool.now c.args.word.now c.check_plant_word-checked.ensures
-    c.in-Accepted.is _ c.capacity-cells.ensures _ c.half_at-a.ensures _ c.trimmed-w.ensures.result_value _
+    c.in-Ok.is _ c.capacity-cells.ensures _ c.half_at-a.ensures _ c.trimmed-w.ensures.result_value _
     c.mark_of.ensures c.if-mark_of-eq0.false _ c.remove_word.auto.p c.remove_word.ensures in record { value = both.0; plant_after = both.1 }

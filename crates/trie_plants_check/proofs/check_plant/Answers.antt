@@ -12,13 +12,13 @@ returns-in_default c =
 pub returns-then-not-is_plants : goal.returns-then-not-is_plants
 returns-then-not-is_plants c =
     check_pool c.args.text.now (plant_meaning c.args.plant c.args.pool.now) c.check_text-checked.ensures
-    c.in-Accepted.is
+    c.in-Ok.is
     (meaning_is_none c.args.plant c.args.pool.now _
     (sym c.if-not-is_plants.true ∙ c.is_plants.ensures))
 
 pub returns : goal.returns
 returns c =
     check_all c.args.text.now (plant_meaning c.args.plant c.args.pool.now) c.check_text-checked.ensures
-    c.in-Accepted.is
+    c.in-Ok.is
     (meaning_is_none c.args.plant c.args.pool.now _
     (sym c.if-not-is_plants.false ∙ c.is_plants.ensures))

@@ -18,7 +18,7 @@ slice_bounds-mark_of-count c =
     omega (
       arith,
       inside c.args.plant c.args.pool.now c.args.word.now c.check_plant-checked.ensures
-          c.in-Accepted.is _ c.capacity-cells.ensures _ c.half_at-at.ensures,
+          c.in-Ok.is _ c.capacity-cells.ensures _ c.half_at-at.ensures,
     )
 
 pub slice_bounds-mark_of-start : goal.slice_bounds-mark_of-start
@@ -26,24 +26,24 @@ slice_bounds-mark_of-start c =
     omega (
       arith,
       inside c.args.plant c.args.pool.now c.args.word.now c.check_plant-checked.ensures
-          c.in-Accepted.is _ c.capacity-cells.ensures _ c.half_at-at.ensures,
+          c.in-Ok.is _ c.capacity-cells.ensures _ c.half_at-at.ensures,
     )
 
 pub mark_of-requires : goal.mark_of-requires
 mark_of-requires c =
     (view c.args.plant c.args.pool.now c.args.word.now c.check_plant-checked.ensures
-    c.in-Accepted.is _ c.capacity-cells.ensures _ c.half_at-at.ensures).readable
+    c.in-Ok.is _ c.capacity-cells.ensures _ c.half_at-at.ensures).readable
 
 pub returns-then-mark-eq0 : goal.returns-then-mark-eq0
 returns-then-mark-eq0 c =
     contain_no (view c.args.plant c.args.pool.now c.args.word.now c.check_plant-checked.ensures
-    c.in-Accepted.is _ c.capacity-cells.ensures _ c.half_at-at.ensures) c.args.word.now
-    c.check_plant-checked.ensures c.in-Accepted.is _ _ c.mark_of.ensures c.wide-mark.ensures
+    c.in-Ok.is _ c.capacity-cells.ensures _ c.half_at-at.ensures) c.args.word.now
+    c.check_plant-checked.ensures c.in-Ok.is _ _ c.mark_of.ensures c.wide-mark.ensures
     c.if-mark-eq0.true
 
 pub returns : goal.returns
 returns c =
     contain_yes (view c.args.plant c.args.pool.now c.args.word.now c.check_plant-checked.ensures
-    c.in-Accepted.is _ c.capacity-cells.ensures _ c.half_at-at.ensures) c.args.word.now
-    c.check_plant-checked.ensures c.in-Accepted.is _ _ c.mark_of.ensures c.wide-mark.ensures
+    c.in-Ok.is _ c.capacity-cells.ensures _ c.half_at-at.ensures) c.args.word.now
+    c.check_plant-checked.ensures c.in-Ok.is _ _ c.mark_of.ensures c.wide-mark.ensures
     c.if-mark-eq0.false

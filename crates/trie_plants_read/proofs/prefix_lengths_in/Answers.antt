@@ -24,7 +24,7 @@ slice_bounds-prefix_count-count c =
     omega (
       arith,
       inside c.args.plant c.args.pool.now c.args.text.now c.check_plant-checked.ensures
-          c.in-Accepted.is _ c.capacity-cells.ensures _ c.half_at-at.ensures,
+          c.in-Ok.is _ c.capacity-cells.ensures _ c.half_at-at.ensures,
     )
 
 pub slice_bounds-prefix_count-start : goal.slice_bounds-prefix_count-start
@@ -32,20 +32,20 @@ slice_bounds-prefix_count-start c =
     omega (
       arith,
       inside c.args.plant c.args.pool.now c.args.text.now c.check_plant-checked.ensures
-          c.in-Accepted.is _ c.capacity-cells.ensures _ c.half_at-at.ensures,
+          c.in-Ok.is _ c.capacity-cells.ensures _ c.half_at-at.ensures,
     )
 
 pub prefix_count-needed-requires : goal.prefix_count-needed-requires
 prefix_count-needed-requires c =
     (view c.args.plant c.args.pool.now c.args.text.now c.check_plant-checked.ensures
-    c.in-Accepted.is _ c.capacity-cells.ensures _ c.half_at-at.ensures).readable
+    c.in-Ok.is _ c.capacity-cells.ensures _ c.half_at-at.ensures).readable
 
 pub returns-then-out-needed : goal.returns-then-out-needed
 returns-then-out-needed c =
     record {
       value = prefix_short (view c.args.plant c.args.pool.now c.args.text.now c.check_plant-checked.ensures
-          c.in-Accepted.is _ c.capacity-cells.ensures _ c.half_at-at.ensures) c.args.text.now
-          c.check_plant-checked.ensures c.in-Accepted.is c.args.out.now _ c.prefix_count-needed.ensures _
+          c.in-Ok.is _ c.capacity-cells.ensures _ c.half_at-at.ensures) c.args.text.now
+          c.check_plant-checked.ensures c.in-Ok.is c.args.out.now _ c.prefix_count-needed.ensures _
           c.if-out-needed.true;
       out_after = refl;
     }
@@ -58,7 +58,7 @@ slice_bounds-prefix_lengths-count c =
     omega (
       arith,
       inside c.args.plant c.args.pool.now c.args.text.now c.check_plant-checked.ensures
-          c.in-Accepted.is _ c.capacity-cells.ensures _ c.half_at-at.ensures,
+          c.in-Ok.is _ c.capacity-cells.ensures _ c.half_at-at.ensures,
     )
 
 pub slice_bounds-prefix_lengths-start : goal.slice_bounds-prefix_lengths-start
@@ -66,19 +66,19 @@ slice_bounds-prefix_lengths-start c =
     omega (
       arith,
       inside c.args.plant c.args.pool.now c.args.text.now c.check_plant-checked.ensures
-          c.in-Accepted.is _ c.capacity-cells.ensures _ c.half_at-at.ensures,
+          c.in-Ok.is _ c.capacity-cells.ensures _ c.half_at-at.ensures,
     )
 
 pub prefix_lengths-written-requires : goal.prefix_lengths-written-requires
 prefix_lengths-written-requires c =
     asks (view c.args.plant c.args.pool.now c.args.text.now c.check_plant-checked.ensures
-    c.in-Accepted.is _ c.capacity-cells.ensures _ c.half_at-at.ensures) c.args.text.now
-    c.check_plant-checked.ensures c.in-Accepted.is c.args.out.now _ c.prefix_count-needed.ensures
+    c.in-Ok.is _ c.capacity-cells.ensures _ c.half_at-at.ensures) c.args.text.now
+    c.check_plant-checked.ensures c.in-Ok.is c.args.out.now _ c.prefix_count-needed.ensures
     c.if-out-needed.false
 
 pub returns : goal.returns
 returns c =
     let both = prefix_done (view c.args.plant c.args.pool.now c.args.text.now c.check_plant-checked.ensures
-    c.in-Accepted.is _ c.capacity-cells.ensures _ c.half_at-at.ensures) c.args.text.now
-    c.check_plant-checked.ensures c.in-Accepted.is c.args.out.now _ c.prefix_count-needed.ensures
+    c.in-Ok.is _ c.capacity-cells.ensures _ c.half_at-at.ensures) c.args.text.now
+    c.check_plant-checked.ensures c.in-Ok.is c.args.out.now _ c.prefix_count-needed.ensures
     c.if-out-needed.false _ _ c.prefix_lengths-written.ensures in record { value = both.0; out_after = both.1 }

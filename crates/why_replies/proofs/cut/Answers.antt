@@ -14,12 +14,12 @@ use Rattle.why_replies.proofs.cut.Goals as goal
 pub slice_bounds-cut_reasons-end : goal.slice_bounds-cut_reasons-end
 slice_bounds-cut_reasons-end c =
     lent_fits c.args.text.now c.args.scalars.now c.args.positions.now (c.decode-decoded.ensures.value, (c.decode-decoded.ensures.out_after, c.decode-decoded.ensures.positions_after))
-    c.in-Accepted.is
+    c.in-Ok.is
 
-pub slice_bounds-cut_reasons-end-in-Accepted : goal.slice_bounds-cut_reasons-end-in-Accepted
-slice_bounds-cut_reasons-end-in-Accepted c =
+pub slice_bounds-cut_reasons-end-in-Ok : goal.slice_bounds-cut_reasons-end-in-Ok
+slice_bounds-cut_reasons-end-in-Ok c =
     lent_size c.args.text.now c.args.scalars.now c.args.positions.now (c.decode-decoded.ensures.value, (c.decode-decoded.ensures.out_after, c.decode-decoded.ensures.positions_after))
-    c.in-Accepted.is
+    c.in-Ok.is
 
 pub returns-in-Refused : goal.returns-in-Refused
 returns-in-Refused c =
@@ -44,24 +44,24 @@ returns-in-Refused c =
           (length c.args.scratch.now)) 0) c.args.scratch.now;
     }
 
-pub returns-in-Accepted : goal.returns-in-Accepted
-returns-in-Accepted c =
+pub returns-in-Ok : goal.returns-in-Ok
+returns-in-Ok c =
     record {
       value = ended_text c.args.text.now c.args.scalars.now c.args.positions.now (c.decode-decoded.ensures.value, (c.decode-decoded.ensures.out_after, c.decode-decoded.ensures.positions_after))
-          c.in-Accepted.is c.args.mode c.args.pool.now (length c.args.scratch.now)
+          c.in-Ok.is c.args.mode c.args.pool.now (length c.args.scratch.now)
           (length c.args.pairs.now / 2) c.cut_reasons.ensures.0 c.ended.ensures;
       scalars_after = (decoded_are c.args.text.now c.args.scalars.now c.args.positions.now
           (c.decode-decoded.ensures.value, (c.decode-decoded.ensures.out_after, c.decode-decoded.ensures.positions_after))).0;
       positions_after = (decoded_are c.args.text.now c.args.scalars.now c.args.positions.now
           (c.decode-decoded.ensures.value, (c.decode-decoded.ensures.out_after, c.decode-decoded.ensures.positions_after))).1;
       pairs_after = out_text c.args.text.now c.args.scalars.now c.args.positions.now (c.decode-decoded.ensures.value, (c.decode-decoded.ensures.out_after, c.decode-decoded.ensures.positions_after))
-          c.in-Accepted.is
+          c.in-Ok.is
           (λ (w : List ℕ). accepts c.args.mode w (meaning c.args.pool.now) (length c.args.scratch.now)
           (length c.args.pairs.now / 2))
           (λ (w : List ℕ). pairs_of (told_of c.args.mode (held (meaning c.args.pool.now)) w)) c.args.pairs.now
           c.cut_reasons.ensures.1.0;
       scratch_after = clear_text c.args.text.now c.args.scalars.now c.args.positions.now
-          (c.decode-decoded.ensures.value, (c.decode-decoded.ensures.out_after, c.decode-decoded.ensures.positions_after)) c.in-Accepted.is
+          (c.decode-decoded.ensures.value, (c.decode-decoded.ensures.out_after, c.decode-decoded.ensures.positions_after)) c.in-Ok.is
           (λ (w : List ℕ). answer (first_causes w (meaning c.args.pool.now) (length c.args.scratch.now)) 0)
           c.args.scratch.now c.cut_reasons.ensures.1.1;
     }

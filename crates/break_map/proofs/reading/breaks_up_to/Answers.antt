@@ -14,10 +14,10 @@ returns-in_default c =
 pub count_up_to-requires : goal.count_up_to-requires
 count_up_to-requires c =
     let a = asked c.args.n c.args.map.now c.args.position
-    (sym c.check_read-checked.ensures ∙ c.in-Accepted.is) in
+    (sym c.check_read-checked.ensures ∙ c.in-Ok.is) in
     (omega (arith, a.within, a.room), omega (arith, a.within, a.small))
 
 pub returns : goal.returns
 returns c =
     counted c.args.n c.args.map.now c.args.position
-    (sym c.check_read-checked.ensures ∙ c.in-Accepted.is) _ c.count_up_to.ensures
+    (sym c.check_read-checked.ensures ∙ c.in-Ok.is) _ c.count_up_to.ensures

@@ -17,16 +17,16 @@ returns-in_default c =
 pub returns-then-n-position : goal.returns-then-n-position
 returns-then-n-position c =
     wrong_position c.args.n c.args.map.now c.args.position
-    (sym c.check_size-checked.ensures ∙ c.in-Accepted.is) c.if-n-position.true
+    (sym c.check_size-checked.ensures ∙ c.in-Ok.is) c.if-n-position.true
 
 pub overflow_add-above : goal.overflow_add-above
 overflow_add-above c =
-    let h = sym c.check_size-checked.ensures ∙ c.in-Accepted.is in
+    let h = sym c.check_size-checked.ensures ∙ c.in-Ok.is in
     omega (arith, (size_is c.args.n (length c.args.map.now) h).0)
 
 pub overflow_mul-used : goal.overflow_mul-used
 overflow_mul-used c =
-    let h = sym c.check_size-checked.ensures ∙ c.in-Accepted.is in
+    let h = sym c.check_size-checked.ensures ∙ c.in-Ok.is in
     omega (
       arith,
       used_is c.args.n (length c.args.map.now) h,
@@ -37,11 +37,11 @@ overflow_mul-used c =
 pub returns-then-above-used : goal.returns-then-above-used
 returns-then-above-used c =
     no_room_above c.args.n c.args.map.now c.args.position
-    (sym c.check_size-checked.ensures ∙ c.in-Accepted.is) c.if-n-position.false c.if-above-used.true
+    (sym c.check_size-checked.ensures ∙ c.in-Ok.is) c.if-n-position.false c.if-above-used.true
 
 pub bits_from-bits-requires : goal.bits_from-bits-requires
 bits_from-bits-requires c =
-    let h = sym c.check_size-checked.ensures ∙ c.in-Accepted.is in
+    let h = sym c.check_size-checked.ensures ∙ c.in-Ok.is in
     omega (
       arith,
       used_is c.args.n (length c.args.map.now) h,
@@ -52,17 +52,17 @@ bits_from-bits-requires c =
 
 pub overflow_add-result : goal.overflow_add-result
 overflow_add-result c =
-    let h = sym c.check_size-checked.ensures ∙ c.in-Accepted.is in
+    let h = sym c.check_size-checked.ensures ∙ c.in-Ok.is in
     omega (arith, (size_is c.args.n (length c.args.map.now) h).0, c.lowest.ensures.1)
 
 pub returns-then-bits-ne0 : goal.returns-then-bits-ne0
 returns-then-bits-ne0 c =
     bit_above c.args.n c.args.map.now c.args.position
-    (sym c.check_size-checked.ensures ∙ c.in-Accepted.is) c.if-n-position.false c.if-above-used.false c.bits_from-bits.ensures
+    (sym c.check_size-checked.ensures ∙ c.in-Ok.is) c.if-n-position.false c.if-above-used.false c.bits_from-bits.ensures
     c.if-bits-ne0.true c.lowest.ensures.0
 
 pub returns : goal.returns
 returns c =
     clear_above c.args.n c.args.map.now c.args.position
-    (sym c.check_size-checked.ensures ∙ c.in-Accepted.is) c.if-n-position.false c.if-above-used.false
+    (sym c.check_size-checked.ensures ∙ c.in-Ok.is) c.if-n-position.false c.if-above-used.false
     c.bits_from-bits.ensures c.if-bits-ne0.false

@@ -13,11 +13,11 @@ returns-in_default c =
 pub returns-then-wrong-ends : goal.returns-then-wrong-ends
 returns-then-wrong-ends c =
     let both = wrong_end c.args.n c.args.ends.now c.args.map.now
-    (sym c.check_size-checked.ensures ∙ c.in-Accepted.is) c.first_wrong-wrong.ensures c.if-wrong-ends.true in record { value = both.0; map_after = both.1 }
+    (sym c.check_size-checked.ensures ∙ c.in-Ok.is) c.first_wrong-wrong.ensures c.if-wrong-ends.true in record { value = both.0; map_after = both.1 }
 
 pub slice_bounds-write_bits-end : goal.slice_bounds-write_bits-end
 slice_bounds-write_bits-end c =
-    let h = sym c.check_size-checked.ensures ∙ c.in-Accepted.is in
+    let h = sym c.check_size-checked.ensures ∙ c.in-Ok.is in
     omega (
       arith,
       used_is c.args.n (length c.args.map.now) h,
@@ -27,8 +27,8 @@ slice_bounds-write_bits-end c =
 
 pub slice_bounds-write_bits-end-2 : goal.slice_bounds-write_bits-end-2
 slice_bounds-write_bits-end-2 c =
-    let h = sym c.check_size-checked.ensures ∙ c.in-Accepted.is in
-    sym (length-take-le c.in-Accepted.used c.args.map.now
+    let h = sym c.check_size-checked.ensures ∙ c.in-Ok.is in
+    sym (length-take-le c.in-Ok.used c.args.map.now
     (omega (
       arith,
       used_is c.args.n (length c.args.map.now) h,
@@ -39,11 +39,11 @@ slice_bounds-write_bits-end-2 c =
 pub write_bits-requires : goal.write_bits-requires
 write_bits-requires c =
     bits_enough c.args.n c.args.ends.now c.args.map.now
-    (sym c.check_size-checked.ensures ∙ c.in-Accepted.is) c.first_wrong-wrong.ensures c.if-wrong-ends.false
+    (sym c.check_size-checked.ensures ∙ c.in-Ok.is) c.first_wrong-wrong.ensures c.if-wrong-ends.false
 
 pub returns : goal.returns
 returns c =
-    let h = sym c.check_size-checked.ensures ∙ c.in-Accepted.is in record {
+    let h = sym c.check_size-checked.ensures ∙ c.in-Ok.is in record {
       value = map_accepted c.args.n c.args.ends.now c.args.map.now h c.first_wrong-wrong.ensures
           c.if-wrong-ends.false;
       map_after = map_written c.args.n c.args.ends.now c.args.map.now h
