@@ -1,6 +1,6 @@
 -- The answer of an operation by its causes: the first that holds, or acceptance exactly if none
 -- does. Assumes nothing.
-use Rattle.std.specs.Prelude.{Ok, Err}
+use Rattle.std.specs.Prelude.{Result, Ok, Err}
 use Prim.Native.Nat.{ℕ, ◌≤◌, ◌<◌}
 use native.Mathlib.Omega.{arith}
 use mathlib.Core.Path.{◌≡◌, refl, sym, ap, subst, ◌∙◌}
@@ -28,7 +28,7 @@ accepted_exactly_if_none causes n = (
   λ k h. (none_of causes n k h, same (sym h ∙ sym (again causes n n h))),
 )
   where
-    same : {k : ℕ} → Ok k ≡ Ok n → k ≡ n
+    same : {k : ℕ} → ◌≡◌ {A = Result ℕ Refusal} (Ok k) (Ok n) → k ≡ n
     same e = cc
 
 -- ---- the first that holds
@@ -42,7 +42,7 @@ first_of : (causes : List Cause) (n : ℕ) (r : Refusal) → answer causes n ≡
 first_of [] n r h = not_both h
 first_of (c ∷ cs) n r h = go c.holds refl h (first_of cs n r)
   where
-    same : Err c.refusal ≡ Err r → r ≡ c.refusal
+    same : ◌≡◌ {A = Result ℕ Refusal} (Err c.refusal) (Err r) → r ≡ c.refusal
     same e = cc
 
     go : (b : Bool) → c.holds ≡ b → cond b (Err c.refusal) (answer cs n) ≡ Err r → (answer cs n ≡ Err r → First cs r) → First (c ∷ cs) r
@@ -81,7 +81,7 @@ pub lowest : (causes : List Cause) (n : ℕ) (r : Refusal) → Rising (numbers c
 lowest [] n r up h c a t = absurd a
 lowest (d ∷ ds) n r up h c a t = go d.holds refl h a (lowest ds n r up.1)
   where
-    same : Err d.refusal ≡ Err r → r ≡ d.refusal
+    same : ◌≡◌ {A = Result ℕ Refusal} (Err d.refusal) (Err r) → r ≡ d.refusal
     same e = cc
 
     go : (b : Bool) → d.holds ≡ b → cond b (Err d.refusal) (answer ds n) ≡ Err r → Among c (d ∷ ds)
