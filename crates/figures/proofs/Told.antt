@@ -160,9 +160,9 @@ module _ (mode : Mode) (text pool scratch : List ℕ) (room : ℕ) where
     figures_are = go told' refl
       where
         go : (x : Result Ends Refusal) → told' ≡ x → figures_in told' (length text) after ≡ of_outcome (outcome took (length text) (reasons_told toks) edges)
-        go (accepted_with k e) h =
-            ap (λ (x : Result Ends Refusal). figures_in x (length text) after) h ∙ (λ i. of_cut (length text) (reasons_here k e h i) (sym (took_k k e h).1 i))
-            ∙ sym (ap (λ (x : Result ℕ Refusal). of_outcome (outcome x (length text) (reasons_told toks) edges)) (took_k k e h).0)
+        go (Ok made) h =
+            ap (λ (x : Result Ends Refusal). figures_in x (length text) after) h ∙ (λ i. of_cut (length text) (reasons_here made.ends made.edges h i) (sym (took_k made.ends made.edges h).1 i))
+            ∙ sym (ap (λ (x : Result ℕ Refusal). of_outcome (outcome x (length text) (reasons_told toks) edges)) (took_k made.ends made.edges h).0)
         go (Err r) h =
             ap (λ (x : Result Ends Refusal). figures_in x (length text) after) h
             ∙ sym (ap (λ (x : Result ℕ Refusal). of_outcome (outcome x (length text) (reasons_told toks) edges)) (told_refused took edges r (sym t.0 ∙ h)))

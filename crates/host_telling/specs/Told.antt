@@ -1,6 +1,5 @@
 -- 01, "Numbers the host sees": what a host is told of an answer.
 use Rattle.std.specs.Prelude.{ℕ, Result, Ok, Err}
-use Rattle.newmm_answers.specs.Answers.{accepted_with}
 use Rattle.newmm_rules.specs.declared.Ends.{Ends}
 use Rattle.refusal.specs.declared.Refusal.{Refusal}
 use Rattle.refusal.specs.Numbers.{number_of, detail_of}
@@ -34,5 +33,5 @@ tells (Ok n) = accepted n 0
 tells (Err r) = refused r
 
 abbrev pub tells_cut : Result Ends Refusal → Told
-tells_cut (accepted_with n edges) = accepted n edges
+tells_cut (Ok told) = accepted told.ends told.edges
 tells_cut (Err r) = refused r

@@ -1,5 +1,5 @@
 -- The numbers of a text's answer fit cells of 32 bits. Assumes nothing.
-use Rattle.std.specs.Prelude.{Result, Err}
+use Rattle.std.specs.Prelude.{Ok, Result, Err}
 use Rattle.newmm_rules.specs.declared.Ends.{Ends}
 use Prim.Native.Nat.{ℕ, ◌*◌, ◌≤◌}
 use native.Mathlib.Omega.{arith}
@@ -18,7 +18,7 @@ use Rattle.char_string_scalars.specs.Scalars.{first_non_scalar}
 use Rattle.trie_pool.specs.Meaning.{Words}
 use Rattle.trie_check.specs.Refusals.{held}
 use Rattle.newmm_rules.specs.declared.Mode.{Mode}
-use Rattle.newmm_answers.specs.Answers.{accepted_with, cut_of, cut_causes, accepts, cut_answer}
+use Rattle.newmm_answers.specs.Answers.{cut_of, cut_causes, accepts, cut_answer}
 use Rattle.newmm_answers.proofs.Cuts.{few_ends, few_edges}
 use Rattle.newmm_answers.proofs.Told.{told_ends, told_refused, accepted_is}
 use Rattle.newmm_many_answers.specs.declared.Wanted.{Wanted}
@@ -80,7 +80,7 @@ pub few_told : {told : Result Ends Refusal} → Small told → ends_told told �
 few_told {told} s = go told refl
   where
     go : (x : Result Ends Refusal) → told ≡ x → ends_told x ≤ 4294967295
-    go (accepted_with n e) h = (s.counts n e h).0
+    go (Ok told) h = (s.counts told.ends told.edges h).0
     go (Err r) h = omega arith
 
 module _ (told : Result Ends Refusal) {wanted : Wanted} {n : ℕ} (is : n ≡ ends_told told) where

@@ -1,6 +1,5 @@
 -- Texts that are answered one after the other, met from the left. Assumes nothing.
-use Rattle.std.specs.Prelude.{Result, Err}
-use Rattle.newmm_answers.specs.Answers.{accepted_with}
+use Rattle.std.specs.Prelude.{Ok, Result, Err}
 use Rattle.newmm_rules.specs.declared.Ends.{Ends}
 use Rattle.refusal.specs.declared.Refusal.{Refusal}
 use Prim.Native.Nat.{ℕ, ◌+◌, ◌*◌, ◌-◌}
@@ -36,7 +35,7 @@ onward_more told written s later =
 -- ---- the answers' cells
 
 pub cells_long : (a : Result Ends Refusal) → length (cells_of a) ≡ 4
-cells_long (accepted_with n edges) = refl
+cells_long (Ok told) = refl
 cells_long (Err r) = refl
 
 pub all_cells_long : (told : List (Result Ends Refusal)) → length (all_cells told) ≡ 4 * length told

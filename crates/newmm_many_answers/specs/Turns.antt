@@ -1,7 +1,6 @@
 -- Texts that are answered one after the other: what single calls, one for each text, answer and
 -- leave.
-use Rattle.std.specs.Prelude.{ℕ, List, [], ◌∷◌, ◌++◌, take, drop, Result, Err}
-use Rattle.newmm_answers.specs.Answers.{accepted_with}
+use Rattle.std.specs.Prelude.{Ok, ℕ, List, [], ◌∷◌, ◌++◌, take, drop, Result, Err}
 use Rattle.newmm_rules.specs.declared.Ends.{Ends}
 use Rattle.refusal.specs.declared.Refusal.{Refusal}
 use Rattle.refusal.specs.Numbers.{number_of, detail_of}
@@ -9,7 +8,7 @@ use Rattle.refusal.specs.Numbers.{number_of, detail_of}
 -- The four cells of an answer: number, count, edges, detail. 0 is no refusal's number, and stands
 -- for an accepted text, which has no detail. A refused text has no count and no edges.
 abbrev pub cells_of : Result Ends Refusal → List ℕ
-cells_of (accepted_with n edges) = 0 ∷ n ∷ edges ∷ 0 ∷ []
+cells_of (Ok told) = 0 ∷ told.ends ∷ told.edges ∷ 0 ∷ []
 cells_of (Err r) = number_of r ∷ 0 ∷ 0 ∷ detail_of r ∷ []
 
 -- the answers' cells, one answer behind the other
@@ -19,7 +18,7 @@ all_cells (a ∷ as') = cells_of a ++ all_cells as'
 
 -- the number of ends that an answer tells; a refused text has none
 abbrev pub ends_told : Result Ends Refusal → ℕ
-ends_told (accepted_with n edges) = n
+ends_told (Ok told) = told.ends
 ends_told (Err r) = 0
 
 -- A single call: what it answers, what stands in the output and in scratch behind it, and how many

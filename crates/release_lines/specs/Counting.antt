@@ -1,6 +1,5 @@
 -- 02, ticket 14: what a line of a release does to its figures.
 use Rattle.std.specs.Prelude.{ℕ, Bool, true, false, List, eqb, Result, Ok, Err}
-use Rattle.newmm_answers.specs.Answers.{accepted_with}
 use Rattle.newmm_rules.specs.declared.Ends.{Ends}
 use Rattle.refusal.specs.declared.Refusal.{Refusal}
 use Rattle.refusal.specs.Numbers.{number_of}
@@ -14,7 +13,7 @@ use Rattle.sheet_replies.specs.declared.Asked.TheVariants.{Nothing, Add, Remove,
 
 -- A text that is fed, or that was refused before, is answered with 13: the figures are full.
 abbrev pub fed_full : Result Ends Refusal → Bool
-fed_full (accepted_with n edges) = false
+fed_full (Ok told) = false
 fed_full (Err r) = eqb (number_of r) 13
 
 abbrev pub refused_full : Result ℕ Refusal → Bool

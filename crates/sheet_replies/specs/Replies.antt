@@ -11,7 +11,7 @@ use Rattle.trie_char_answers.specs.Answers.{add_answer, added, remove_answer, re
 use Rattle.trie_char_answers.specs.Changes.{After}
 use Rattle.newmm_rules.specs.declared.Mode.{Mode}
 use Rattle.newmm_rules.specs.declared.Mode.TheVariants.{Plain, Safe}
-use Rattle.newmm_answers.specs.Answers.{accepted_with, cut_of, first_causes, accepts, cleared}
+use Rattle.newmm_answers.specs.Answers.{cut_of, first_causes, accepts, cleared}
 use Rattle.sheet_replies.specs.declared.Asked.{Asked}
 use Rattle.sheet_replies.specs.declared.Asked.TheVariants.{Nothing, Add, Remove, Cut}
 use Rattle.sheet_texts.specs.declared.Reply.{Reply}
@@ -55,7 +55,7 @@ ended (Ok n) = Ends n
 ended (Err r) = Refused r
 
 abbrev pub ended_by : Result Ends Refusal → Reply
-ended_by (accepted_with n e) = Ends n
+ended_by (Ok told) = Ends told.ends
 ended_by (Err r) = Refused r
 
 -- the reply to a text by what is asked; the rows for decoding, scratch and ends have so many cells

@@ -124,7 +124,7 @@ some_number FiguresFull e = omega arith
 
 -- number 0 is told of an accepted text alone
 pub cells_ends : (a : Result Ends Refusal) (k edges : ℕ) → cells_of a ≡ 0 ∷ k ∷ edges ∷ 0 ∷ [] → a ≡ accepted_with k edges
-cells_ends (accepted_with n e) k edges h = (λ i. accepted_with (get_or (h i) 1 0) (get_or (h i) 2 0))
+cells_ends (Ok told) k edges h = (λ i. accepted_with (get_or (h i) 1 0) (get_or (h i) 2 0))
 cells_ends (Err r) k edges h = absurd (some_number r (ap (λ (l : List ℕ). get_or l 0 0) h))
 
 -- the single calls of two forms answer alike

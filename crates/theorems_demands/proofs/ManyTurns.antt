@@ -13,7 +13,7 @@ use Rattle.refusal.specs.Answers.{answer}
 use Rattle.refusal.proofs.Causes.{again}
 use Rattle.trie_pool.specs.Meaning.{Words}
 use Rattle.newmm_rules.specs.declared.Mode.{Mode}
-use Rattle.newmm_answers.specs.Answers.{accepted_with, first_causes, cleared, scratch_after}
+use Rattle.newmm_answers.specs.Answers.{first_causes, cleared, scratch_after}
 use Rattle.newmm_many_answers.specs.Texts.{texts_from}
 use Rattle.newmm_many_answers.specs.Turns.{Singly, Turns, cells_of, all_cells, ends_told, rest_of, in_turn}
 use Rattle.newmm_many_answers.proofs.Answered.{scratch_as_long}
@@ -68,7 +68,7 @@ pub counts_are : (told : List (Result Ends Refusal)) (rest : List ℕ) (i : ℕ)
 counts_are [] rest zero h = refl
 counts_are [] rest (suc i) h = absurd (omega arith)
 counts_are (a ∷ told) rest zero h = refl
-counts_are (accepted_with n e ∷ told) rest (suc i) h = ap (λ (k : ℕ). n + k) (counts_are told rest i (omega arith))
+counts_are (Ok made ∷ told) rest (suc i) h = ap (λ (k : ℕ). made.ends + k) (counts_are told rest i (omega arith))
 counts_are (Err r ∷ told) rest (suc i) h = ap (λ (k : ℕ). 0 + k) (counts_are told rest i (omega arith))
 
 -- ---- the turns

@@ -26,7 +26,7 @@ use Rattle.trie_plants.specs.Rules.{is_plants}
 use Rattle.trie_plants.specs.Meaning.{plant_meaning}
 use Rattle.trie_plants.proofs.Parts.{meaning_yes}
 use Rattle.trie_plants_answers.specs.Refusals.{plant_add_causes}
-use Rattle.newmm_answers.specs.Answers.{accepted_with, cut_causes, told}
+use Rattle.newmm_answers.specs.Answers.{cut_causes, told}
 use Rattle.newmm_answers.specs.Calls as asked
 use Rattle.newmm_reasons_answers.specs.Answers.{pair_room}
 use Rattle.newmm_many_answers.specs.Turns.{cells_of}
@@ -146,11 +146,11 @@ no_text f single c k h = go (many_answer c) refl
 
 -- 4 is told where a single call is refused so, and 0 where it is accepted
 told_4 : (a : Result Ends Refusal) → ((r : Refusal) → refused_cut a ≡ some r → number_of r ≡ 4 → ⊥) → get_or (cells_of a) 0 0 ≡ 4 → ⊥
-told_4 (accepted_with n edges) h e = absurd (omega arith)
+told_4 (Ok told) h e = absurd (omega arith)
 told_4 (Err r) h e = h r refl e
 
 told_0 : (a : Result Ends Refusal) → (refused_cut a ≡ none → ⊥) → get_or (cells_of a) 0 0 ≡ 0 → ⊥
-told_0 (accepted_with n edges) h e = h refl
+told_0 (Ok told) h e = h refl
 told_0 (Err r) h e = some_number r e
 
 -- the call of the plant for a text by itself

@@ -4,7 +4,6 @@
 -- capitals names a statement. Cells are told to no one here, nor how long a call took.
 use Rattle.std.specs.Prelude.{ℕ, ◌*◌, ◌<◌, ◌≡◌, Bool, true, false, cond, List, [], ◌∷◌, get_or, Result, Ok, Err}
 use Rattle.std.proofs.Math.Option.{Option, none, some}
-use Rattle.newmm_answers.specs.Answers.{accepted_with}
 use Rattle.newmm_rules.specs.declared.Ends.{Ends}
 use Rattle.refusal.specs.declared.Refusal.{Refusal}
 use Rattle.refusal.specs.declared.Refusal.TheVariants.{NotADictionary}
@@ -119,7 +118,7 @@ refused_word (word_answer.Held n class) = none
 refused_word (word_answer.Refused r) = some r
 
 abbrev pub refused_cut : Result Ends Refusal → Option Refusal
-refused_cut (accepted_with n edges) = none
+refused_cut (Ok told) = none
 refused_cut (Err r) = some r
 
 abbrev pub refusal : Told → Option Refusal
