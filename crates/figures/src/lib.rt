@@ -12,7 +12,7 @@ use newmm_many_answers::ends_told;
 use newmm_reasons::put_pairs;
 use newmm_rules::{Ends, Mode};
 use newmm_told::tell;
-use refusal::{Refusal, number};
+use refusal::Refusal;
 
 // The texts' refusals are 1 to 6.
 const LAST_REFUSAL: u32 = 6;
@@ -24,7 +24,7 @@ fn of_told(told: Result<Ends, Refusal>, characters: usize, cells: &[u32]) -> Fig
 {
     match told {
         Ok(Ends { ends: k, edges }) => of_cut(characters, cells, k, edges),
-        Err(r) => of_refused(number(r) as usize),
+        Err(r) => of_refused(r.number() as usize),
     }
 }
 

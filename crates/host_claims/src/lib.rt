@@ -7,7 +7,6 @@ ghost use Rattle.host_claims.specs.Calls.{told_claim, tells_claim, ClaimTold};
 
 use host_telling::wide;
 use newmm_claim::ClaimAnswer;
-use refusal::number;
 
 // Tells the answer of the check of a claim.
 fn tell_claim(a: ClaimAnswer, right: &mut usize, token: &mut usize, detail: &mut usize) -> u32
@@ -29,8 +28,8 @@ fn tell_claim(a: ClaimAnswer, right: &mut usize, token: &mut usize, detail: &mut
         ClaimAnswer::Refused(r) => {
             *right = 0;
             *token = 0;
-            *detail = refusal::detail(r);
-            wide(number(r))
+            *detail = r.detail();
+            wide(r.number())
         }
     }
 }

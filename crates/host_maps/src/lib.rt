@@ -7,7 +7,6 @@ ghost use Rattle.host_maps.specs.Calls.{told_next, tells_next, MapTold, CountTol
 
 use break_map_rules::NextBreak;
 use host_telling::{tell, wide};
-use refusal::number;
 
 // Writes the map of the ends of a text of n characters; accepted with the cells that it takes.
 // Refusals 2, 6, 10.
@@ -59,8 +58,8 @@ fn tell_next(a: NextBreak, found: &mut usize, place: &mut usize, detail: &mut us
         NextBreak::Refused(r) => {
             *found = 0;
             *place = 0;
-            *detail = refusal::detail(r);
-            wide(number(r))
+            *detail = r.detail();
+            wide(r.number())
         }
     }
 }

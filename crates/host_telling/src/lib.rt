@@ -6,7 +6,7 @@ ghost use Rattle.std.specs.Prelude.{◌≡◌};
 ghost use Rattle.host_telling.specs.Told.{told, told_cut, tells, tells_cut};
 
 use newmm_rules::Ends;
-use refusal::{Refusal, number};
+use refusal::Refusal;
 
 pub fn wide(x: u8) -> u32
     ensures { result ≡ x }
@@ -26,8 +26,8 @@ pub fn tell(a: Result<usize, Refusal>, count: &mut usize, detail: &mut usize) ->
         }
         Err(r) => {
             *count = 0;
-            *detail = refusal::detail(r);
-            wide(number(r))
+            *detail = r.detail();
+            wide(r.number())
         }
     }
 }
@@ -46,8 +46,8 @@ pub fn tell_cut(a: Result<Ends, Refusal>, count: &mut usize, edges: &mut usize, 
         Err(r) => {
             *count = 0;
             *edges = 0;
-            *detail = refusal::detail(r);
-            wide(number(r))
+            *detail = r.detail();
+            wide(r.number())
         }
     }
 }

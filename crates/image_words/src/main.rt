@@ -93,7 +93,7 @@ fn list<P: Print, W: Write>(told: &P, output: &mut W, image: &[u8]) -> bool {
 }
 
 fn tell_refusal<P: Print>(told: &P, r: Refusal) {
-    let number = refusal::number(r);
-    let detail = refusal::detail(r);
+    let number = r.number();
+    let detail = r.detail();
     let _ = println!(told; "image_words: refusal {number}, detail {detail}");
 }

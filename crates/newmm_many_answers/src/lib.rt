@@ -12,7 +12,7 @@ ghost use Rattle.newmm_many_answers.specs.inner.Singles.{width_of};
 
 use newmm_rules::Ends;
 use cells::wide;
-use refusal::{Refusal, detail, number};
+use refusal::Refusal;
 
 // The cells of a text's answer.
 pub const ANSWER: usize = 4;
@@ -93,7 +93,7 @@ pub fn put_answer(row: &mut [u32], told: Result<Ends, Refusal>)
 {
     match told {
         Ok(Ends { ends: n, edges }) => put_cells(row, 0, cell(n), cell(edges), 0),
-        Err(r) => put_cells(row, short_cell(number(r)), 0, 0, cell(detail(r))),
+        Err(r) => put_cells(row, short_cell(r.number()), 0, 0, cell(r.detail())),
     }
 }
 

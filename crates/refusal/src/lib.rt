@@ -8,7 +8,7 @@ ghost use Rattle.refusal.specs.Numbers.{number_of, detail_of};
 pub const MAX_SCALARS: usize = 65535;
 
 // Why a call was refused, with the detail that the host is told.
-#[derive(Clone, Copy)]
+#[derive(Clone, Copy, Debug, PartialEq, Eq)]
 pub enum Refusal {
     // 1: the bytes aren't well-formed UTF-8. The length of the longest well-formed prefix.
     IllFormed(usize),
@@ -38,44 +38,45 @@ pub enum Refusal {
     FiguresFull,
 }
 
-// The refusal's number.
-pub fn number(r: Refusal) -> u8
-    ensures { result ≡ number_of r }
-{
-    match r {
-        Refusal::IllFormed(_) => 1,
-        Refusal::TooManyScalars(_) => 2,
-        Refusal::NotAScalar(_) => 3,
-        Refusal::NotADictionary => 4,
-        Refusal::ScratchTooShort(_) => 5,
-        Refusal::OutputTooShort(_) => 6,
-        Refusal::WordTooLong(_) => 7,
-        Refusal::TooFewNodes(_) => 8,
-        Refusal::BadImage(_) => 9,
-        Refusal::WrongPosition(_) => 10,
-        Refusal::BitAboveEnd(_) => 11,
-        Refusal::LimitsTooLarge => 12,
-        Refusal::FiguresFull => 13,
+impl Refusal {
+    // The number that a host is told, from 1 to 13.
+    pub fn number(self) -> u8
+        ensures { result ≡ number_of self }
+    {
+        match self {
+            Refusal::IllFormed(_) => 1,
+            Refusal::TooManyScalars(_) => 2,
+            Refusal::NotAScalar(_) => 3,
+            Refusal::NotADictionary => 4,
+            Refusal::ScratchTooShort(_) => 5,
+            Refusal::OutputTooShort(_) => 6,
+            Refusal::WordTooLong(_) => 7,
+            Refusal::TooFewNodes(_) => 8,
+            Refusal::BadImage(_) => 9,
+            Refusal::WrongPosition(_) => 10,
+            Refusal::BitAboveEnd(_) => 11,
+            Refusal::LimitsTooLarge => 12,
+            Refusal::FiguresFull => 13,
+        }
     }
-}
 
-// The refusal's detail; 0 where it has none.
-pub fn detail(r: Refusal) -> usize
-    ensures { result ≡ detail_of r }
-{
-    match r {
-        Refusal::IllFormed(d) => d,
-        Refusal::TooManyScalars(d) => d,
-        Refusal::NotAScalar(d) => d,
-        Refusal::NotADictionary => 0,
-        Refusal::ScratchTooShort(d) => d,
-        Refusal::OutputTooShort(d) => d,
-        Refusal::WordTooLong(d) => d,
-        Refusal::TooFewNodes(d) => d,
-        Refusal::BadImage(d) => d,
-        Refusal::WrongPosition(d) => d,
-        Refusal::BitAboveEnd(d) => d,
-        Refusal::LimitsTooLarge => 0,
-        Refusal::FiguresFull => 0,
+    // The refusal's detail; 0 where it has none.
+    pub fn detail(self) -> usize
+        ensures { result ≡ detail_of self }
+    {
+        match self {
+            Refusal::IllFormed(d)
+            | Refusal::TooManyScalars(d)
+            | Refusal::NotAScalar(d)
+            | Refusal::ScratchTooShort(d)
+            | Refusal::OutputTooShort(d)
+            | Refusal::WordTooLong(d)
+            | Refusal::TooFewNodes(d)
+            | Refusal::BadImage(d)
+            | Refusal::WrongPosition(d)
+            | Refusal::BitAboveEnd(d) => d,
+            Refusal::NotADictionary => 0,
+            Refusal::LimitsTooLarge | Refusal::FiguresFull => 0,
+        }
     }
 }

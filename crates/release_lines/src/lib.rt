@@ -11,7 +11,7 @@ ghost use Rattle.release_lines.specs.Counting.{fed_full, refused_full, figures_b
 use figures::{feed, feed_refused};
 use figures_cells::Figures;
 use newmm_rules::{Ends, Mode};
-use refusal::{Refusal, number};
+use refusal::Refusal;
 use sheet_replies::answer_line;
 use why_replies::{Cutting, cutting_in, text_in};
 
@@ -23,7 +23,7 @@ fn is_fed_full(told: Result<Ends, Refusal>) -> bool
 {
     match told {
         Ok(Ends { ends: _, edges: _ }) => false,
-        Err(r) => number(r) == FULL,
+        Err(r) => r.number() == FULL,
     }
 }
 
@@ -56,7 +56,7 @@ fn count_text(
 {
     let decoded = utf8::decode(text, scalars, positions);
     match decoded {
-        Err(r) => is_refused_full(feed_refused(figures, number(r) as u32)),
+        Err(r) => is_refused_full(feed_refused(figures, r.number() as u32)),
         Ok(n) => is_fed_full(feed(
             figures,
             &scalars[..n],

@@ -37,9 +37,9 @@ fn write_refusal(out: &mut [u8], r: Refusal) -> usize
     ensures out_after { out.new ≡ written (text_of_reply (Reply.Refused r) []) out.old }
 {
     let a = keep(out, 0, b"! ");
-    let b = keep_number(out, a, refusal::number(r) as usize);
+    let b = keep_number(out, a, r.number() as usize);
     let c = keep(out, b, b" ");
-    keep_number(out, c, refusal::detail(r))
+    keep_number(out, c, r.detail())
 }
 
 // The numbers of a row with single spaces.

@@ -260,7 +260,7 @@ fn show_refused(rt: &impl Print, r: Refusal, pairs: &[u32], scratch: &[u32], sho
     if shown {
         print_refusal(rt, r);
     }
-    let number = refusal::number(r);
+    let number = r.number();
     if number == 13 {
         print(rt, b" ");
         print_left(rt, scratch);

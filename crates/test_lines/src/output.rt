@@ -22,9 +22,9 @@ pub fn print_number(rt: &impl Print, n: usize) {
 // `! number detail`
 pub fn print_refusal(rt: &impl Print, r: Refusal) {
     print(rt, b"! ");
-    print_number(rt, refusal::number(r) as usize);
+    print_number(rt, r.number() as usize);
     print(rt, b" ");
-    print_number(rt, refusal::detail(r));
+    print_number(rt, r.detail());
 }
 
 // The first n cells of row, or all of it where there are fewer.

@@ -181,7 +181,7 @@ fn print_pairs(rt: &impl Print, out: &[u32], n: usize) {
 }
 
 fn refused(rt: &impl Print, r: Refusal, out: &[u32], scratch: &[u32]) {
-    let number = refusal::number(r);
+    let number = r.number();
     if number == 6 {
         expect_zero(rt, scratch);
     } else {

@@ -13,9 +13,9 @@ pub fn tell(rt: &impl Print, answer: Result<usize, Refusal>) {
 
 pub fn tell_refusal(rt: &impl Print, r: Refusal) {
     print(rt, b"!");
-    print_number(rt, refusal::number(r) as usize);
+    print_number(rt, r.number() as usize);
     print(rt, b".");
-    print_number(rt, refusal::detail(r));
+    print_number(rt, r.detail());
 }
 
 // Whether the word is held, and its class.

@@ -154,7 +154,7 @@ fn call(
             print_number(rt, edges);
         }
         Err(r) => {
-            let number = refusal::number(r);
+            let number = r.number();
             if number == 6 {
                 expect_zero(rt, scratch);
             } else {

@@ -152,9 +152,9 @@ fn told(rt: &impl Print, answer: Result<usize, Refusal>) {
 
 fn refused(rt: &impl Print, r: Refusal) {
     print(rt, b"!");
-    print_number(rt, refusal::number(r) as usize);
+    print_number(rt, r.number() as usize);
     print(rt, b".");
-    print_number(rt, refusal::detail(r));
+    print_number(rt, r.detail());
 }
 
 // Whether the word is held, and its class.

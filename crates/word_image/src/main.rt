@@ -227,7 +227,7 @@ fn tell_line<P: Print>(told: &P, before: u64) {
 }
 
 fn tell_refusal<P: Print>(told: &P, r: Refusal) {
-    let number = refusal::number(r);
-    let detail = refusal::detail(r);
+    let number = r.number();
+    let detail = r.detail();
     let _ = println!(told; "refusal {number}, detail {detail}");
 }
