@@ -1,17 +1,15 @@
 -- What the tests on a record tell. Assumes nothing.
-use mathlib.Core.Path.{◌≡◌, refl, sym, ap, subst, ◌∙◌}
-use mathlib.Core.Bool.{Bool, true, false, ◌&&◌}
-use mathlib.Core.List.{List, [], ◌∷◌}
-use Prim.Native.Nat.{ℕ, suc, ◌+◌, ◌-◌, ◌*◌, ◌≤◌, ◌<◌}
+use mathlib.Core.Path.{◌≡◌, refl, sym, ap, ◌∙◌}
+use mathlib.Core.Bool.{true, false}
+use mathlib.Core.List.{List}
+use Prim.Native.Nat.{ℕ, ◌+◌, ◌-◌, ◌≤◌, ◌<◌}
 use native.Mathlib.Omega.{arith}
 use borrow.Author.Tests.{le-leb, lt-leb, eq-eqb, ne_eqb}
-use lib.Dec.{eqb, leb}
-use lib.ListN.{length, get_or, take, drop, length-drop, length-take}
+use lib.ListN.{length, take, drop, length-drop}
 use lib.Seq.{drop-drop, take-take, length-take-le}
 use Rattle.lists.proofs.Parts.{drop_take}
-use Rattle.utf8.specs.Decoding.{run_all}
 use Rattle.image_rules.specs.Records.{value}
-use Rattle.image_rules.specs.Reading.{size_at, whole, kind_at, body_at, behind, word_bytes, term_of, follows, is_word, is_last}
+use Rattle.image_rules.specs.Reading.{size_at, whole, kind_at, body_at, behind, word_bytes, term_of, is_word, is_last}
 use Rattle.image_record.specs.inner.Records.{Entry, End, Neither}
 
 module _ (s : List ℕ) (at : ℕ) (l : at ≤ length s) where

@@ -17,22 +17,13 @@ pub enum Record {
     Broken,
 }
 
-fn wide(b: u8) -> usize
-    ensures value { result ≡ b }
-    ensures upper_bound { result ≤ 255 }
-{
-    b as usize
-}
-
 // The number of two bytes.
 fn two(s: &[u8], at: usize) -> usize
     requires { at + 2 ≤ length s.now }
     ensures value { result ≡ value (take 2 (drop at s.now)) }
     ensures upper_bound { result ≤ 65535 }
 {
-    let a = wide(s[at]);
-    let b = wide(s[at + 1]);
-    a + 256 * b
+    usize::from(s[at]) + 256 * usize::from(s[at + 1])
 }
 
 // The number of four bytes.
@@ -41,9 +32,7 @@ fn four(s: &[u8], at: usize) -> usize
     ensures value { result ≡ value (take 4 (drop at s.now)) }
     ensures upper_bound { result ≤ 4294967295 }
 {
-    let a = two(s, at);
-    let b = two(s, at + 2);
-    a + 65536 * b
+    two(s, at) + 65536 * two(s, at + 2)
 }
 
 // The record that starts at a place.
@@ -56,28 +45,24 @@ pub fn record_at(image: &[u8], at: usize) -> Record
         return Record::Broken;
     }
     let size = four(image, at);
-    if size < 2 {
+    if size < 2 || left - 4 < size {
         return Record::Broken;
     }
-    if left - 4 < size {
-        return Record::Broken;
-    }
-    let kind = two(image, at + 4);
-    if kind == 0 {
-        if size != 6 {
-            return Record::Broken;
-        }
-        return Record::Last(four(image, at + 6));
-    }
-    if kind != 1 {
-        return Record::Broken;
-    }
-    if size < 5 {
-        return Record::Broken;
-    }
-    Record::Word {
-        class: two(image, at + 6),
-        from: at + 8,
-        to: at + 4 + size,
+    match two(image, at + 4) {
+        0 => if size == 6 {
+            Record::Last(four(image, at + 6))
+        } else {
+            Record::Broken
+        },
+        1 => if 5 <= size {
+            Record::Word {
+                class: two(image, at + 6),
+                from: at + 8,
+                to: at + 4 + size,
+            }
+        } else {
+            Record::Broken
+        },
+        _ => Record::Broken,
     }
 }
