@@ -1,5 +1,5 @@
 -- The refusals of the three calls, and what a call that comes past them has. Assumes nothing.
-use Rattle.std.specs.Prelude.{Result, Ok, Err}
+use Rattle.std.specs.Prelude.{Option, Some, Result, Ok, Err}
 use Prim.Native.Nat.{ℕ, ◌+◌, ◌*◌, ◌-◌, ◌/◌, ◌%◌, ◌≤◌, ◌<◌}
 use native.Mathlib.Omega.{arith}
 use mathlib.Core.Path.{◌≡◌, refl, sym, ◌∙◌, ap, ap₂}
@@ -16,9 +16,6 @@ use Rattle.refusal.specs.Answers.{Cause, answer, output, long_cause, out_cause}
 use Rattle.refusal.proofs.Order.{refused_first}
 use Rattle.refusal.proofs.Causes.{none_of, again, still, handed, no_output, cause_yes, cause_no, out_short, out_fits}
 use Rattle.newmm_rules.specs.Positions.{up_from, those, member}
-use Rattle.break_map_rules.specs.declared.NextBreak.{NextBreak}
-use Rattle.break_map_rules.specs.declared.NextBreak.TheVariants.{At}
-use Rattle.break_map_rules.specs.declared.NextBreak.TheVariants as next
 use Rattle.break_map_rules.specs.Maps.{cells_for, bits_for, word, cells, map_of, is_break, breaks, breaks_up_to, breaks_above, bits_above}
 use Rattle.break_map_rules.specs.Ends.{first_wrong, AllRight}
 use Rattle.break_map_rules.specs.Answers.{size_causes, ends_cause, position_cause, above_cause, map_answer, map_after, read_causes, count_answer, first_of, unless_refused, next_answer}
@@ -123,14 +120,14 @@ module _ (n : ℕ) (map : List ℕ) (position : ℕ) {used : ℕ} (sized : answe
         ap Ok (used_is n (length map) sized)
         ∙ cause_no placed (above_cause n map) (cells_for n) (cells_for n) past (ap (λ (xs : List ℕ). ltb 0 (length xs)) e)
 
-    some_above : {q : ℕ} (xs : List ℕ) → first_of xs ≡ At q → bits_above n map ≡ xs → Err (BitAboveEnd q) ≡ answer (read_causes n map position) (cells_for n)
+    some_above : {q : ℕ} (xs : List ℕ) → first_of xs ≡ Some q → bits_above n map ≡ xs → Err (BitAboveEnd q) ≡ answer (read_causes n map position) (cells_for n)
     some_above [] f e = absurd (let z : ◌≡◌ {A = ℕ} 0 1 = cc in omega arith)
     some_above {q} (x ∷ xs) f e =
         let k : q ≡ get_or (bits_above n map) 0 0 = sym (same f) ∙ ap (λ (ys : List ℕ). get_or ys 0 0) (sym e) in
         ap (λ (z : ℕ). Err (BitAboveEnd z)) k
         ∙ cause_yes placed (above_cause n map) (cells_for n) (cells_for n) past (lt-ltb 0 (length (bits_above n map)) (omega (arith, ap length e)))
       where
-        same : At x ≡ At q → x ≡ q
+        same : Some x ≡ Some q → x ≡ q
         same w = cc
 
     -- the last used cell is full
@@ -185,7 +182,7 @@ module _ (n : ℕ) (map : List ℕ) (position : ℕ) {used : ℕ} (h : answer (r
   pub counted : (k : ℕ) → k ≡ breaks_up_to map position → Ok k ≡ count_answer n map position
   counted k e = ap Ok e ∙ again (read_causes n map position) (cells_for n) (breaks_up_to map position) h
 
-  pub found : (r : NextBreak) → r ≡ first_of (breaks map (64 * used - (position + 1)) (position + 1)) → r ≡ next_answer n map position
+  pub found : (r : Option ℕ) → r ≡ first_of (breaks map (64 * used - (position + 1)) (position + 1)) → Ok r ≡ next_answer n map position
   found r e =
       let a = asked in
       let k : 64 * used - (position + 1) ≡ n - position + (bits_for n - (n + 1)) = omega (arith, a.within, a.cells_used) in
@@ -198,6 +195,6 @@ module _ (n : ℕ) (map : List ℕ) (position : ℕ) {used : ℕ} (h : answer (r
       ∙ ap (λ (z : Result ℕ Refusal). unless_refused z (first_of (breaks_above n map position))) (again (read_causes n map position) (cells_for n) 0 h)
 
 pub not_asked : (n : ℕ) (map : List ℕ) (position : ℕ) {a : Result ℕ Refusal} {r : Refusal} → a ≡ answer (read_causes n map position) (cells_for n) → a ≡ Err r
-    → next.Refused r ≡ next_answer n map position
+    → ◌≡◌ {A = Result (Option ℕ) Refusal} (Err r) (next_answer n map position)
 not_asked n map position is e =
     ap (λ (z : Result ℕ Refusal). unless_refused z (first_of (breaks_above n map position))) (still (read_causes n map position) (cells_for n) 0 (sym is ∙ e))

@@ -6,7 +6,6 @@ ghost use Rattle.break_map_rules.specs.Answers.{read_causes, count_answer, next_
 
 use crate::sizes::check_size;
 use break_map_cells::{BITS, bits_from, count_up_to, first_from, lowest};
-use break_map_rules::NextBreak;
 use refusal::Refusal;
 
 // Refusals 2, 6, 10 and 11; accepted with the cells that the map takes.
@@ -37,12 +36,9 @@ pub fn breaks_up_to(n: usize, map: &[u64], position: usize) -> Result<usize, Ref
 }
 
 // The first break above a position, up to n. Refusals 2, 6, 10, 11.
-pub fn next_break(n: usize, map: &[u64], position: usize) -> NextBreak
+pub fn next_break(n: usize, map: &[u64], position: usize) -> Result<Option<usize>, Refusal>
     ensures { result ≡ next_answer n map.now position }
 {
-    let checked = check_read(n, map, position);
-    match checked {
-        Err(r) => NextBreak::Refused(r),
-        Ok(used) => first_from(map, used, position + 1),
-    }
+    let used = check_read(n, map, position)?;
+    Ok(first_from(map, used, position + 1))
 }

@@ -5,7 +5,6 @@ ghost use Rattle.break_map_rules.specs.Answers.{map_answer, map_after};
 
 use crate::sizes::check_size;
 use break_map_cells::write_bits;
-use cells::wide;
 use refusal::Refusal;
 
 // The index of the first end that is 0, over n or not above the end before it, or the number of
@@ -14,19 +13,14 @@ fn first_wrong(n: usize, ends: &[u32]) -> usize
     ensures { result ≡ first_wrong n ends.now }
 {
     let mut before = 0;
-    let mut i = 0;
-    while i < ends.len() {
-        let end = wide(ends[i]);
-        if end <= before {
-            return i;
-        }
-        if n < end {
+    for (i, cell) in ends.iter().enumerate() {
+        let end = *cell as usize;
+        if end <= before || n < end {
             return i;
         }
         before = end;
-        i += 1;
     }
-    i
+    ends.len()
 }
 
 // Writes the map of the ends of a text of n characters; accepted with the cells that it takes.

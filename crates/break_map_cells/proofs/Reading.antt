@@ -1,4 +1,5 @@
 -- Breaks that are looked for and counted, cell by cell. Assumes nothing.
+use Rattle.std.specs.Prelude.{None, Some}
 use Prim.Native.Nat.{ℕ, suc, ◌+◌, ◌*◌, ◌-◌, ◌/◌, ◌%◌, ◌^◌, ◌≤◌, ◌<◌}
 use native.Mathlib.Omega.{arith}
 use mathlib.Core.Path.{◌≡◌, refl, sym, ◌∙◌, ap, ap₂}
@@ -7,7 +8,6 @@ use lib.ListN.{length, get_or}
 use lib.Count.{ones, count_trailing_zeros}
 use Rattle.newmm_rules.specs.Positions.{up_from, those, how_many}
 use Rattle.newmm_rules.proofs.Counting.{many_most}
-use Rattle.break_map_rules.specs.declared.NextBreak.TheVariants.{At, Nothing}
 use Rattle.break_map_rules.specs.Maps.{Cells, word, is_break, breaks, breaks_up_to}
 use Rattle.break_map_rules.specs.Answers.{first_of}
 use Rattle.break_map_rules.proofs.Bits.{word_shift, ones_are, ones_upto, none_are, first_is}
@@ -31,7 +31,7 @@ pub record Past (map : List ℕ) (cells from p : ℕ) : Type 0 where
 pub past_none : (map : List ℕ) (cells from : ℕ) → Past map cells from from
 past_none map cells from = record { rest = refl }
 
-front : (xs ys : List ℕ) {q : ℕ} → first_of xs ≡ At q → first_of (xs ++ ys) ≡ At q
+front : (xs ys : List ℕ) {q : ℕ} → first_of xs ≡ Some q → first_of (xs ++ ys) ≡ Some q
 front [] ys e = absurd (let z : ◌≡◌ {A = ℕ} 0 1 = cc in omega arith)
 front (x ∷ xs) ys e = e
 
@@ -53,18 +53,18 @@ module _ {map : List ℕ} {cells from p : ℕ} (s : Past map cells from p) where
           rest = s.rest ∙ ap first_of (apart ∙ ap (λ (xs : List ℕ). xs ++ breaks map (64 * cells - next) next) (none_are (is_break map) (64 - p % 64) p (sym is ∙ z)));
         }
 
-    pub past_found : (bits ≡ 0 → ⊥) → {r : ℕ} → r ≡ count_trailing_zeros 64 bits → At (p + r) ≡ first_of (breaks map (64 * cells - from) from)
+    pub past_found : (bits ≡ 0 → ⊥) → {r : ℕ} → r ≡ count_trailing_zeros 64 bits → Some (p + r) ≡ first_of (breaks map (64 * cells - from) from)
     past_found n {r} e =
         let w = word (is_break map) (64 - p % 64) p in
         let k : r ≡ count_trailing_zeros 64 w = e ∙ ap (count_trailing_zeros 64) is in
-        ap (λ (x : ℕ). At (p + x)) k
+        ap (λ (x : ℕ). Some (p + x)) k
         ∙ sym (s.rest ∙ ap first_of apart ∙ front (breaks map (64 - p % 64) p) (breaks map (64 * cells - next) next)
         (first_is (is_break map) 64 (64 - p % 64) p (omega arith) (some n)))
       where
         some : (bits ≡ 0 → ⊥) → 0 < word (is_break map) (64 - p % 64) p
         some f = omega (arith, is, f)
 
-  pub past_all : 64 * cells ≤ p → Nothing ≡ first_of (breaks map (64 * cells - from) from)
+  pub past_all : 64 * cells ≤ p → None ≡ first_of (breaks map (64 * cells - from) from)
   unfolding up_from those
   past_all h = let e : 64 * cells - p ≡ 0 = omega arith in sym (s.rest ∙ ap (λ (k : ℕ). first_of (breaks map k p)) e)
 

@@ -13,29 +13,15 @@ ghost use Rattle.newmm_rules.specs.Positions.{how_many, member};
 ghost use Rattle.break_map_rules.specs.Answers.{first_of};
 ghost use Rattle.break_map_rules.specs.Maps.{word, cells, is_break, breaks, breaks_up_to};
 
-use break_map_rules::NextBreak;
-use cells::wide;
-
 // The bits of a cell.
 pub const BITS: usize = 64;
-
-fn clear_all(map: &mut [u64])
-    ensures { map.new ≡ replicate (length map.old) 0 }
-{
-    let mut i = 0;
-    while i < map.len() {
-        map[i] = 0;
-        i += 1;
-    }
-}
 
 fn set_bit(map: &mut [u64], p: usize)
     requires { p < 64 * length map.old }
     ensures { map.new
         ≡ set map.old (p / 64) (bit_or (get_or map.old (p / 64) 0) (2 ^ (p % 64))) }
 {
-    let c = p / BITS;
-    map[c] = map[c] | (1 << (p % BITS));
+    map[p / BITS] |= 1 << (p % BITS);
 }
 
 // Sets the bits at the given positions in cells that are all 0.
@@ -45,10 +31,8 @@ fn set_bits(map: &mut [u64], positions: &[u32])
     ensures { map.new
         ≡ cells (λ (p : ℕ). member p positions.now) (length map.old) 0 }
 {
-    let mut i = 0;
-    while i < positions.len() {
-        set_bit(map, wide(positions[i]));
-        i += 1;
+    for p in positions {
+        set_bit(map, *p as usize);
     }
 }
 
@@ -58,7 +42,7 @@ pub fn write_bits(map: &mut [u64], positions: &[u32])
     ensures { map.new
         ≡ cells (λ (p : ℕ). member p positions.now) (length map.old) 0 }
 {
-    clear_all(map);
+    map.fill(0);
     set_bits(map, positions);
 }
 
@@ -74,11 +58,11 @@ pub fn bits_from(map: &[u64], p: usize) -> u64
 pub fn lowest(bits: u64) -> usize
     ensures { (result ≡ count_trailing_zeros 64 bits) × (result ≤ 64) }
 {
-    wide(u64::trailing_zeros(bits))
+    bits.trailing_zeros() as usize
 }
 
 // The first break from position `from` on, in the first cells of a map.
-pub fn first_from(map: &[u64], cells: usize, from: usize) -> NextBreak
+pub fn first_from(map: &[u64], cells: usize, from: usize) -> Option<usize>
     requires { (cells ≤ length map.now) × (cells ≤ 1024) }
     ensures { result ≡ first_of (breaks map.now (64 * cells - from) from) }
 {
@@ -86,17 +70,17 @@ pub fn first_from(map: &[u64], cells: usize, from: usize) -> NextBreak
     while p < BITS * cells {
         let bits = bits_from(map, p);
         if bits != 0 {
-            return NextBreak::At(p + lowest(bits));
+            return Some(p + lowest(bits));
         }
         p = (p / BITS + 1) * BITS;
     }
-    NextBreak::Nothing
+    None
 }
 
 fn ones_of(bits: u64) -> usize
     ensures { (result ≡ ones bits) × (result ≤ 64) }
 {
-    wide(u64::count_ones(bits))
+    bits.count_ones() as usize
 }
 
 // The number of breaks up to and including a position.
@@ -106,10 +90,8 @@ pub fn count_up_to(map: &[u64], position: usize) -> usize
 {
     let last = position / BITS;
     let mut count = 0;
-    let mut i = 0;
-    while i < last {
-        count += ones_of(map[i]);
-        i += 1;
+    for bits in &map[..last] {
+        count += ones_of(*bits);
     }
     count + ones_of(map[last] << (BITS - 1 - position % BITS))
 }

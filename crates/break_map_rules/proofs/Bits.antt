@@ -1,4 +1,5 @@
 -- The bits of a cell: one by one, counted, looked for and set. Assumes nothing.
+use Rattle.std.specs.Prelude.{Some}
 use Prim.Native.Nat.{ℕ, zero, suc, ◌+◌, ◌*◌, ◌-◌, ◌/◌, ◌%◌, ◌^◌, ◌≤◌, ◌<◌, max}
 use native.Mathlib.Omega.{arith}
 use native.Mathlib.Decide.{dec_lt}
@@ -12,7 +13,6 @@ use lib.Pow.{pow_pos, shr-shr, shl-shr, shl_exact, mod-pow-add}
 use lib.Bits.{bit_or, or_step, or_zero_r}
 use lib.Count.{ones, ones_step, ones_cat, ones-le, count_trailing_zeros, under}
 use Rattle.newmm_rules.specs.Positions.{up_from, keep, those, how_many}
-use Rattle.break_map_rules.specs.declared.NextBreak.TheVariants.{At}
 use Rattle.break_map_rules.specs.Maps.{bit, word}
 use Rattle.break_map_rules.specs.Answers.{first_of}
 
@@ -133,21 +133,21 @@ module _ (f : ℕ → Bool) where
       go false e ih = ih (omega arith)
 
   -- trailing zeros find the first break
-  pub first_is : (D d p : ℕ) → d ≤ D → 0 < word f d p → first_of (those f (up_from d p)) ≡ At (p + count_trailing_zeros D (word f d p))
+  pub first_is : (D d p : ℕ) → d ≤ D → 0 < word f d p → first_of (those f (up_from d p)) ≡ Some (p + count_trailing_zeros D (word f d p))
   unfolding word up_from those count_trailing_zeros
   first_is D zero p h l = absurd (omega arith)
   first_is zero (suc d) p h l = absurd (omega arith)
   first_is (suc D) (suc d) p h l =
       go (f p) l (first_is D d (suc p) (omega arith))
-      ∙ ap₂ (λ (a b : ℕ). At (p + under a (count_trailing_zeros D b))) (sym (low (f p) (word f d (suc p)))) (sym (high (f p) (word f d (suc p))))
+      ∙ ap₂ (λ (a b : ℕ). Some (p + under a (count_trailing_zeros D b))) (sym (low (f p) (word f d (suc p)))) (sym (high (f p) (word f d (suc p))))
     where
       w : ℕ
       w = word f d (suc p)
 
-      go : (b : Bool) → 0 < bit b + 2 * w → (0 < w → first_of (those f (up_from d (suc p))) ≡ At (suc p + count_trailing_zeros D w))
-          → first_of (keep b p (those f (up_from d (suc p)))) ≡ At (p + under (bit b) (count_trailing_zeros D w))
-      go true k ih = let z : p ≡ p + 0 = omega arith in ap At z
-      go false k ih = let z : suc p + count_trailing_zeros D w ≡ p + suc (count_trailing_zeros D w) = omega arith in ih (omega arith) ∙ ap At z
+      go : (b : Bool) → 0 < bit b + 2 * w → (0 < w → first_of (those f (up_from d (suc p))) ≡ Some (suc p + count_trailing_zeros D w))
+          → first_of (keep b p (those f (up_from d (suc p)))) ≡ Some (p + under (bit b) (count_trailing_zeros D w))
+      go true k ih = let z : p ≡ p + 0 = omega arith in ap Some z
+      go false k ih = let z : suc p + count_trailing_zeros D w ≡ p + suc (count_trailing_zeros D w) = omega arith in ih (omega arith) ∙ ap Some z
 
 -- ---- equal tests, equal bits
 

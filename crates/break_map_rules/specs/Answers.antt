@@ -1,11 +1,8 @@
 -- What the three calls answer, and what becomes of the row that is written.
-use Rattle.std.specs.Prelude.{ℕ, List, [], ◌∷◌, ◌++◌, length, get_or, ltb, Result, Ok, Err}
+use Rattle.std.specs.Prelude.{ℕ, List, [], ◌∷◌, ◌++◌, length, get_or, ltb, Option, None, Some, Result, Ok, Err}
 use Rattle.refusal.specs.declared.Refusal.{Refusal}
 use Rattle.refusal.specs.declared.Refusal.TheVariants.{WrongPosition, BitAboveEnd}
 use Rattle.refusal.specs.Answers.{Cause, answer, output, long_cause, out_cause}
-use Rattle.break_map_rules.specs.declared.NextBreak.{NextBreak}
-use Rattle.break_map_rules.specs.declared.NextBreak.TheVariants.{At, Nothing}
-use Rattle.break_map_rules.specs.declared.NextBreak.TheVariants as next
 use Rattle.break_map_rules.specs.Maps.{cells_for, map_of, breaks_up_to, breaks_above, bits_above}
 use Rattle.break_map_rules.specs.Ends.{first_wrong}
 
@@ -49,16 +46,16 @@ read_causes n map position = size_causes n (length map) ++ (position_cause n pos
 abbrev pub count_answer : ℕ → List ℕ → ℕ → Result ℕ Refusal
 count_answer n map position = answer (read_causes n map position) (breaks_up_to map position)
 
--- The first of a row of breaks. No next break is its own answer.
-abbrev pub first_of : List ℕ → NextBreak
-first_of [] = Nothing
-first_of (q ∷ qs) = At q
+-- The first of a row of breaks. No next break is an answer, and no refusal.
+abbrev pub first_of : List ℕ → Option ℕ
+first_of [] = None
+first_of (q ∷ qs) = Some q
 
 -- what is told unless the call is refused
-abbrev pub unless_refused : Result ℕ Refusal → NextBreak → NextBreak
-unless_refused (Ok k) found = found
-unless_refused (Err r) found = next.Refused r
+abbrev pub unless_refused : Result ℕ Refusal → Option ℕ → Result (Option ℕ) Refusal
+unless_refused (Ok k) found = Ok found
+unless_refused (Err r) found = Err r
 
 -- The first break above a position.
-abbrev pub next_answer : ℕ → List ℕ → ℕ → NextBreak
+abbrev pub next_answer : ℕ → List ℕ → ℕ → Result (Option ℕ) Refusal
 next_answer n map position = unless_refused (answer (read_causes n map position) 0) (first_of (breaks_above n map position))

@@ -1,10 +1,8 @@
 -- What a host is told of a map of breaks, and what becomes of the row that it lends: the answer and
 -- the row of the library function, as its contract gives them.
-use Rattle.std.specs.Prelude.{ℕ, ◌≡◌, List, length}
+use Rattle.std.specs.Prelude.{ℕ, ◌≡◌, List, length, Option, None, Some, Result, Ok, Err}
 use Rattle.refusal.specs.Numbers.{number_of, detail_of}
-use Rattle.break_map_rules.specs.declared.NextBreak.{NextBreak}
-use Rattle.break_map_rules.specs.declared.NextBreak.TheVariants.{At, Nothing}
-use Rattle.break_map_rules.specs.declared.NextBreak.TheVariants as variants
+use Rattle.refusal.specs.declared.Refusal.{Refusal}
 use Rattle.break_map_rules.specs.Answers.{map_answer, map_after, count_answer, next_answer}
 use Rattle.host_telling.specs.Told.{Told, tells}
 
@@ -28,10 +26,10 @@ told_next number found place detail = record { number = number; found = found; p
 
 -- Found is 1, and the place that of the break; or both are 0, where there is none and where the
 -- call is refused.
-abbrev pub tells_next : NextBreak → ToldNext
-tells_next (At q) = told_next 0 1 q 0
-tells_next Nothing = told_next 0 0 0 0
-tells_next (variants.Refused r) = told_next (number_of r) 0 0 (detail_of r)
+abbrev pub tells_next : Result (Option ℕ) Refusal → ToldNext
+tells_next (Ok (Some q)) = told_next 0 1 q 0
+tells_next (Ok None) = told_next 0 0 0 0
+tells_next (Err r) = told_next (number_of r) 0 0 (detail_of r)
 
 -- THE NEXT BREAK IS LOOKED FOR.
 abbrev pub NextTold : ℕ → List ℕ → ℕ → ToldNext → Type 0

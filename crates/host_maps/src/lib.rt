@@ -5,8 +5,8 @@ ghost use Rattle.std.specs.Prelude.{◌≡◌};
 ghost use Rattle.host_telling.specs.Told.{told};
 ghost use Rattle.host_maps.specs.Calls.{told_next, tells_next, MapTold, CountTold, NextTold};
 
-use break_map_rules::NextBreak;
 use host_telling::{tell, wide};
+use refusal::Refusal;
 
 // Writes the map of the ends of a text of n characters; accepted with the cells that it takes.
 // Refusals 2, 6, 10.
@@ -39,23 +39,28 @@ pub fn breaks_up_to(
 }
 
 // Tells the answer of a search for the next break.
-fn tell_next(a: NextBreak, found: &mut usize, place: &mut usize, detail: &mut usize) -> u32
+fn tell_next(
+    a: Result<Option<usize>, Refusal>,
+    found: &mut usize,
+    place: &mut usize,
+    detail: &mut usize,
+) -> u32
     ensures { told_next result found.new place.new detail.new ≡ tells_next a }
 {
     match a {
-        NextBreak::At(q) => {
+        Ok(Some(q)) => {
             *found = 1;
             *place = q;
             *detail = 0;
             0
         }
-        NextBreak::Nothing => {
+        Ok(None) => {
             *found = 0;
             *place = 0;
             *detail = 0;
             0
         }
-        NextBreak::Refused(r) => {
+        Err(r) => {
             *found = 0;
             *place = 0;
             *detail = r.detail();

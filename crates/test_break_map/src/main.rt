@@ -8,7 +8,6 @@
 ghost use Rattle.std.specs.Prelude.{◌≤◌, length};
 
 use break_map::{break_map, breaks_up_to, next_break};
-use break_map_rules::NextBreak;
 use refusal::Refusal;
 use test_lines::{
     behind, field, first, is, lent, number, part_at, print, print_cells, print_number,
@@ -188,11 +187,11 @@ fn find(rt: &impl Print, line: &[u8], map: &mut [u64], halves: &mut [u32]) {
         number(rt, field(line, 3)),
     );
     match answer {
-        NextBreak::At(p) => {
+        Ok(Some(p)) => {
             print(rt, b"ok ");
             print_number(rt, p);
         }
-        NextBreak::Nothing => print(rt, b"ok none"),
-        NextBreak::Refused(r) => print_refusal(rt, r),
+        Ok(None) => print(rt, b"ok none"),
+        Err(r) => print_refusal(rt, r),
     }
 }

@@ -65,9 +65,9 @@ module _ (n : ℕ) (ends old : List ℕ) {k : ℕ} (h : map_answer n ends (lengt
     unfolding how_many
     counts = read (breaks_up_to row p) ∙ ap (λ (xs : List ℕ). Ok (length xs)) (row_breaks (p + 1) 0 (omega arith))
 
-    pub finds : next_answer n row p ≡ first_of (those test (up_from (n - p) (p + 1)))
+    pub finds : next_answer n row p ≡ Ok (first_of (those test (up_from (n - p) (p + 1))))
     finds =
-        ap (λ (a : Result ℕ Refusal). unless_refused a (first_of (breaks_above n row p))) (read 0) ∙ ap first_of (row_breaks (n - p) (p + 1) (omega arith))
+        ap (λ (a : Result ℕ Refusal). unless_refused a (first_of (breaks_above n row p))) (read 0) ∙ ap (λ (bs : List ℕ). Ok (first_of bs)) (row_breaks (n - p) (p + 1) (omega arith))
 
   pub counts_all : how_many test (n + 1) 0 ≡ length ends
   unfolding how_many

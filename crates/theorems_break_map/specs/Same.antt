@@ -1,10 +1,9 @@
 -- 02, ticket 9: what is shown of maps and ends.
-use Rattle.std.specs.Prelude.{ℕ, ◌+◌, ◌*◌, ◌-◌, ◌≤◌, ◌<◌, ◌≡◌, false, List, [], ◌∷◌, length, get_or, take, Ok}
+use Rattle.std.specs.Prelude.{ℕ, ◌+◌, ◌*◌, ◌-◌, ◌≤◌, ◌<◌, ◌≡◌, false, List, [], ◌∷◌, length, get_or, take, Option, None, Some, Ok}
 use Rattle.std.specs.Int.Count.{ones}
 use Rattle.newmm_rules.specs.Positions.{up_from, those, how_many, member, In}
 use Rattle.break_map_rules.specs.Maps.{Cells, cells_for, map_of, bit_at, is_break, all_breaks, breaks_up_to, breaks_above, bits_above}
 use Rattle.break_map_rules.specs.Ends.{AllRight}
-use Rattle.break_map_rules.specs.declared.NextBreak.TheVariants.{At, Nothing}
 use Rattle.break_map_rules.specs.Answers.{map_answer, map_after, count_answer, first_of, next_answer}
 
 -- ---- THE MAP AND THE ENDS SAY THE SAME
@@ -60,8 +59,8 @@ CountIsEnds = (n : ℕ) (ends : List ℕ) → AllRight n ends → breaks_up_to (
 
 -- the places that stepping by the next break from p comes to, up to where there is none
 pub data Steps (n : ℕ) (map : List ℕ) : ℕ → List ℕ → Type 0 where
-  stop : {p : ℕ} → first_of (breaks_above n map p) ≡ Nothing → Steps n map p []
-  step : {p q : ℕ} {qs : List ℕ} → first_of (breaks_above n map p) ≡ At q → Steps n map q qs → Steps n map p (q ∷ qs)
+  stop : {p : ℕ} → first_of (breaks_above n map p) ≡ None → Steps n map p []
+  step : {p q : ℕ} {qs : List ℕ} → first_of (breaks_above n map p) ≡ Some q → Steps n map q qs → Steps n map p (q ∷ qs)
 
 -- Stepping by the next break from 0 lists the ends.
 abbrev pub StepsListEnds : Type 0
@@ -78,7 +77,7 @@ WrittenAnswers =
     → (p : ℕ)
     → p ≤ n
     → (count_answer n (map_after n ends old) p ≡ Ok (how_many (λ (q : ℕ). member q ends) (p + 1) 0))
-    × (next_answer n (map_after n ends old) p ≡ first_of (those (λ (q : ℕ). member q ends) (up_from (n - p) (p + 1))))
+    × (next_answer n (map_after n ends old) p ≡ Ok (first_of (those (λ (q : ℕ). member q ends) (up_from (n - p) (p + 1)))))
 
 abbrev pub WrittenCount : Type 0
 WrittenCount =

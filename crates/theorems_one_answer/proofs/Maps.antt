@@ -1,5 +1,5 @@
 -- Maps of breaks: no second answer fits, and what holds of their runs. Assumes nothing.
-use Rattle.std.specs.Prelude.{Result}
+use Rattle.std.specs.Prelude.{Option, Result}
 use Rattle.refusal.specs.declared.Refusal.{Refusal}
 use Prim.Native.Nat.{ℕ}
 use mathlib.Core.Path.{◌≡◌, sym, ◌∙◌, subst}
@@ -11,7 +11,6 @@ use Rattle.break_map.proofs.breaks_up_to.Kinds as count_kinds
 use Rattle.break_map.proofs.breaks_up_to.Reads as count_contract
 use Rattle.break_map.proofs.next_break.Kinds as next_kinds
 use Rattle.break_map.proofs.next_break.Reads as next_contract
-use Rattle.break_map_rules.specs.declared.NextBreak.{NextBreak}
 use Rattle.break_map_rules.specs.Maps.{cells_for}
 use Rattle.break_map_rules.specs.Answers.{map_answer, map_after, count_answer, next_answer}
 use Rattle.theorems_break_map.proofs.Written.{written_answers}
@@ -30,7 +29,7 @@ break_map_one κs a x y s t p q = both (answer p.0 q.0) (answer p.1 q.1)
 pub breaks_up_to_one : OneAnswer {A = Result ℕ Refusal} 1 count_kinds.ps count_kinds.r count_contract.Post (λ κs x s. x)
 breaks_up_to_one κs a x y s t p q = answer p q
 
-pub next_break_one : OneAnswer {A = NextBreak} 1 next_kinds.ps next_kinds.r next_contract.Post (λ κs x s. x)
+pub next_break_one : OneAnswer {A = Result (Option ℕ) Refusal} 1 next_kinds.ps next_kinds.r next_contract.Post (λ κs x s. x)
 next_break_one κs a x y s t p q = answer p q
 
 pub maps_of_runs : MapsOfRuns

@@ -87,5 +87,5 @@ MapsOfRuns =
     × ((q : NextRun)
     → AboutMap a m (next_of q)
     → q.answer
-    ≡ first_of
-    (those (λ (p : ℕ). member p (ends_left a k)) (up_from (text_long a - (next_of q).position) ((next_of q).position + 1))))
+    ≡ Ok (first_of
+    (those (λ (p : ℕ). member p (ends_left a k)) (up_from (text_long a - (next_of q).position) ((next_of q).position + 1)))))
