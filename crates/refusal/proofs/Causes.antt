@@ -1,5 +1,7 @@
 -- What the causes of an operation say of an accepted call, and of a refused one. Assumes nothing.
 use Rattle.std.specs.Prelude.{Result, Ok, Err}
+use Rattle.std.specs.Result.{IsErrAnd}
+use Rattle.std.proofs.lemmas.Result.{err_from_is_err_and}
 use Prim.Native.Nat.{ℕ, ◌≤◌, ◌<◌}
 use native.Mathlib.Omega.{arith}
 use mathlib.Core.Path.{◌≡◌, refl, sym, ap, ◌∙◌}
@@ -11,6 +13,10 @@ use Rattle.refusal.specs.declared.Refusal.TheVariants.{OutputTooShort}
 use Rattle.refusal.specs.Answers.{Cause, answer, output, out_cause}
 pub use Rattle.refusal.specs.Firsts.{None}
 use Rattle.refusal.proofs.Order.{not_both, refused_first, accepted_first}
+
+-- what a `?` hands on is the refusal that it met
+pub handed_on : {A : Type 0} {r : Result A Refusal} {e : Refusal} → IsErrAnd r (λ y. y ≡ e) → r ≡ Err e
+handed_on {r = r} h = let p = err_from_is_err_and r h in p.1 ∙ ap Err p.2
 
 pub none_of : (rs : List Cause) (n k : ℕ) → answer rs n ≡ Ok k → None rs
 none_of [] n k h = tt

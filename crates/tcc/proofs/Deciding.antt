@@ -7,8 +7,8 @@ use lib.ListN.{length}
 use borrow.Author.Tests.{ltb-false}
 use Rattle.refusal.specs.declared.Refusal.{Refusal}
 use Rattle.refusal.specs.declared.Refusal.TheVariants.{OutputTooShort}
-use Rattle.refusal.specs.Answers.{answer, numbers, out_cause}
-use Rattle.refusal.proofs.Causes.{none_of, handed, out_short, out_fits}
+use Rattle.refusal.specs.Answers.{numbers, out_cause}
+use Rattle.refusal.proofs.Causes.{handed, out_short, out_fits}
 use Rattle.refusal.proofs.Firsts.{accepted_exactly_if_none}
 use Rattle.char_string_scalars.specs.Scalars.{text_causes, checked}
 use Rattle.tcc_rules.specs.Clusters.{cluster_ends}

@@ -14,7 +14,7 @@ use Rattle.lists.proofs.Rows.{store}
 use Rattle.tcc_rules.specs.Patterns.{winner}
 use Rattle.tcc_rules.specs.Rules.{alternatives}
 use Rattle.tcc_rules.specs.Clusters.{cluster_end, cluster_ends}
-use Rattle.tcc_rules.proofs.Ends.{rest, rest_all, rest_next, rest_over}
+use Rattle.tcc_rules.proofs.Ends.{rest, rest_all, rest_next}
 use Rattle.tcc.proofs.Passes.{Written, written_none, written_room, written_next, counted_all}
 use Rattle.tcc.proofs.Deciding.{right, short, fitting}
 use Rattle.tcc_tables.specs.Answers.{winners_from, winners_of, winners_answer}

@@ -5,7 +5,6 @@
 mod tables;
 
 ghost use Rattle.std.specs.Prelude.{◌≡◌, ◌++◌, ◌≤◌, length, drop};
-ghost use Rattle.refusal.specs.declared.Answer.TheVariants.{Accepted};
 ghost use Rattle.refusal.specs.Limits.{max_text};
 ghost use Rattle.char_string_scalars.specs.Scalars.{checked};
 ghost use Rattle.tcc_rules.specs.Clusters.{cluster_ends};
@@ -70,7 +69,7 @@ fn told_by(
     winners: &mut [u32],
 ) -> Result<usize, Refusal>
     requires tables { Tables classes.now items.now starts.now }
-    requires text_value { checked text.now ≡ Accepted (length text.now) }
+    requires text_value { checked text.now ≡ Ok (length text.now) }
     ensures { Wins text.now ends.old winners.old
         result ends.new winners.new }
 {

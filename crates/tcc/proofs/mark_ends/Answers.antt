@@ -1,4 +1,3 @@
-use Prim.Native.Nat.{◌-◌}
 use native.Mathlib.Omega.{arith}
 use Rattle.tcc.proofs.Passes.{matched}
 use Rattle.tcc.proofs.Marks.{marked_none, marked_next, marked_all}

@@ -1,4 +1,3 @@
-use Prim.Native.Nat.{◌-◌}
 use native.Mathlib.Omega.{arith}
 use Rattle.tcc.proofs.Passes.{matched, counted_all, written_none, written_room, written_next, written_all}
 use Rattle.tcc.proofs.put_ends.Goals as goal

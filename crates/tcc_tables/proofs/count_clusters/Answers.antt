@@ -1,4 +1,3 @@
-use Prim.Native.Nat.{◌-◌}
 use native.Mathlib.Omega.{arith}
 use Rattle.tcc.proofs.Passes.{matched, counted_none, counted_next, counted_all}
 use Rattle.tcc_engine.proofs.Telling.{told_end}

@@ -1,4 +1,3 @@
-use Prim.Native.Nat.{◌-◌}
 use native.Mathlib.Omega.{arith}
 use Rattle.tcc.proofs.Passes.{matched, written_all}
 use Rattle.tcc_engine.proofs.Telling.{told_end, told_number}

@@ -1,23 +1,23 @@
 use Prim.Native.Nat.{min}
-use mathlib.Core.Path.{refl}
+use mathlib.Core.Path.{refl, ◌∙◌}
 use lib.ListN.{length}
-use Rattle.refusal.proofs.Causes.{no_output}
+use Rattle.refusal.proofs.Causes.{handed_on, no_output}
 use Rattle.tcc.proofs.Deciding.{refused}
 use Rattle.tcc_engine.specs.inner.Trying.{part, ungrouped, tried_at}
 use Rattle.tcc_tables.proofs.Putting.{passed}
 use Rattle.tcc_tables.proofs.tcc_winners.Goals as goal
 
-pub returns-in_default : goal.returns-in_default
-returns-in_default c = (
-  refused c.args.text.now (min (length c.args.ends.now) (length c.args.winners.now))
-      c.check_text-checked.ensures c.in_default.is,
-  (no_output _ _ c.in_default.is, no_output _ _ c.in_default.is),
-)
+pub returns-in_err-check_text : goal.returns-in_err-check_text
+returns-in_err-check_text c =
+    let e = handed_on c.from_residual.ensures.1 in (
+      refused c.args.text.now (min (length c.args.ends.now) (length c.args.winners.now)) (e ∙ c.in_err-check_text.ensures) e,
+      (no_output _ _ e, no_output _ _ e),
+    )
 
 -- THE TABLES' RULE, computed: read back, they are the alternatives.
 pub told_by-requires : goal.told_by-requires
 unfolding part ungrouped tried_at
-told_by-requires c = record { tables = record { right = refl; tried = refl; classed = record { many = refl; all = tt }; ends = refl; rising = tt }; text_value = passed c.args.text.now c.check_text-checked.ensures c.in-Ok.is }
+told_by-requires c = record { tables = record { right = refl; tried = refl; classed = record { many = refl; all = tt }; ends = refl; rising = tt }; text_value = passed c.args.text.now c.check_text.ensures c.in_ok-check_text.was }
 
 pub returns : goal.returns
 returns c = c.told_by.ensures
