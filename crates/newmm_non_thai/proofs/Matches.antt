@@ -1,58 +1,32 @@
 -- The alternatives of NON_THAI_PATTERN, a test at a time. Assumes nothing.
 use Prim.Native.Nat.{ℕ, zero, suc, ◌+◌, ◌-◌, ◌≤◌, ◌<◌}
 use native.Mathlib.Omega.{arith}
-use native.Mathlib.Numerals.{add-one}
 use mathlib.Core.Path.{◌≡◌, refl, sym, ◌∙◌, ap}
 use mathlib.Core.Bool.{Bool, true, false, cond, ◌||◌}
 use mathlib.Core.List.{List, [], ◌∷◌}
 use lib.ListN.{length, get_or, take, drop, length-drop}
 use lib.Seq.{drop-drop}
-use lib.Dec.{leb, ltb, eqb}
+use lib.Dec.{ltb}
 use borrow.Author.Tests.{lt-ltb, le-ltb, le-leb, lt-leb, eq-eqb, ne_eqb}
+use Rattle.std.specs.List.{prefix_len, take_while}
+use Rattle.std.proofs.lemmas.List.Folds.{length-prefix_len}
 use Rattle.lists.specs.Scans.{leading}
 use Rattle.lists.proofs.Parts.{tail_drop}
-use Rattle.lists.proofs.Scans.{leading_inside}
-use Rattle.newmm_rules.specs.NonThai.{is_letter, is_digit, is_thai_digit, is_point, is_blank, group_of, groups, number, line_end, first_match, non_thai}
+use Rattle.newmm_rules.specs.NonThai.{is_letter, is_digit, is_thai_digit, is_blank, group_of, groups, number, line_end, first_match, non_thai}
 use Rattle.newmm_rules.proofs.Spans.{group_inside, non_thai_inside}
 
-or_false : (t : Bool) → t ≡ (t || false)
-or_false true = refl
-or_false false = refl
+-- the characters at the front, as std counts them
+leading_prefix : (p : ℕ → Bool) (s : List ℕ) → leading p s ≡ prefix_len p s
+unfolding leading
+leading_prefix p [] = refl
+leading_prefix p (x ∷ s) = go (leading_prefix p s) (p x)
+  where
+    go : leading p s ≡ prefix_len p s → (b : Bool) → cond b (suc (leading p s)) 0 ≡ cond b (1 + prefix_len p s) 0
+    go ih true = omega (arith, ih)
+    go ih false = refl
 
-pub small_letter : (x : ℕ) → (x ≡ 0x2D → ⊥) → 0x61 ≤ x → leb x 0x7A ≡ is_letter x
-small_letter x n h = simp (ne_eqb x 0x2D n, le-leb 0x61 x h, lt-leb x 0x5A (omega arith), le-leb 0x41 x (omega arith)) (or_false (leb x 0x7A))
-
--- ---- a comma or point and digits
-
-module _ (digit : ℕ → Bool) where
-  pub group_none : (s : List ℕ) → length s ≡ 0 → 0 ≡ group_of digit s
-  group_none [] e = refl
-  group_none (x ∷ s) e = absurd (omega arith)
-
-  pub group_other : (s : List ℕ) → is_point (get_or s 0 0) ≡ false → 0 ≡ group_of digit s
-  group_other [] e = refl
-  group_other (x ∷ s) e = simp e
-
-  pub group_back : (s : List ℕ) (k : ℕ) → k ≡ leading digit (take (length s - 1) (drop 1 s)) → k ≡ 0 → 0 ≡ group_of digit s
-  group_back [] k h e = refl
-  group_back (x ∷ s) k h e =
-      let z : leading digit s ≡ 0 = sym (ap (leading digit) (tail_drop (x ∷ s) 1)) ∙ sym h ∙ e in
-      go (is_point x) z
-    where
-      go : (t : Bool) → leading digit s ≡ 0 → 0 ≡ cond t (cond (eqb (leading digit s) 0) 0 (suc (leading digit s))) 0
-      go true z = simp (eq-eqb (leading digit s) 0 z)
-      go false z = refl
-
-  pub group_some : (s : List ℕ) (k : ℕ) → is_point (get_or s 0 0) ≡ true → (length s ≡ 0 → ⊥) → k ≡ leading digit (take (length s - 1) (drop 1 s)) → (k ≡ 0 → ⊥) → k + 1 ≡ group_of digit s
-  group_some [] k p o h n = absurd (o refl)
-  group_some (x ∷ s) k p o h n =
-      let z : leading digit s ≡ k = sym (ap (leading digit) (tail_drop (x ∷ s) 1)) ∙ sym h in
-      add-one k ∙ simp (p, ne_eqb (leading digit s) 0 (λ e. n (sym z ∙ e))) (ap suc (sym z))
-
-  -- digits behind a first character are fewer than all
-  pub tail_most : (s : List ℕ) (k : ℕ) → k ≡ leading digit (take (length s - 1) (drop 1 s)) → (length s ≡ 0 → ⊥) → k + 1 ≤ length s
-  tail_most [] k h n = absurd (n refl)
-  tail_most (x ∷ s) k h n = omega (arith, leading_inside digit s, h ∙ ap (leading digit) (tail_drop (x ∷ s) 1))
+pub run_is_leading : (p : ℕ → Bool) (s : List ℕ) → length (take_while p s) ≡ leading p s
+run_is_leading p s = length-prefix_len p s ∙ sym (leading_prefix p s)
 
 -- ---- all of them
 
@@ -110,57 +84,38 @@ module _ (digit : ℕ → Bool) (s : List ℕ) where
         rest = omega (arith, t.rest);
       }
 
--- ---- a line's end
-
-pub line_none : (s : List ℕ) → length s ≡ 0 → 0 ≡ line_end s
-line_none [] e = refl
-line_none (x ∷ s) e = absurd (omega arith)
-
-pub line_feed : (s : List ℕ) → (length s ≡ 0 → ⊥) → get_or s 0 0 ≡ 0xA → 1 ≡ line_end s
-line_feed [] n e = absurd (n refl)
-line_feed (x ∷ []) n e = simp (eq-eqb x 0xA e)
-line_feed (x ∷ y ∷ s) n e = simp (eq-eqb x 0xA e)
-
-pub line_other : (s : List ℕ) → (get_or s 0 0 ≡ 0xA → ⊥) → (get_or s 0 0 ≡ 0xD → ⊥) → 0 ≡ line_end s
-line_other [] n m = refl
-line_other (x ∷ []) n m = simp (ne_eqb x 0xA n)
-line_other (x ∷ y ∷ s) n m = simp (ne_eqb x 0xA n, ne_eqb x 0xD m)
-
-pub line_lone : (s : List ℕ) → length s ≡ 1 → (get_or s 0 0 ≡ 0xA → ⊥) → 0 ≡ line_end s
-line_lone [] e n = refl
-line_lone (x ∷ []) e n = simp (ne_eqb x 0xA n)
-line_lone (x ∷ y ∷ s) e n = absurd (omega arith)
-
-pub line_both : (s : List ℕ) → (length s ≡ 0 → ⊥) → (length s ≡ 1 → ⊥) → (get_or s 0 0 ≡ 0xA → ⊥) → get_or s 0 0 ≡ 0xD → get_or s 1 0 ≡ 0xA → 2 ≡ line_end s
-line_both [] o l n e f = absurd (o refl)
-line_both (x ∷ []) o l n e f = absurd (l refl)
-line_both (x ∷ y ∷ s) o l n e f = simp (ne_eqb x 0xA n, eq-eqb x 0xD e, eq-eqb y 0xA f)
-
-pub line_not : (s : List ℕ) → (get_or s 0 0 ≡ 0xA → ⊥) → get_or s 0 0 ≡ 0xD → (get_or s 1 0 ≡ 0xA → ⊥) → 0 ≡ line_end s
-line_not [] n e m = refl
-line_not (x ∷ []) n e m = simp (ne_eqb x 0xA n)
-line_not (x ∷ y ∷ s) n e m = simp (ne_eqb x 0xA n, eq-eqb x 0xD e, ne_eqb y 0xA m)
-
 -- ---- the first alternative that matches, by the first character
 
-run_no : (p : ℕ → Bool) (s : List ℕ) → p (get_or s 0 0) ≡ false → leading p s ≡ 0
+-- x is the first character
+pub record First (s : List ℕ) (x : ℕ) : Type 0 where
+  pub some : length s ≡ 0 → ⊥
+  pub is : x ≡ get_or s 0 0
+
+-- as std tells of the first element
+pub first_is : (s : List ℕ) (x : ℕ) → (0 < length s) × ((d : ℕ) → x ≡ get_or s 0 d) → First s x
+first_is s x h = record { some = λ e. omega (arith, h.0); is = h.1 0 }
+
+run_no : (p : ℕ → Bool) (s : List ℕ) (x : ℕ) → First s x → p x ≡ false → leading p s ≡ 0
 unfolding leading
-run_no p [] e = refl
-run_no p (x ∷ s) e = simp e
+run_no p [] x f e = refl
+run_no p (y ∷ s) x f e = let h : p y ≡ false = sym (ap p f.is) ∙ e in simp h
 
-run_yes : (p : ℕ → Bool) (s : List ℕ) → (length s ≡ 0 → ⊥) → p (get_or s 0 0) ≡ true → leading p s ≡ 0 → ⊥
+run_yes : (p : ℕ → Bool) (s : List ℕ) (x : ℕ) → First s x → p x ≡ true → leading p s ≡ 0 → ⊥
 unfolding leading
-run_yes p [] n e z = n refl
-run_yes p (x ∷ s) n e z = let k : suc (leading p s) ≡ 0 = simp e at z in omega arith
+run_yes p [] x f e z = f.some refl
+run_yes p (y ∷ s) x f e z =
+    let h : p y ≡ true = sym (ap p f.is) ∙ e in
+    let k : suc (leading p s) ≡ 0 = simp h at z in
+    omega arith
 
-number_no : (p : ℕ → Bool) (s : List ℕ) → p (get_or s 0 0) ≡ false → number p s ≡ 0
+number_no : (p : ℕ → Bool) (s : List ℕ) (x : ℕ) → First s x → p x ≡ false → number p s ≡ 0
 unfolding number
-number_no p s e = simp (eq-eqb (leading p s) 0 (run_no p s e))
+number_no p s x f e = simp (eq-eqb (leading p s) 0 (run_no p s x f e))
 
-number_yes : (p : ℕ → Bool) (s : List ℕ) → (length s ≡ 0 → ⊥) → p (get_or s 0 0) ≡ true → number p s ≡ 0 → ⊥
+number_yes : (p : ℕ → Bool) (s : List ℕ) (x : ℕ) → First s x → p x ≡ true → number p s ≡ 0 → ⊥
 unfolding number
-number_yes p s n e z =
-    let r = run_yes p s n e in
+number_yes p s x f e z =
+    let r = run_yes p s x f e in
     let k : leading p s + groups (length s) p (drop (leading p s) s) ≡ 0 = simp (ne_eqb (leading p s) 0 r) at z in
     r (omega arith)
 
@@ -176,90 +131,118 @@ none_left : first_match [] ≡ 0
 unfolding first_match
 none_left = refl
 
-module _ (s : List ℕ) where
-  pub no_text : length s ≡ 0 → 0 ≡ non_thai s
-  no_text e = omega (arith, non_thai_inside s)
+pub no_text : (s : List ℕ) → length s ≤ 0 → 0 ≡ non_thai s
+no_text s e = omega (arith, non_thai_inside s)
 
-  module _ (some : length s ≡ 0 → ⊥) where
-    pub by_letters : is_letter (get_or s 0 0) ≡ true → leading is_letter s ≡ non_thai s
+pub no_match : (s : List ℕ) → length s ≤ 0 → false ≡ ltb 0 (non_thai s)
+no_match s e = sym (le-ltb 0 (non_thai s) (omega (arith, no_text s e)))
+
+-- what a chain of || comes to
+pub or_yes : {v a : Bool} (b : Bool) → v ≡ a → a ≡ true → v ≡ (a || b)
+or_yes b e h = e ∙ h ∙ sym (ap (λ (t : Bool). t || b) h)
+
+pub or_no : {v a b : Bool} → a ≡ false → v ≡ b → v ≡ (a || b)
+or_no {b = b} h e = e ∙ sym (ap (λ (t : Bool). t || b) h)
+
+module _ (s : List ℕ) (x : ℕ) (f : First s x) where
+  pub by_letters : is_letter x ≡ true → leading is_letter s ≡ non_thai s
+  unfolding non_thai
+  by_letters l = stop _ _ (run_yes is_letter s x f l)
+
+  module _ (no_l : is_letter x ≡ false) where
+    past_letters : non_thai s ≡ first_match (number is_digit s ∷ number is_thai_digit s ∷ leading is_blank s ∷ line_end s ∷ [])
     unfolding non_thai
-    by_letters l = stop _ _ (run_yes is_letter s some l)
+    past_letters = pass _ _ (run_no is_letter s x f no_l)
 
-    module _ (no_l : is_letter (get_or s 0 0) ≡ false) where
-      past_letters : non_thai s ≡ first_match (number is_digit s ∷ number is_thai_digit s ∷ leading is_blank s ∷ line_end s ∷ [])
-      unfolding non_thai
-      past_letters = pass _ _ (run_no is_letter s no_l)
+    pub by_digits : is_digit x ≡ true → number is_digit s ≡ non_thai s
+    by_digits d = stop _ _ (number_yes is_digit s x f d) ∙ sym past_letters
 
-      pub by_digits : is_digit (get_or s 0 0) ≡ true → number is_digit s ≡ non_thai s
-      by_digits d = stop _ _ (number_yes is_digit s some d) ∙ sym past_letters
+    module _ (no_d : is_digit x ≡ false) where
+      past_digits : non_thai s ≡ first_match (number is_thai_digit s ∷ leading is_blank s ∷ line_end s ∷ [])
+      past_digits = past_letters ∙ pass _ _ (number_no is_digit s x f no_d)
 
-      module _ (no_d : is_digit (get_or s 0 0) ≡ false) where
-        past_digits : non_thai s ≡ first_match (number is_thai_digit s ∷ leading is_blank s ∷ line_end s ∷ [])
-        past_digits = past_letters ∙ pass _ _ (number_no is_digit s no_d)
+      by_thai_digits : is_thai_digit x ≡ true → number is_thai_digit s ≡ non_thai s
+      by_thai_digits d = stop _ _ (number_yes is_thai_digit s x f d) ∙ sym past_digits
 
-        pub by_thai_digits : is_thai_digit (get_or s 0 0) ≡ true → number is_thai_digit s ≡ non_thai s
-        by_thai_digits d = stop _ _ (number_yes is_thai_digit s some d) ∙ sym past_digits
+      module _ (no_t : is_thai_digit x ≡ false) where
+        past_thai_digits : non_thai s ≡ first_match (leading is_blank s ∷ line_end s ∷ [])
+        past_thai_digits = past_digits ∙ pass _ _ (number_no is_thai_digit s x f no_t)
 
-        module _ (no_t : is_thai_digit (get_or s 0 0) ≡ false) where
-          past_thai_digits : non_thai s ≡ first_match (leading is_blank s ∷ line_end s ∷ [])
-          past_thai_digits = past_digits ∙ pass _ _ (number_no is_thai_digit s no_t)
+        by_blanks' : is_blank x ≡ true → leading is_blank s ≡ non_thai s
+        by_blanks' b = stop _ _ (run_yes is_blank s x f b) ∙ sym past_thai_digits
 
-          pub by_blanks : is_blank (get_or s 0 0) ≡ true → leading is_blank s ≡ non_thai s
-          by_blanks b = stop _ _ (run_yes is_blank s some b) ∙ sym past_thai_digits
+        by_line_end' : is_blank x ≡ false → line_end s ≡ non_thai s
+        by_line_end' b = last (line_end s) ∙ sym (past_thai_digits ∙ pass _ _ (run_no is_blank s x f b))
+          where
+            last : (m : ℕ) → m ≡ first_match (m ∷ [])
+            last zero = sym (pass 0 [] refl ∙ none_left)
+            last (suc m) = stop (suc m) [] (λ e. omega arith)
 
-          pub by_line_end : is_blank (get_or s 0 0) ≡ false → line_end s ≡ non_thai s
-          by_line_end b = last (line_end s) ∙ sym (past_thai_digits ∙ pass _ _ (run_no is_blank s b))
-            where
-              last : (m : ℕ) → m ≡ first_match (m ∷ [])
-              last zero = sym (pass 0 [] refl ∙ none_left)
-              last (suc m) = stop (suc m) [] (λ e. omega arith)
+      module _ (low : x ≤ 0x7A) where
+        no_thai : is_thai_digit x ≡ false
+        no_thai = simp (lt-leb 0xE50 x (omega arith))
 
-    -- above z only the Thai digits are in the pattern
-    module _ (high : 0x7A < get_or s 0 0) where
-      abbrev x : ℕ
-      x = get_or s 0 0
+        pub by_blanks : is_blank x ≡ true → leading is_blank s ≡ non_thai s
+        by_blanks b = by_blanks' no_thai b
 
-      no_letter : is_letter x ≡ false
-      no_letter = simp (ne_eqb x 0x2D (λ e. omega arith), lt-leb x 0x7A high, lt-leb x 0x5A (omega arith), le-leb 0x61 x (omega arith), le-leb 0x41 x (omega arith))
+        pub by_line_end : is_blank x ≡ false → line_end s ≡ non_thai s
+        by_line_end b = by_line_end' no_thai b
 
-      no_digit_here : is_digit x ≡ false
-      no_digit_here = simp (le-leb 0x30 x (omega arith), lt-leb x 0x39 (omega arith))
+  -- above z only the Thai digits are in the pattern
+  module _ (high : 0x7A < x) where
+    no_letter : is_letter x ≡ false
+    no_letter = simp (ne_eqb x 0x2D (λ e. omega arith), lt-leb x 0x7A high, lt-leb x 0x5A (omega arith), le-leb 0x61 x (omega arith), le-leb 0x41 x (omega arith))
 
-      no_blank : is_blank x ≡ false
-      no_blank = simp (ne_eqb x 0x20 (λ e. omega arith), ne_eqb x 0x9 (λ e. omega arith))
+    no_digit_here : is_digit x ≡ false
+    no_digit_here = simp (le-leb 0x30 x (omega arith), lt-leb x 0x39 (omega arith))
 
-      pub high_digits : is_thai_digit x ≡ true → number is_thai_digit s ≡ non_thai s
-      high_digits d = by_thai_digits no_letter no_digit_here d
+    no_blank : is_blank x ≡ false
+    no_blank = simp (ne_eqb x 0x20 (λ e. omega arith), ne_eqb x 0x9 (λ e. omega arith))
 
-      pub high_none : is_thai_digit x ≡ false → 0 ≡ non_thai s
-      high_none d = line_other s (λ e. omega arith) (λ e. omega arith) ∙ by_line_end no_letter no_digit_here d no_blank
+    no_line : (t : List ℕ) → First t x → 0 ≡ line_end t
+    no_line [] k = refl
+    no_line (y ∷ []) k = simp (ne_eqb y 0xA (λ e. omega (arith, k.is)))
+    no_line (y ∷ z ∷ t) k = simp (ne_eqb y 0xA (λ e. omega (arith, k.is)), ne_eqb y 0xD (λ e. omega (arith, k.is)))
 
-  pub low_digit : get_or s 0 0 ≤ 0x7A → is_thai_digit (get_or s 0 0) ≡ false
-  low_digit h = simp (lt-leb 0xE50 (get_or s 0 0) (omega arith))
+    pub high_digits : is_thai_digit x ≡ true → number is_thai_digit s ≡ non_thai s
+    high_digits d = by_thai_digits no_letter no_digit_here d
 
--- ---- whether there is a match
+    pub high_none : is_thai_digit x ≡ false → 0 ≡ non_thai s
+    high_none d = no_line s f ∙ by_line_end' no_letter no_digit_here d no_blank
 
-pub no_match : (m : ℕ) → 0 ≡ m → false ≡ ltb 0 m
-no_match m e = sym (le-ltb 0 m (omega arith))
+  -- ---- whether there is a match
 
-some_match : (k m : ℕ) → (k ≡ 0 → ⊥) → k ≡ m → true ≡ ltb 0 m
-some_match k m n e = sym (lt-ltb 0 m (omega arith))
+  some_match : (k : ℕ) → (k ≡ 0 → ⊥) → k ≡ non_thai s → true ≡ ltb 0 (non_thai s)
+  some_match k n e = sym (lt-ltb 0 (non_thai s) (omega arith))
 
-module _ (s : List ℕ) (some : length s ≡ 0 → ⊥) where
-  pub letter_starts : is_letter (get_or s 0 0) ≡ true → true ≡ ltb 0 (non_thai s)
-  letter_starts l = some_match _ _ (run_yes is_letter s some l) (by_letters s some l)
+  pub high_starts : (t : Bool) → 0x7A < x → t ≡ is_thai_digit x → t ≡ ltb 0 (non_thai s)
+  high_starts true h e = some_match _ (number_yes is_thai_digit s x f (sym e)) (high_digits h (sym e))
+  high_starts false h e = sym (le-ltb 0 (non_thai s) (omega (arith, high_none h (sym e))))
 
-  pub high_starts : (t : Bool) → 0x7A < get_or s 0 0 → t ≡ is_thai_digit (get_or s 0 0) → t ≡ ltb 0 (non_thai s)
-  high_starts true h e = some_match _ _ (number_yes is_thai_digit s some (sym e)) (high_digits s some h (sym e))
-  high_starts false h e = no_match _ (high_none s some h (sym e))
+  letter_starts : is_letter x ≡ true → true ≡ ltb 0 (non_thai s)
+  letter_starts l = some_match _ (run_yes is_letter s x f l) (by_letters l)
 
-  module _ (no_l : is_letter (get_or s 0 0) ≡ false) where
-    pub digit_starts : is_digit (get_or s 0 0) ≡ true → true ≡ ltb 0 (non_thai s)
-    digit_starts d = some_match _ _ (number_yes is_digit s some d) (by_digits s some no_l d)
+  pub low_starts : x ≤ 0x7A → ((is_letter x || is_digit x) || is_blank x) ≡ true → true ≡ ltb 0 (non_thai s)
+  low_starts low e = letter (is_letter x) refl
+    where
+      blank : is_letter x ≡ false → is_digit x ≡ false → true ≡ ltb 0 (non_thai s)
+      blank l d = let b : is_blank x ≡ true = simp (l, d) at e in some_match _ (run_yes is_blank s x f b) (by_blanks l d low b)
 
-    module _ (low : get_or s 0 0 ≤ 0x7A) (no_d : is_digit (get_or s 0 0) ≡ false) where
-      pub blank_starts : is_blank (get_or s 0 0) ≡ true → true ≡ ltb 0 (non_thai s)
-      blank_starts b = some_match _ _ (run_yes is_blank s some b) (by_blanks s some no_l no_d (low_digit s low) b)
+      digit : is_letter x ≡ false → (b : Bool) → is_digit x ≡ b → true ≡ ltb 0 (non_thai s)
+      digit l true d = some_match _ (number_yes is_digit s x f d) (by_digits l d)
+      digit l false d = blank l d
 
-      pub line_starts : (k : ℕ) → is_blank (get_or s 0 0) ≡ false → k ≡ line_end s → ltb 0 k ≡ ltb 0 (non_thai s)
-      line_starts k b e = ap (ltb 0) (e ∙ by_line_end s some no_l no_d (low_digit s low) b)
+      letter : (b : Bool) → is_letter x ≡ b → true ≡ ltb 0 (non_thai s)
+      letter true l = letter_starts l
+      letter false l = digit l (is_digit x) refl
+
+  pub line_starts : (k : ℕ) → x ≤ 0x7A → ((is_letter x || is_digit x) || is_blank x) ≡ false → k ≡ line_end s → ltb 0 k ≡ ltb 0 (non_thai s)
+  line_starts k low e h = letter (is_letter x) refl
+    where
+      digit : is_letter x ≡ false → (b : Bool) → is_digit x ≡ b → ltb 0 k ≡ ltb 0 (non_thai s)
+      digit l true d = cc (simp (l, d) at e)
+      digit l false d = let b : is_blank x ≡ false = simp (l, d) at e in ap (ltb 0) (h ∙ by_line_end l d low b)
+
+      letter : (b : Bool) → is_letter x ≡ b → ltb 0 k ≡ ltb 0 (non_thai s)
+      letter true l = cc (simp l at e)
+      letter false l = digit l (is_digit x) refl

@@ -2,130 +2,110 @@
 // once.
 #![tactic(auto)]
 
-ghost use Rattle.std.specs.Prelude.{◌≡◌, ◌+◌, ◌≤◌, Bool, ltb};
-ghost use Rattle.lists.specs.Scans.{within, leading};
-ghost use Rattle.newmm_rules.specs.NonThai.{is_letter, is_point, is_blank, group_of, number, line_end, non_thai};
+ghost use Rattle.std.specs.Prelude.{◌≡◌, Bool, ltb, ℕ};
+ghost use Rattle.std.specs.Prelude.{take_while, length};
+ghost use Rattle.newmm_rules.specs.NonThai.{is_letter, is_digit, is_thai_digit, is_point, is_blank, group_of, number, line_end, non_thai};
 
-const ZERO: u32 = 0x30;
+// A class of characters, as the pattern has it in brackets.
+trait Class {
+    ghost has: { ℕ → Bool };
 
-const THAI_ZERO: u32 = 0xE50;
-
-fn is_letter(x: u32) -> bool
-    ensures { result ≡ is_letter x }
-{
-    if x == 0x2D {
-        return true;
-    }
-    if x < 0x41 {
-        return false;
-    }
-    if x <= 0x5A {
-        return true;
-    }
-    if x < 0x61 {
-        return false;
-    }
-    x <= 0x7A
+    fn contains(x: u32) -> bool
+        ensures { result ≡ has x };
 }
 
-// The ten digits from zero on.
-fn is_digit(x: u32, zero: u32) -> bool
-    requires { zero ≤ 0xE50 }
-    ensures { result ≡ within zero (zero + 9) x }
-{
-    if x < zero {
-        return false;
+// [-a-zA-Z]
+struct Letters;
+
+impl Class for Letters {
+    ghost has = { is_letter };
+
+    fn contains(x: u32) -> bool {
+        matches!(x, 0x2D | 0x41..=0x5A | 0x61..=0x7A)
     }
-    x <= zero + 9
 }
 
-fn is_point(x: u32) -> bool
-    ensures { result ≡ is_point x }
-{
-    if x == 0x2C {
-        return true;
+// [0-9]
+struct Digits;
+
+impl Class for Digits {
+    ghost has = { is_digit };
+
+    fn contains(x: u32) -> bool {
+        matches!(x, 0x30..=0x39)
     }
-    x == 0x2E
 }
 
-fn is_blank(x: u32) -> bool
-    ensures { result ≡ is_blank x }
-{
-    if x == 0x20 {
-        return true;
+// [๐-๙]
+struct ThaiDigits;
+
+impl Class for ThaiDigits {
+    ghost has = { is_thai_digit };
+
+    fn contains(x: u32) -> bool {
+        matches!(x, 0xE50..=0xE59)
     }
-    x == 0x9
 }
 
-fn letters(s: &[u32]) -> usize
-    ensures { result ≡ leading is_letter s.now }
-{
-    let mut i = 0;
-    while i < s.len() {
-        if !is_letter(s[i]) {
-            return i;
-        }
-        i += 1;
+// [,\.]
+struct Points;
+
+impl Class for Points {
+    ghost has = { is_point };
+
+    fn contains(x: u32) -> bool {
+        matches!(x, 0x2C | 0x2E)
     }
-    i
 }
 
-fn blanks(s: &[u32]) -> usize
-    ensures { result ≡ leading is_blank s.now }
-{
-    let mut i = 0;
-    while i < s.len() {
-        if !is_blank(s[i]) {
-            return i;
-        }
-        i += 1;
+// [ \t]
+struct Blanks;
+
+impl Class for Blanks {
+    ghost has = { is_blank };
+
+    fn contains(x: u32) -> bool {
+        matches!(x, 0x20 | 0x9)
     }
-    i
 }
 
-fn digits(s: &[u32], zero: u32) -> usize
-    requires { zero ≤ 0xE50 }
-    ensures { result ≡ leading (within zero (zero + 9)) s.now }
+// How many characters at the front are of the class.
+fn run_length<C: Class>(s: &[u32]) -> usize
+    ensures { result ≡ length (take_while C.has s.now) }
 {
-    let mut i = 0;
-    while i < s.len() {
-        if !is_digit(s[i], zero) {
-            return i;
-        }
-        i += 1;
-    }
-    i
+    s.iter().take_while(|x| C::contains(**x)).count()
 }
 
 // A comma or point with the digits behind it, or 0 where none follows.
-fn group(s: &[u32], zero: u32) -> usize
-    requires { zero ≤ 0xE50 }
-    ensures { result ≡ group_of (within zero (zero + 9)) s.now }
+#[tactic(auto, using(crate::proofs::Matches::run_is_leading, lists::proofs::Scans::leading_inside))]
+fn group<D: Class>(s: &[u32]) -> usize
+    ensures { result ≡ group_of D.has s.now }
 {
-    if s.len() == 0 {
+    let Some((first, tail)) = s.split_first() else {
+        return 0;
+    };
+    if !Points::contains(*first) {
         return 0;
     }
-    if !is_point(s[0]) {
-        return 0;
-    }
-    let k = digits(&s[1..], zero);
+    let k = run_length::<D>(tail);
     if k == 0 {
         return 0;
     }
     k + 1
 }
 
-fn figures(s: &[u32], zero: u32) -> usize
-    requires { zero ≤ 0xE50 }
-    ensures { result ≡ number (within zero (zero + 9)) s.now }
+// Digits, and then groups of them.
+fn figures<D: Class>(s: &[u32]) -> usize
+    ensures { result ≡ number D.has s.now }
 {
-    let k = digits(s, zero);
+    let k = run_length::<D>(s);
     if k == 0 {
         return 0;
     }
     let mut i = k;
+    // Kept: (3) each turn goes on by as much as it matched, so no iterator is plainer.
     loop {
-        let more = group(&s[i..], zero);
+        let more = group::<D>(&s[i..]);
         if more == 0 {
             return i;
         }
@@ -133,25 +113,15 @@ fn figures(s: &[u32], zero: u32) -> usize
     }
 }
 
+// \r?\n
 fn line_end(s: &[u32]) -> usize
     ensures { result ≡ line_end s.now }
 {
-    if s.len() == 0 {
-        return 0;
+    match s {
+        [0xA, ..] => 1,
+        [0xD, 0xA, ..] => 2,
+        _ => 0,
     }
-    if s[0] == 0xA {
-        return 1;
-    }
-    if s[0] != 0xD {
-        return 0;
-    }
-    if s.len() == 1 {
-        return 0;
-    }
-    if s[1] == 0xA {
-        return 2;
-    }
-    0
 }
 
 // The length of the match at the part's start, 0 for none. The first character tells which
@@ -159,24 +129,24 @@ fn line_end(s: &[u32]) -> usize
 pub fn non_thai_length(s: &[u32]) -> usize
     ensures { result ≡ non_thai s.now }
 {
-    if s.len() == 0 {
+    let Some(first) = s.first() else {
         return 0;
-    }
-    let x = s[0];
+    };
+    let x = *first;
     if 0x7A < x {
-        if is_digit(x, THAI_ZERO) {
-            return figures(s, THAI_ZERO);
+        if ThaiDigits::contains(x) {
+            return figures::<ThaiDigits>(s);
         }
         return 0;
     }
-    if is_letter(x) {
-        return letters(s);
+    if Letters::contains(x) {
+        return run_length::<Letters>(s);
     }
-    if is_digit(x, ZERO) {
-        return figures(s, ZERO);
+    if Digits::contains(x) {
+        return figures::<Digits>(s);
     }
-    if is_blank(x) {
-        return blanks(s);
+    if Blanks::contains(x) {
+        return run_length::<Blanks>(s);
     }
     line_end(s)
 }
@@ -185,21 +155,12 @@ pub fn non_thai_length(s: &[u32]) -> usize
 pub fn starts_non_thai(s: &[u32]) -> bool
     ensures { result ≡ ltb 0 (non_thai s.now) }
 {
-    if s.len() == 0 {
+    let Some(first) = s.first() else {
         return false;
-    }
-    let x = s[0];
+    };
+    let x = *first;
     if 0x7A < x {
-        return is_digit(x, THAI_ZERO);
+        return ThaiDigits::contains(x);
     }
-    if is_letter(x) {
-        return true;
-    }
-    if is_digit(x, ZERO) {
-        return true;
-    }
-    if is_blank(x) {
-        return true;
-    }
-    0 < line_end(s)
+    Letters::contains(x) || Digits::contains(x) || Blanks::contains(x) || 0 < line_end(s)
 }

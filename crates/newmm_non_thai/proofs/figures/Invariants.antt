@@ -1,11 +1,9 @@
-use Prim.Native.Nat.{◌+◌, ◌-◌}
-use lib.ListN.{length}
-use Rattle.lists.specs.Scans.{within}
+use Rattle.std.proofs.Common.{◌-◌, length}
 use Rattle.newmm_non_thai.proofs.Matches.{Through}
 use Rattle.newmm_non_thai.proofs.figures.Given as goal
 
-abbrev pub invariant-loop-zero : goal.invariant-loop-zero
-invariant-loop-zero l = Through (within l.zero (l.zero + 9)) l.s l.i
+abbrev pub invariant-loop-k : goal.invariant-loop-k
+invariant-loop-k g l = Through g.D.Class.has l.s l.i
 
-abbrev pub decreases-loop-zero : goal.decreases-loop-zero
-decreases-loop-zero l = length l.s - l.i
+abbrev pub decreases-loop-k : goal.decreases-loop-k
+decreases-loop-k g l = length l.s - l.i

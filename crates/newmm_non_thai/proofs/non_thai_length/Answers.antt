@@ -1,36 +1,32 @@
 use mathlib.Core.Path.{sym, ◌∙◌}
-use Rattle.newmm_non_thai.proofs.Matches.{no_text, by_letters, by_digits, by_blanks, by_line_end, high_digits, high_none, low_digit}
+use Rattle.newmm_non_thai.proofs.Matches.{run_is_leading, no_text, first_is, by_letters, by_digits, by_blanks, by_line_end, high_digits, high_none}
 use Rattle.newmm_non_thai.proofs.non_thai_length.Goals as goal
 
-pub returns-then-s-eq0 : goal.returns-then-s-eq0
-returns-then-s-eq0 c = no_text c.args.s.now c.if-s-eq0.true
+pub returns-in_default : goal.returns-in_default
+returns-in_default c = no_text _ c.in_default.ensures.item.3
 
-pub returns-then-is_digit : goal.returns-then-is_digit
-returns-then-is_digit c =
-    c.figures.ensures ∙ high_digits c.args.s.now c.if-s-eq0.false c.if-x-gt122.true
-    (sym c.is_digit.ensures ∙ c.if-is_digit.true)
+pub returns-then-contains : goal.returns-then-contains
+returns-then-contains c = c.figures.ensures ∙ high_digits _ _ (first_is _ _ c.in-Some.ensures.item.3) c.if-x-gt122.true (sym c.contains.ensures ∙ c.if-contains.true)
 
 pub returns-then-x-gt122 : goal.returns-then-x-gt122
-returns-then-x-gt122 c = high_none c.args.s.now c.if-s-eq0.false c.if-x-gt122.true (sym c.is_digit.ensures ∙ c.if-is_digit.false)
+returns-then-x-gt122 c = high_none _ _ (first_is _ _ c.in-Some.ensures.item.3) c.if-x-gt122.true (sym c.contains.ensures ∙ c.if-contains.false)
 
-pub returns-then-is_letter : goal.returns-then-is_letter
-returns-then-is_letter c =
-    c.letters.ensures ∙ by_letters c.args.s.now c.if-s-eq0.false
-    (sym c.is_letter.ensures ∙ c.if-is_letter.true)
+pub returns-then-contains-2 : goal.returns-then-contains-2
+returns-then-contains-2 c = c.run_length.ensures ∙ run_is_leading _ _ ∙ by_letters _ _ (first_is _ _ c.in-Some.ensures.item.3) (sym c.contains-2.ensures ∙ c.if-contains-2.true)
 
-pub returns-then-is_digit-2 : goal.returns-then-is_digit-2
-returns-then-is_digit-2 c =
-    c.figures-then-is_digit-2.ensures ∙ by_digits c.args.s.now c.if-s-eq0.false (sym c.is_letter.ensures ∙ c.if-is_letter.false)
-    (sym c.is_digit-2.ensures ∙ c.if-is_digit-2.true)
+pub returns-then-contains-3 : goal.returns-then-contains-3
+returns-then-contains-3 c =
+    c.figures-then-contains-3.ensures
+    ∙ by_digits _ _ (first_is _ _ c.in-Some.ensures.item.3) (sym c.contains-2.ensures ∙ c.if-contains-2.false) (sym c.contains-3.ensures ∙ c.if-contains-3.true)
 
-pub returns-then-is_blank : goal.returns-then-is_blank
-returns-then-is_blank c =
-    c.blanks.ensures ∙ by_blanks c.args.s.now c.if-s-eq0.false (sym c.is_letter.ensures ∙ c.if-is_letter.false)
-    (sym c.is_digit-2.ensures ∙ c.if-is_digit-2.false) (low_digit c.args.s.now c.if-x-gt122.false)
-    (sym c.is_blank.ensures ∙ c.if-is_blank.true)
+pub returns-then-contains-4 : goal.returns-then-contains-4
+returns-then-contains-4 c =
+    c.run_length-then-contains-4.ensures ∙ run_is_leading _ _
+    ∙ by_blanks _ _ (first_is _ _ c.in-Some.ensures.item.3) (sym c.contains-2.ensures ∙ c.if-contains-2.false) (sym c.contains-3.ensures ∙ c.if-contains-3.false)
+    c.if-x-gt122.false (sym c.contains-4.ensures ∙ c.if-contains-4.true)
 
 pub returns : goal.returns
 returns c =
-    c.line_end.ensures ∙ by_line_end c.args.s.now c.if-s-eq0.false
-    (sym c.is_letter.ensures ∙ c.if-is_letter.false) (sym c.is_digit-2.ensures ∙ c.if-is_digit-2.false)
-    (low_digit c.args.s.now c.if-x-gt122.false) (sym c.is_blank.ensures ∙ c.if-is_blank.false)
+    c.line_end.ensures
+    ∙ by_line_end _ _ (first_is _ _ c.in-Some.ensures.item.3) (sym c.contains-2.ensures ∙ c.if-contains-2.false) (sym c.contains-3.ensures ∙ c.if-contains-3.false)
+    c.if-x-gt122.false (sym c.contains-4.ensures ∙ c.if-contains-4.false)
