@@ -4,6 +4,7 @@ use Prim.Native.Nat.{ℕ}
 use native.Mathlib.Omega.{arith}
 use mathlib.Core.Path.{◌≡◌, ap, ◌∙◌}
 use mathlib.Core.List.{List}
+use Rattle.newmm_rules.specs.declared.Ends.{Ends}
 use Rattle.refusal.specs.declared.Refusal.{Refusal}
 use Rattle.refusal.specs.Answers.{Cause, answer}
 use Rattle.refusal.proofs.Causes.{again}
@@ -11,7 +12,9 @@ use Rattle.newmm_answers.specs.Answers.{accepted_with, told}
 
 -- an answer with ends is an accepted one
 pub told_ends : (x : Result ℕ Refusal) (k n e : ℕ) → told x k ≡ accepted_with n e → (x ≡ Ok n) × (k ≡ e)
-told_ends (Ok m) k n e h = (let q : m ≡ n = cc in ap Ok q, cc)
+told_ends (Ok m) k n e h =
+    let q : ◌≡◌ {A = Ends} (record { ends = m; edges = k }) (record { ends = n; edges = e }) = cc in
+    (ap Ok (ap (λ (x : Ends). x.ends) q), ap (λ (x : Ends). x.edges) q)
 told_ends (Err r) k n e h = absurd (let z : ◌≡◌ {A = ℕ} 0 1 = cc in omega arith)
 
 -- and one without is a refused one

@@ -1,20 +1,24 @@
 use native.Mathlib.Omega.{arith}
+use mathlib.Core.Path.{sym, ◌∙◌}
+use Rattle.refusal.proofs.Causes.{handed_on}
 use Rattle.trie_pool.specs.Meaning.{meaning}
 use Rattle.newmm_answers.proofs.Checks.{refused_early, short, refused_scratch, accepted_early}
 use Rattle.newmm_answers.proofs.check_cut.Goals as goal
 
-pub returns-in_default : goal.returns-in_default
-returns-in_default c = refused_early c.args.text.now (meaning c.args.pool.now) c.args.cells c.check-checked.ensures c.in_default.is
+pub returns-in_err-n : goal.returns-in_err-n
+returns-in_err-n c =
+    let e = handed_on c.from_residual.ensures.1 in
+    e ∙ sym c.in_err-n.was ∙ refused_early c.args.text.now (meaning c.args.pool.now) c.args.cells c.check.ensures c.in_err-n.was
 
 pub scratch_for-needed-requires : goal.scratch_for-needed-requires
-scratch_for-needed-requires c = omega (arith, short c.args.text.now (meaning c.args.pool.now) 0 c.check-checked.ensures c.in-Ok.is)
+scratch_for-needed-requires c = omega (arith, short c.args.text.now (meaning c.args.pool.now) 0 c.check.ensures c.in_ok-n.was)
 
 pub returns-then-cells-needed : goal.returns-then-cells-needed
 returns-then-cells-needed c =
-    refused_scratch c.args.text.now (meaning c.args.pool.now) c.args.cells c.check-checked.ensures
-    c.in-Ok.is c.scratch_for-needed.ensures c.if-cells-needed.true
+    refused_scratch c.args.text.now (meaning c.args.pool.now) c.args.cells c.check.ensures
+    c.in_ok-n.was c.scratch_for-needed.ensures c.if-cells-needed.true
 
 pub returns : goal.returns
 returns c =
-    accepted_early c.args.text.now (meaning c.args.pool.now) c.args.cells c.check-checked.ensures
-    c.in-Ok.is c.scratch_for-needed.ensures c.if-cells-needed.false
+    accepted_early c.args.text.now (meaning c.args.pool.now) c.args.cells c.check.ensures
+    c.in_ok-n.was c.scratch_for-needed.ensures c.if-cells-needed.false
