@@ -1,21 +1,19 @@
 -- Telling on an answer that a library gave with a changed plants' pool, or of a plant's words.
 -- Assumes nothing.
-use Rattle.std.specs.Prelude.{Result, Ok, Err}
+use Rattle.std.specs.Prelude.{Result, Ok, Err, Some, None}
 use Prim.Native.Nat.{ℕ}
 use mathlib.Core.Path.{◌≡◌, subst}
 use mathlib.Core.List.{List}
 use Rattle.refusal.specs.declared.Refusal.{Refusal}
 use Rattle.refusal.specs.Answers.{output}
-use Rattle.trie_char_answers.specs.declared.WordAnswer.{WordAnswer}
-use Rattle.trie_char_answers.specs.declared.WordAnswer.TheVariants.{Held}
-use Rattle.trie_char_answers.specs.declared.WordAnswer.TheVariants as words
+use Rattle.trie_char_answers.specs.Answers.{WordAnswer}
 use Rattle.trie_plants.specs.declared.Plant.{Plant}
 use Rattle.trie_plants_answers.specs.Changes.{PlantAfter, Started}
 use Rattle.trie_plants_answers.specs.Answers.{start_answer, plant_added, plant_add_answer, plant_removed, plant_remove_answer}
 use Rattle.trie_plants_answers.specs.Answers.{plant_contains_answer, plant_prefixes, plant_prefixes_answer, plant_count_answer}
 use Rattle.host_telling.specs.Told.{Told, tells}
 use Rattle.host_telling.proofs.Answers.{telling, with_output}
-use Rattle.host_words.proofs.Classes.{held_told, refused_told}
+use Rattle.host_words.proofs.Classes.{held_told, missing_told, refused_told}
 use Rattle.host_plants.specs.Calls.{StartTold, PlantAddTold, PlantRemoveTold, PlantContainsTold, PlantPrefixesTold, PlantWordCountTold}
 
 pub with_start : (limit_a limit_b : ℕ) (old new : List ℕ) {a : Result ℕ Refusal} {t : Told} → a ≡ start_answer limit_a limit_b old → t ≡ tells a → Started a limit_a limit_b old new → StartTold limit_a limit_b old t new
@@ -33,10 +31,13 @@ module _ {p q : Plant} (which : p ≡ q) (word pool : List ℕ) {t : Told} where
       subst (λ (x : Plant). PlantRemoveTold x word pool t new) which
       (telling is e, subst (λ (x : Result ℕ Refusal). PlantAfter p x pool new (plant_removed p word pool)) is h)
 
-  pub with_held : {a : WordAnswer} {n class : ℕ} → a ≡ plant_contains_answer p word pool → a ≡ Held n class → t ≡ tells (Ok n) → PlantContainsTold q word pool t class
+  pub with_held : {a : WordAnswer} {class : ℕ} → a ≡ plant_contains_answer p word pool → a ≡ Ok (Some class) → t ≡ tells (Ok 1) → PlantContainsTold q word pool t class
   with_held {class = class} is e h = subst (λ (x : Plant). PlantContainsTold x word pool t class) which (held_told is e h)
 
-  pub with_refused : {a : WordAnswer} {r : Refusal} → a ≡ plant_contains_answer p word pool → a ≡ words.Refused r → t ≡ tells (Err r) → PlantContainsTold q word pool t 0
+  pub with_missing : {a : WordAnswer} → a ≡ plant_contains_answer p word pool → a ≡ Ok None → t ≡ tells (Ok 0) → PlantContainsTold q word pool t 0
+  with_missing is e h = subst (λ (x : Plant). PlantContainsTold x word pool t 0) which (missing_told is e h)
+
+  pub with_refused : {a : WordAnswer} {r : Refusal} → a ≡ plant_contains_answer p word pool → a ≡ Err r → t ≡ tells (Err r) → PlantContainsTold q word pool t 0
   with_refused is e h = subst (λ (x : Plant). PlantContainsTold x word pool t 0) which (refused_told is e h)
 
   pub with_lengths : (out new : List ℕ) {a : Result ℕ Refusal} → a ≡ plant_prefixes_answer p word pool out → t ≡ tells a → new ≡ output a (plant_prefixes p word pool) out → PlantPrefixesTold q word pool out t new

@@ -8,7 +8,6 @@ ghost use Rattle.host_plants.specs.Calls.{PlantContainsTold, PlantPrefixesTold, 
 
 use host_telling::tell;
 use refusal::Refusal;
-use trie_char_answers::WordAnswer;
 use trie_plants::Plant;
 use trie_plants_change::{add_in, remove_in};
 use trie_plants_read::{amount_of_words_in, contain_in, prefix_lengths_in};
@@ -84,11 +83,15 @@ pub fn contains(
     let plant = whose(b);
     let answer = contain_in(pool, plant, word);
     match answer {
-        WordAnswer::Held(n, told) => {
-            *class = told;
-            tell(Ok(n), count, detail)
+        Ok(None) => {
+            *class = 0;
+            tell(Ok(0), count, detail)
         }
-        WordAnswer::Refused(r) => {
+        Ok(Some(told)) => {
+            *class = told as usize;
+            tell(Ok(1), count, detail)
+        }
+        Err(r) => {
             *class = 0;
             tell(Err(r), count, detail)
         }

@@ -1,12 +1,10 @@
 -- What a host is told of its dictionary, and what becomes of the rows that it lends: the answer and
 -- the row of the library function, as its contract gives them.
-use Rattle.std.specs.Prelude.{ℕ, ◌≡◌, List, Result, Ok, Err}
+use Rattle.std.specs.Prelude.{ℕ, ◌≡◌, List, Result, Ok, Err, Some, None}
 use Rattle.refusal.specs.declared.Refusal.{Refusal}
 use Rattle.refusal.specs.Answers.{output}
 use Rattle.trie_pool.specs.Meaning.{no_term}
-use Rattle.trie_char_answers.specs.declared.WordAnswer.{WordAnswer}
-use Rattle.trie_char_answers.specs.declared.WordAnswer.TheVariants.{Held}
-use Rattle.trie_char_answers.specs.declared.WordAnswer.TheVariants as words
+use Rattle.trie_char_answers.specs.Answers.{WordAnswer}
 use Rattle.trie_char_answers.specs.Changes.{After}
 use Rattle.trie_char_answers.specs.Answers.{fresh_answer, added, add_answer, removed, remove_answer}
 use Rattle.trie_char_answers.specs.Answers.{contains_answer, prefixes, prefixes_answer, word_count_answer}
@@ -26,14 +24,16 @@ abbrev pub RemoveTold : (word pool : List ℕ) → Told → (left : List ℕ) �
 RemoveTold word pool t left =
     (t ≡ tells (remove_answer word pool)) × After (remove_answer word pool) pool left (removed word pool)
 
--- A word's answer without its class, and the class alone: 0 where the call is refused.
+-- A word's answer without its class, 1 or 0, and the class alone: 0 with a no and with a refusal.
 abbrev pub held_answer : WordAnswer → Result ℕ Refusal
-held_answer (Held n class) = Ok n
-held_answer (words.Refused r) = Err r
+held_answer (Ok None) = Ok 0
+held_answer (Ok (Some class)) = Ok 1
+held_answer (Err r) = Err r
 
 abbrev pub class_told : WordAnswer → ℕ
-class_told (Held n class) = class
-class_told (words.Refused r) = 0
+class_told (Ok None) = 0
+class_told (Ok (Some class)) = class
+class_told (Err r) = 0
 
 -- IS A WORD HELD: what is told.
 abbrev pub ContainsTold : (word pool : List ℕ) → Told → Type 0

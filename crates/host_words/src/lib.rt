@@ -8,7 +8,6 @@ ghost use Rattle.host_words.specs.Calls.{ContainsClassTold, PrefixesTold, WordCo
 
 use host_telling::tell;
 use refusal::Refusal;
-use trie_char_answers::WordAnswer;
 use trie_char_read::{amount_of_words, contain};
 
 // Makes a dictionary without words, whatever the cells held before. Refusal 8.
@@ -54,13 +53,14 @@ pub fn remove(pool: &mut [u32], word: &[u32], count: &mut usize, detail: &mut us
     tell(removed, count, detail)
 }
 
-// Whether a word is held, without its class.
-fn held(a: WordAnswer) -> Result<usize, Refusal>
+// Whether a word is held, 1 or 0, without its class.
+fn held(a: Result<Option<u16>, Refusal>) -> Result<usize, Refusal>
     ensures { result ≡ held_answer a }
 {
     match a {
-        WordAnswer::Held(n, _) => Ok(n),
-        WordAnswer::Refused(r) => Err(r),
+        Ok(None) => Ok(0),
+        Ok(Some(_)) => Ok(1),
+        Err(r) => Err(r),
     }
 }
 
@@ -87,11 +87,15 @@ pub fn contains_class(
 {
     let answer = contain(pool, word);
     match answer {
-        WordAnswer::Held(n, told) => {
-            *class = told;
-            tell(Ok(n), count, detail)
+        Ok(None) => {
+            *class = 0;
+            tell(Ok(0), count, detail)
         }
-        WordAnswer::Refused(r) => {
+        Ok(Some(told)) => {
+            *class = told as usize;
+            tell(Ok(1), count, detail)
+        }
+        Err(r) => {
             *class = 0;
             tell(Err(r), count, detail)
         }

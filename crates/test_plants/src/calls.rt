@@ -6,7 +6,6 @@ use newmm_reasons::cut_reasons;
 use newmm_rules::{Ends, Mode};
 use refusal::Refusal;
 use trie_char::{add_class, remove};
-use trie_char_answers::WordAnswer;
 use trie_char_read::{amount_of_words, contain, prefix_lengths};
 use trie_plants::Plant;
 use trie_plants_change::{add_in, remove_in};
@@ -36,7 +35,7 @@ pub fn take(whose: Whose, pool: &mut [u32], word: &[u32]) -> Result<usize, Refus
     }
 }
 
-pub fn held(whose: Whose, pool: &[u32], word: &[u32]) -> WordAnswer {
+pub fn held(whose: Whose, pool: &[u32], word: &[u32]) -> Result<Option<u16>, Refusal> {
     match whose {
         Whose::Plain => contain(pool, word),
         Whose::Of(plant) => contain_in(pool, plant, word),

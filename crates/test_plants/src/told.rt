@@ -1,7 +1,6 @@
 // Answers as a script tells them.
 use refusal::Refusal;
 use test_lines::{first, print, print_number, print_numbers};
-use trie_char_answers::WordAnswer;
 
 // A report, or a refusal.
 pub fn tell(rt: &impl Print, answer: Result<usize, Refusal>) {
@@ -19,14 +18,14 @@ pub fn tell_refusal(rt: &impl Print, r: Refusal) {
 }
 
 // Whether the word is held, and its class.
-pub fn tell_word(rt: &impl Print, answer: WordAnswer) {
+pub fn tell_word(rt: &impl Print, answer: Result<Option<u16>, Refusal>) {
     match answer {
-        WordAnswer::Held(n, class) => {
-            print_number(rt, n);
-            print(rt, b".");
-            print_number(rt, class);
+        Ok(None) => print(rt, b"0.0"),
+        Ok(Some(class)) => {
+            print(rt, b"1.");
+            print_number(rt, class as usize);
         }
-        WordAnswer::Refused(r) => tell_refusal(rt, r),
+        Err(r) => tell_refusal(rt, r),
     }
 }
 

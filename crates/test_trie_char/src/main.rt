@@ -8,7 +8,6 @@ use test_lines::{
     print_refusal, read_cells, read_input, tail,
 };
 use test_words::{has_class, hold, read_class, read_word};
-use trie_char_answers::WordAnswer;
 
 const INPUT: usize = 393216;
 
@@ -161,12 +160,12 @@ fn refused(rt: &impl Print, r: Refusal) {
 fn held(rt: &impl Print, pool: &[u32], word: &[u32]) {
     let answer = trie_char_read::contain(pool, word);
     match answer {
-        WordAnswer::Held(n, class) => {
-            print_number(rt, n);
-            print(rt, b".");
-            print_number(rt, class);
+        Ok(None) => print(rt, b"0.0"),
+        Ok(Some(class)) => {
+            print(rt, b"1.");
+            print_number(rt, class as usize);
         }
-        WordAnswer::Refused(r) => refused(rt, r),
+        Err(r) => refused(rt, r),
     }
 }
 

@@ -19,7 +19,7 @@ use Rattle.trie_char_read.proofs.prefix_lengths.Kinds as prefix_lengths_kinds
 use Rattle.trie_char_read.proofs.prefix_lengths.Reads as prefix_lengths_contract
 use Rattle.trie_char_read.proofs.amount_of_words.Kinds as amount_of_words_kinds
 use Rattle.trie_char_read.proofs.amount_of_words.Reads as amount_of_words_contract
-use Rattle.trie_char_answers.specs.declared.WordAnswer.{WordAnswer}
+use Rattle.trie_char_answers.specs.Answers.{WordAnswer}
 use Rattle.theorems_one_answer.specs.OneAnswer.{OneAnswer}
 use Rattle.theorems_one_answer.proofs.Shapes.{answer, answer_and_output, answer_and_pool}
 

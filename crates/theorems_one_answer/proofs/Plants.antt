@@ -33,7 +33,7 @@ use Rattle.word_list_plants_write.proofs.write_image_in.Kinds as write_kinds
 use Rattle.word_list_plants_write.proofs.write_image_in.Reads as write_contract
 use Rattle.refusal.specs.Answers.{output}
 use Rattle.trie_pool.specs.Meaning.{Terms}
-use Rattle.trie_char_answers.specs.declared.WordAnswer.{WordAnswer}
+use Rattle.trie_char_answers.specs.Answers.{WordAnswer}
 use Rattle.trie_plants.specs.declared.Plant.{Plant}
 use Rattle.trie_plants_answers.specs.Answers.{start_answer, plant_prefixes}
 use Rattle.trie_plants_answers.specs.Changes.{PlantAfter, Started}

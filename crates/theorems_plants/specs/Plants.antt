@@ -11,8 +11,7 @@ use Rattle.refusal.specs.Answers.{output}
 use Rattle.char_string_trim.specs.Trimming.{trimmed_of}
 use Rattle.trie_pool.specs.Rules.{is_dictionary}
 use Rattle.trie_pool.specs.Meaning.{Terms, meaning, terms, no_term, with_term, without_term}
-use Rattle.trie_char_answers.specs.declared.WordAnswer.{WordAnswer}
-use Rattle.trie_char_answers.specs.declared.WordAnswer.TheVariants as word_answer
+use Rattle.trie_char_answers.specs.Answers.{WordAnswer}
 use Rattle.trie_plants.specs.declared.Plant.{Plant}
 use Rattle.trie_plants.specs.declared.Plant.TheVariants.{A, B}
 use Rattle.trie_plants.specs.Halves.{other_of, limit_of}
@@ -114,8 +113,8 @@ refused_in (Ok n) = none
 refused_in (Err r) = some r
 
 abbrev pub refused_word : WordAnswer → Option Refusal
-refused_word (word_answer.Held n class) = none
-refused_word (word_answer.Refused r) = some r
+refused_word (Ok told) = none
+refused_word (Err r) = some r
 
 abbrev pub refused_cut : Result Ends Refusal → Option Refusal
 refused_cut (Ok told) = none

@@ -1,11 +1,11 @@
 -- What the readers answer. Assumes nothing.
-use Rattle.std.specs.Prelude.{Result, Ok, Err}
+use Rattle.std.specs.Prelude.{Result, Ok, Err, Some, None}
 use Prim.Native.Nat.{ℕ, zero, suc, ◌-◌, ◌*◌, ◌/◌, ◌≤◌, ◌<◌, min}
 use native.Mathlib.Omega.{arith}
 use mathlib.Core.Path.{◌≡◌, refl, sym, ap, ◌∙◌}
 use mathlib.Core.Bool.{Bool, true, false, cond}
 use mathlib.Core.List.{List, [], ◌∷◌, ◌++◌}
-use mathlib.Core.Option.{Option}
+use mathlib.Core.Option.{Option, some}
 use lib.ListN.{length, take, drop}
 use Rattle.refusal.specs.declared.Refusal.{Refusal}
 use Rattle.refusal.specs.declared.Refusal.TheVariants.{NotADictionary, OutputTooShort}
@@ -18,12 +18,11 @@ use Rattle.trie_pool.specs.Meaning.{Words, Terms, meaning, prefix_lengths}
 use Rattle.trie_search.specs.inner.Search.{Asks, Wrote, Counts}
 use Rattle.trie_check.specs.Refusals.{is_none, held, pool_causes, read_causes}
 use Rattle.trie_char_answers.specs.Refusals.{prefix_causes}
-use Rattle.trie_char_answers.specs.Answers.{terms_of, tells_term, told_term}
-use Rattle.trie_char_answers.specs.declared.WordAnswer.TheVariants.{Held}
-use Rattle.trie_char_answers.specs.declared.WordAnswer.TheVariants as variants
+use Rattle.trie_char_answers.specs.Answers.{WordAnswer, terms_of, tells_term, told_term}
 use Rattle.refusal.proofs.Causes.{handed, out_short, out_fits}
 use Rattle.trie_check.proofs.Refusals.{read_of}
-use Rattle.trie_check.proofs.Parts.{known_is, readable, held_part, terms_part}
+use Rattle.trie_check.proofs.Parts.{known_is, readable, sound_part, held_part, terms_part}
+use Rattle.trie_pool.proofs.Terms.{term_class}
 
 -- ---- the cells that are lent on
 
@@ -32,6 +31,7 @@ pub record View (m : Option Words) (ts : Terms) (p : List ℕ) : Type 0 where
   pub words : held m ≡ holds p
   pub terms : ts ≡ term_at p
   pub readable : Readable p 0
+  pub classes : (w : List ℕ) (c : ℕ) → term_at p w ≡ some c → c ≤ 65535
 
 -- those of a plain pool, where it is one
 module _ (pool text : List ℕ) {a : Result ℕ Refusal} {k : ℕ} (is : a ≡ answer (read_causes text (meaning pool)) (length text)) (yes' : a ≡ Ok k) where
@@ -39,7 +39,7 @@ module _ (pool text : List ℕ) {a : Result ℕ Refusal} {k : ℕ} (is : a ≡ a
   known = known_is pool (read_of text (meaning pool) (length text) k (sym is ∙ yes')).known
 
   pub view : (n : ℕ) → n ≡ min (length pool / 8) 1048576 → View (meaning pool) (terms_of pool) (take (8 * n) pool)
-  view n n_is = record { words = held_part pool n n_is known; terms = terms_part pool n n_is known; readable = readable pool n n_is known }
+  view n n_is = record { words = held_part pool n n_is known; terms = terms_part pool n n_is known; readable = readable pool n n_is known; classes = term_class (take (8 * n) pool) (used (take (8 * n) pool)) (sound_part pool n n_is known) }
 
 -- ---- an accepted text
 
@@ -50,15 +50,20 @@ module _ {m : Option Words} {ts : Terms} {p : List ℕ} (v : View m ts p) (text 
   contain_told : (c : ℕ) → term c ≡ term_at p text → tells_term (term c) ≡ told_term (answer (read_causes text m) (length text)) (ts text)
   contain_told c e = ap tells_term (e ∙ sym (ap (λ (f : Terms). f text) v.terms)) ∙ sym (ap (λ (z : Result ℕ Refusal). told_term z (ts text)) first)
 
-  pub contain_no : (c w : ℕ) → term c ≡ term_at p text → w ≡ c → w ≡ 0 → Held 0 0 ≡ told_term (answer (read_causes text m) (length text)) (ts text)
-  contain_no c w e f z = sym (ap (λ (k : ℕ). tells_term (term k)) (sym f ∙ z)) ∙ contain_told c e
+  pub contain_no : (c : ℕ) → term c ≡ term_at p text → c ≡ 0 → ◌≡◌ {A = WordAnswer} (Ok None) (told_term (answer (read_causes text m) (length text)) (ts text))
+  contain_no c e z = sym (ap (λ (k : ℕ). tells_term (term k)) z) ∙ contain_told c e
 
-  pub contain_yes : (c w : ℕ) → term c ≡ term_at p text → w ≡ c → (w ≡ 0 → ⊥) → Held 1 (w - 1) ≡ told_term (answer (read_causes text m) (length text)) (ts text)
-  contain_yes c w e f nz = go w nz ∙ ap (λ (k : ℕ). tells_term (term k)) f ∙ contain_told c e
+  pub contain_yes : (c : ℕ) → term c ≡ term_at p text → (c ≡ 0 → ⊥) → ◌≡◌ {A = WordAnswer} (Ok (Some (c - 1))) (told_term (answer (read_causes text m) (length text)) (ts text))
+  contain_yes c e nz = go c nz ∙ contain_told c e
     where
-      go : (w : ℕ) → (w ≡ 0 → ⊥) → Held 1 (w - 1) ≡ tells_term (term w)
+      go : (c : ℕ) → (c ≡ 0 → ⊥) → ◌≡◌ {A = WordAnswer} (Ok (Some (c - 1))) (tells_term (term c))
       go zero nz = absurd (nz refl)
-      go (suc w) nz = let z : suc w - 1 ≡ w = omega arith in ap (λ (k : ℕ). Held 1 k) z
+      go (suc c) nz = let z : suc c - 1 ≡ c = omega arith in ap (λ (k : ℕ). Ok (Some k)) z
+
+  -- a mark is at most one above the largest class
+  pub contain_small : (c : ℕ) → term c ≡ term_at p text → c ≤ 65536
+  contain_small zero e = omega arith
+  contain_small (suc c) e = let l = v.classes text c (sym e) in omega arith
 
   lengths : prefix_lengths (held m) text ≡ prefix_lengths (holds p) text
   lengths = ap (λ (f : Words). prefix_lengths f text) v.words
@@ -83,7 +88,7 @@ module _ {m : Option Words} {ts : Terms} {p : List ℕ} (v : View m ts p) (text 
 -- ---- a refused one
 
 module _ (m : Option Words) (text : List ℕ) {a : Result ℕ Refusal} {r : Refusal} (is : a ≡ answer (read_causes text m) (length text)) (no' : a ≡ Err r) where
-  pub contain_refused : (term : Option ℕ) → variants.Refused r ≡ told_term (answer (read_causes text m) (length text)) term
+  pub contain_refused : (term : Option ℕ) → ◌≡◌ {A = WordAnswer} (Err r) (told_term (answer (read_causes text m) (length text)) term)
   contain_refused term = sym (ap (λ (z : Result ℕ Refusal). told_term z term) (sym is ∙ no'))
 
   pub prefix_refused : (out : List ℕ) (q : ℕ) → a ≡ answer (prefix_causes text m out) q

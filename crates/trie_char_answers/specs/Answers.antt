@@ -1,6 +1,7 @@
 -- What each operation on a dictionary answers: the first refusal that applies, or the number that
 -- it is accepted with.
-use Rattle.std.specs.Prelude.{ℕ, List, length, Result, Ok, Err}
+use Rattle.std.specs.Prelude as prelude
+use Rattle.std.specs.Prelude.{ℕ, List, length, Result, Ok, Err, Some, None}
 use Rattle.std.proofs.Math.Option.{Option, none, some}
 use Rattle.refusal.specs.declared.Refusal.{Refusal}
 use Rattle.refusal.specs.Answers.{answer}
@@ -9,9 +10,6 @@ use Rattle.trie_pool.specs.Rules.{cells_of}
 use Rattle.trie_pool.specs.Meaning.{Words, Terms, meaning, terms, with_term, without_term, report_term}
 use Rattle.trie_pool.specs.Meaning.{prefix_lengths, amount}
 use Rattle.trie_check.specs.Refusals.{held, held_terms, pool_causes, read_causes}
-use Rattle.trie_char_answers.specs.declared.WordAnswer.{WordAnswer}
-use Rattle.trie_char_answers.specs.declared.WordAnswer.TheVariants.{Held}
-use Rattle.trie_char_answers.specs.declared.WordAnswer.TheVariants as variants
 use Rattle.trie_char_answers.specs.Refusals.{prefix_causes, remove_causes, add_causes, fresh_causes}
 
 -- Fresh pool: 8.
@@ -42,14 +40,17 @@ abbrev pub remove_answer : List ℕ → List ℕ → Result ℕ Refusal
 remove_answer word pool =
     answer (remove_causes word (meaning pool)) (report_term (trimmed_of word) (terms_of pool) (removed word pool))
 
--- Contains tells 1 and the class of a word that is held, else 0 and 0.
+-- Contains tells the class of a word that is held, or nothing.
+abbrev pub WordAnswer : Type 0
+WordAnswer = Result (prelude.Option ℕ) Refusal
+
 abbrev pub tells_term : Option ℕ → WordAnswer
-tells_term none = Held 0 0
-tells_term (some class) = Held 1 class
+tells_term none = Ok None
+tells_term (some class) = Ok (Some class)
 
 abbrev pub told_term : Result ℕ Refusal → Option ℕ → WordAnswer
 told_term (Ok n) term = tells_term term
-told_term (Err r) term = variants.Refused r
+told_term (Err r) term = Err r
 
 -- Contains: 2, 3, 4.
 abbrev pub contains_answer : List ℕ → List ℕ → WordAnswer

@@ -12,13 +12,6 @@ use refusal::Refusal;
 use trie_check::check;
 use trie_pool::MAX_WORD;
 
-// Whether a word is held, 1 or 0, and its class, 0 with a no; or why the call was refused.
-#[derive(Clone, Copy)]
-pub enum WordAnswer {
-    Held(usize, usize),
-    Refused(Refusal),
-}
-
 // Refusals 2, 3, 4 and 7, which add and remove share; accepted with the word's length.
 pub fn check_word(pool: &[u32], word: &[u32]) -> Result<usize, Refusal>
     ensures { result ≡

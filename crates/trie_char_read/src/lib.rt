@@ -5,31 +5,22 @@ ghost use Rattle.std.specs.Prelude.{◌≡◌};
 ghost use Rattle.refusal.specs.Answers.{output};
 ghost use Rattle.trie_char_answers.specs.Answers.{contains_answer, prefixes, prefixes_answer, word_count_answer};
 
-use cells::wide;
 use refusal::Refusal;
-use trie_char_answers::WordAnswer;
 use trie_check::{capacity, check, is_dictionary};
 use trie_pool::NODE;
 use trie_search::{count_words, mark_of, prefix_count};
 
-// Whether the word is held, and its class. The word is taken as it is.
-pub fn contain(pool: &[u32], word: &[u32]) -> WordAnswer
+// The class of the word if it is held. The word is taken as it is.
+pub fn contain(pool: &[u32], word: &[u32]) -> Result<Option<u16>, Refusal>
     ensures { result ≡ contains_answer word.now pool.now }
 {
-    let checked = check(pool, word);
-    match checked {
-        Err(r) => {
-            return WordAnswer::Refused(r);
-        }
-        Ok(_) => {
-            let cells = NODE * capacity(pool.len());
-            let mark = wide(mark_of(&pool[..cells], word));
-            if mark == 0 {
-                return WordAnswer::Held(0, 0);
-            }
-            WordAnswer::Held(1, mark - 1)
-        }
+    check(pool, word)?;
+    let cells = NODE * capacity(pool.len());
+    let mark = mark_of(&pool[..cells], word);
+    if mark == 0 {
+        return Ok(None);
     }
+    Ok(Some((mark - 1) as u16))
 }
 
 // The lengths of the words that the text starts with, rising, at the front of out; accepted with

@@ -6,8 +6,7 @@ use Rattle.refusal.specs.Answers.{answer}
 use Rattle.char_string_trim.specs.Trimming.{trimmed_of}
 use Rattle.trie_pool.specs.Meaning.{Words, Terms, with_term, without_term, report_term, prefix_lengths, amount}
 use Rattle.trie_check.specs.Refusals.{held, held_terms, pool_causes, read_causes}
-use Rattle.trie_char_answers.specs.declared.WordAnswer.{WordAnswer}
-use Rattle.trie_char_answers.specs.Answers.{told_term}
+use Rattle.trie_char_answers.specs.Answers.{WordAnswer, told_term}
 use Rattle.trie_char_answers.specs.Refusals.{prefix_causes, remove_causes}
 use Rattle.trie_plants.specs.declared.Plant.{Plant}
 use Rattle.trie_plants.specs.Halves.{half_of}

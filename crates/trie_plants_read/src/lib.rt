@@ -7,34 +7,25 @@ ghost use Rattle.refusal.specs.Answers.{output};
 ghost use Rattle.trie_plants_answers.specs.Answers.{plant_contains_answer, plant_prefixes};
 ghost use Rattle.trie_plants_answers.specs.Answers.{plant_prefixes_answer, plant_count_answer};
 
-use cells::wide;
 use refusal::Refusal;
-use trie_char_answers::WordAnswer;
 use trie_check::capacity;
 use trie_plants::{Plant, half_at};
 use trie_plants_check::{check_plant, is_plants};
 use trie_pool::NODE;
 use trie_search::{count_words, mark_of, prefix_count, prefix_lengths};
 
-// Whether the plant holds the word, and its class. The word is taken as it is.
-pub fn contain_in(pool: &[u32], plant: Plant, word: &[u32]) -> WordAnswer
+// The class of the word if the plant holds it. The word is taken as it is.
+pub fn contain_in(pool: &[u32], plant: Plant, word: &[u32]) -> Result<Option<u16>, Refusal>
     ensures { result ≡ plant_contains_answer plant word.now pool.now }
 {
-    let checked = check_plant(pool, plant, word);
-    match checked {
-        Err(r) => {
-            return WordAnswer::Refused(r);
-        }
-        Ok(_) => {
-            let cells = NODE * capacity(pool.len());
-            let at = half_at(plant);
-            let mark = wide(mark_of(&pool[at..cells], word));
-            if mark == 0 {
-                return WordAnswer::Held(0, 0);
-            }
-            WordAnswer::Held(1, mark - 1)
-        }
+    check_plant(pool, plant, word)?;
+    let cells = NODE * capacity(pool.len());
+    let at = half_at(plant);
+    let mark = mark_of(&pool[at..cells], word);
+    if mark == 0 {
+        return Ok(None);
     }
+    Ok(Some((mark - 1) as u16))
 }
 
 // The lengths of the plant's words that the text starts with, rising, at the front of out; accepted
