@@ -21,10 +21,11 @@ use Rattle.break_map_rules.specs.Ends.{first_wrong, AllRight}
 use Rattle.break_map_rules.specs.Answers.{size_causes, ends_cause, position_cause, above_cause, map_answer, map_after, read_causes, count_answer, first_of, unless_refused, next_answer}
 use Rattle.break_map_rules.proofs.Bits.{none_are, first_is}
 use Rattle.break_map_rules.proofs.Breaks.{those_split}
+use Rattle.break_map_rules.proofs.Cells.{breaks_take}
 use Rattle.break_map_rules.proofs.Ends.{right_most, end_at}
 use Rattle.break_map_rules.proofs.Maps.{map_long}
 
-same_number : {k m : ℕ} → Ok k ≡ Ok m → k ≡ m
+same_number : {k m : ℕ} → ◌≡◌ {A = Result ℕ Refusal} (Ok k) (Ok m) → k ≡ m
 same_number e = cc
 
 -- the number that is told where a call is accepted
@@ -182,19 +183,21 @@ module _ (n : ℕ) (map : List ℕ) (position : ℕ) {used : ℕ} (h : answer (r
   pub counted : (k : ℕ) → k ≡ breaks_up_to map position → Ok k ≡ count_answer n map position
   counted k e = ap Ok e ∙ again (read_causes n map position) (cells_for n) (breaks_up_to map position) h
 
-  pub found : (r : Option ℕ) → r ≡ first_of (breaks map (64 * used - (position + 1)) (position + 1)) → Ok r ≡ next_answer n map position
-  found r e =
+  pub found : (r : Option ℕ) (cells : ℕ) → cells ≡ used → r ≡ first_of (breaks (take used map) (64 * cells - (position + 1)) (position + 1)) → Ok r ≡ next_answer n map position
+  found r cells same e =
       let a = asked in
       let k : 64 * used - (position + 1) ≡ n - position + (bits_for n - (n + 1)) = omega (arith, a.within, a.cells_used) in
       let p : position + 1 + (n - position) ≡ n + 1 = omega (arith, a.within) in
-      e
-      ∙ ap first_of (those_split (is_break map) (n - position) (64 * used - (position + 1)) (bits_for n - (n + 1)) (position + 1) k
+      ap Ok (e
+      ∙ ap first_of (ap (λ (c : ℕ). breaks (take used map) (64 * c - (position + 1)) (position + 1)) same
+      ∙ breaks_take used map (64 * used - (position + 1)) (position + 1) (omega (arith, k))
+      ∙ those_split (is_break map) (n - position) (64 * used - (position + 1)) (bits_for n - (n + 1)) (position + 1) k
       ∙ ap (λ (z : ℕ). breaks_above n map position ++ breaks map (bits_for n - (n + 1)) z) p
       ∙ ap (λ (xs : List ℕ). breaks_above n map position ++ xs) a.clear
-      ∙ append-nil (breaks_above n map position))
+      ∙ append-nil (breaks_above n map position)))
       ∙ ap (λ (z : Result ℕ Refusal). unless_refused z (first_of (breaks_above n map position))) (again (read_causes n map position) (cells_for n) 0 h)
 
-pub not_asked : (n : ℕ) (map : List ℕ) (position : ℕ) {a : Result ℕ Refusal} {r : Refusal} → a ≡ answer (read_causes n map position) (cells_for n) → a ≡ Err r
-    → ◌≡◌ {A = Result (Option ℕ) Refusal} (Err r) (next_answer n map position)
-not_asked n map position is e =
-    ap (λ (z : Result ℕ Refusal). unless_refused z (first_of (breaks_above n map position))) (still (read_causes n map position) (cells_for n) 0 (sym is ∙ e))
+pub not_asked : (n : ℕ) (map : List ℕ) (position : ℕ) {r : Refusal} → answer (read_causes n map position) (cells_for n) ≡ Err r
+    → Err r ≡ next_answer n map position
+not_asked n map position e =
+    ap (λ (z : Result ℕ Refusal). unless_refused z (first_of (breaks_above n map position))) (still (read_causes n map position) (cells_for n) 0 e)

@@ -28,5 +28,6 @@ module _ {n : ℕ} {ends : List ℕ} {before i : ℕ} (r : Right n ends before i
     pub right_stop : (before < e → e ≤ n → ⊥) → i ≡ first_wrong n ends
     right_stop h = omega (arith, r.rest, ap (right_from n before) next ∙ right_no n before e (drop (i + 1) ends) h)
 
-  pub right_all : length ends ≤ i → i ≡ first_wrong n ends
-  right_all l = omega (arith, r.rest, ap (right_from n before) (drop_of_length-le ends l) ∙ right_nil n before)
+pub right_all : {n : ℕ} {ends : List ℕ} {before i : ℕ} → Right n ends before i → length ends ≤ i → length ends ≡ first_wrong n ends
+right_all {n} {ends} {before} {i} r l =
+    omega (arith, r.inside, r.rest, ap (right_from n before) (drop_of_length-le ends l) ∙ right_nil n before)

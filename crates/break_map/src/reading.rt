@@ -40,5 +40,5 @@ pub fn next_break(n: usize, map: &[u64], position: usize) -> Result<Option<usize
     ensures { result ≡ next_answer n map.now position }
 {
     let used = check_read(n, map, position)?;
-    Ok(first_from(map, used, position + 1))
+    Ok(first_from(&map[..used], position + 1))
 }

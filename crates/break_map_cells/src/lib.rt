@@ -24,18 +24,6 @@ fn set_bit(map: &mut [u64], p: usize)
     map[p / BITS] |= 1 << (p % BITS);
 }
 
-// Sets the bits at the given positions in cells that are all 0.
-fn set_bits(map: &mut [u64], positions: &[u32])
-    requires { (map.old ≡ replicate (length map.old) 0)
-        × ((i : ℕ) → i < length positions.now → get_or positions.now i 0 < 64 * length map.old) }
-    ensures { map.new
-        ≡ cells (λ (p : ℕ). member p positions.now) (length map.old) 0 }
-{
-    for p in positions {
-        set_bit(map, *p as usize);
-    }
-}
-
 // Sets the bits at the given positions, and no others, whatever the cells held before.
 pub fn write_bits(map: &mut [u64], positions: &[u32])
     requires { (i : ℕ) → i < length positions.now → get_or positions.now i 0 < 64 * length map.old }
@@ -43,7 +31,9 @@ pub fn write_bits(map: &mut [u64], positions: &[u32])
         ≡ cells (λ (p : ℕ). member p positions.now) (length map.old) 0 }
 {
     map.fill(0);
-    set_bits(map, positions);
+    for p in positions {
+        set_bit(map, *p as usize);
+    }
 }
 
 // The bits from position p to the end of its cell, lowest first.
@@ -61,13 +51,14 @@ pub fn lowest(bits: u64) -> usize
     bits.trailing_zeros() as usize
 }
 
-// The first break from position `from` on, in the first cells of a map.
-pub fn first_from(map: &[u64], cells: usize, from: usize) -> Option<usize>
-    requires { (cells ≤ length map.now) × (cells ≤ 1024) }
-    ensures { result ≡ first_of (breaks map.now (64 * cells - from) from) }
+// The first break of a map from position `from` on.
+pub fn first_from(map: &[u64], from: usize) -> Option<usize>
+    requires { length map.now ≤ 1024 }
+    ensures { result ≡ first_of (breaks map.now (64 * length map.now - from) from) }
 {
     let mut p = from;
-    while p < BITS * cells {
+    // Kept: (3) p goes from a position to where the next cell begins, which no range says.
+    while p < BITS * map.len() {
         let bits = bits_from(map, p);
         if bits != 0 {
             return Some(p + lowest(bits));
@@ -78,7 +69,7 @@ pub fn first_from(map: &[u64], cells: usize, from: usize) -> Option<usize>
 }
 
 fn ones_of(bits: u64) -> usize
-    ensures { (result ≡ ones bits) × (result ≤ 64) }
+    ensures { result ≡ ones bits }
 {
     bits.count_ones() as usize
 }

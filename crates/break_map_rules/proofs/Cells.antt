@@ -9,7 +9,8 @@ use lib.ListN.{length, get_or, take, get_or-eq_default, get_or-append}
 use lib.Seq.{get_or-take, ext_get_or}
 use lib.Dec.{eqb}
 use borrow.Author.Tests.{eqb-true, eqb-false}
-use Rattle.break_map_rules.specs.Maps.{Cells, bit, word, cells, bit_at, is_break}
+use Rattle.break_map_rules.specs.Maps.{Cells, bit, word, cells, bit_at, is_break, breaks}
+use Rattle.break_map_rules.proofs.Breaks.{those_same}
 use Rattle.break_map_rules.proofs.Bits.{word_small, word_bit, word_back, word_same}
 
 -- ---- cells that are made by a test
@@ -56,6 +57,9 @@ no_bit map p h = ap (λ (x : ℕ). x / 2 ^ (p % 64) % 2) (get_or-eq_default map 
 pub break_take : (c : ℕ) (map : List ℕ) (p : ℕ) → p < 64 * c → is_break (take c map) p ≡ is_break map p
 unfolding bit_at
 break_take c map p h = ap (λ (x : ℕ). eqb (x / 2 ^ (p % 64) % 2) 1) (get_or-take c map (p / 64) 0 (omega arith))
+
+pub breaks_take : (c : ℕ) (map : List ℕ) (d p : ℕ) → p + d ≤ 64 * c → breaks (take c map) d p ≡ breaks map d p
+breaks_take c map d p h = those_same (is_break map) (is_break (take c map)) d p (λ x a b. break_take c map x (omega arith))
 
 pub break_front : (xs ys : List ℕ) (p : ℕ) → p < 64 * length xs → is_break (xs ++ ys) p ≡ is_break xs p
 unfolding bit_at

@@ -1,4 +1,3 @@
-use Prim.Native.Nat.{◌-◌}
 use Rattle.break_map_cells.proofs.Reading.{past_none, past_more, past_found, past_all}
 use Rattle.break_map_cells.proofs.first_from.Goals as goal
 
