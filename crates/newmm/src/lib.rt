@@ -35,7 +35,10 @@ pub fn cut_ready(
     }
     copy(&scratch[..n], out, n);
     clear_first(scratch, n);
-    Ok(Ends { ends: n, edges: r.edges })
+    Ok(Ends {
+        ends: n,
+        edges: r.edges,
+    })
 }
 
 // The same, whatever scratch holds.
@@ -69,12 +72,7 @@ pub fn cut(
     ensures { Cuts (call text.now pool.now out.old scratch.old mode)
         result out.new scratch.new }
 {
-    let checked = check_cut(text, pool, scratch.len());
-    match checked {
-        Err(r) => Err(r),
-        Ok(_) => {
-            let cells = NODE * capacity(pool.len());
-            cut_checked(text, &pool[..cells], out, scratch, mode)
-        }
-    }
+    check_cut(text, pool, scratch.len())?;
+    let cells = NODE * capacity(pool.len());
+    cut_checked(text, &pool[..cells], out, scratch, mode)
 }
