@@ -9,7 +9,7 @@ use lib.Seq.{length-take-le}
 use lib.Dec.{leb}
 use borrow.Author.Tests.{lt-leb, leb-true, lt-ltb, le-ltb}
 use Rattle.char_string.specs.declared.Span.{Span}
-use Rattle.char_string.specs.declared.CharAt.TheVariants.{Scalar, Nothing}
+use Rattle.std.specs.Prelude.{Some, None}
 use Rattle.char_string.specs.Parts.{Within, right_pair, fitted, between, part_of, char_at, shifted, sub_view}
 
 pub crossed : (n : ℕ) {a e : ℕ} → e < a → right_pair n a e ≡ false
@@ -44,10 +44,10 @@ pub length_is : (text : List ℕ) (a e : ℕ) (s : Span) → s ≡ fitted (lengt
 length_is text a e s h =
     sym (ap (λ (q : Span). length (between text q)) (sym h) ∙ length_between text s (within_is a e h))
 
-pub char_some : (view : List ℕ) (i : ℕ) → i < length view → Scalar (get_or view i 0) ≡ char_at view i
+pub char_some : (view : List ℕ) (i : ℕ) → i < length view → Some (get_or view i 0) ≡ char_at view i
 char_some view i h = simp (lt-ltb _ _ h)
 
-pub char_none : (view : List ℕ) (i : ℕ) → length view ≤ i → Nothing ≡ char_at view i
+pub char_none : (view : List ℕ) (i : ℕ) → length view ≤ i → None ≡ char_at view i
 char_none view i h = simp (le-ltb _ _ h)
 
 -- a sub-view, by the view and the fitted pair in it

@@ -1,8 +1,6 @@
 -- Sub-texts: a part of the caller's text, and a view with a start and an end.
-use Rattle.std.specs.Prelude.{ℕ, ◌+◌, ◌-◌, ◌*◌, ◌≤◌, Bool, cond, ◌&&◌, List, length, get_or, take, drop, leb, ltb}
+use Rattle.std.specs.Prelude.{ℕ, ◌+◌, ◌-◌, ◌*◌, ◌≤◌, Bool, cond, ◌&&◌, List, length, get_or, take, drop, leb, ltb, Option, Some, None}
 use Rattle.char_string.specs.declared.Span.{Span}
-use Rattle.char_string.specs.declared.CharAt.{CharAt}
-use Rattle.char_string.specs.declared.CharAt.TheVariants.{Scalar, Nothing}
 
 -- A right pair of positions has start ≤ end ≤ n.
 abbrev pub right_pair : ℕ → ℕ → ℕ → Bool
@@ -32,8 +30,8 @@ abbrev pub cell_at : ℕ × ℕ → ℕ → ℕ × ℕ
 cell_at place i = (place.0, i * 4 + place.1)
 
 -- the character of a view at an index
-abbrev pub char_at : List ℕ → ℕ → CharAt
-char_at view i = cond (ltb i (length view)) (Scalar (get_or view i 0)) Nothing
+abbrev pub char_at : List ℕ → ℕ → Option ℕ
+char_at view i = cond (ltb i (length view)) (Some (get_or view i 0)) None
 
 -- a sub-view, by positions of the view v
 abbrev pub shifted : ℕ → Span → Span

@@ -12,12 +12,6 @@ pub struct Span {
     pub end: usize,
 }
 
-#[derive(Clone, Copy)]
-pub enum CharAt {
-    Scalar(u32),
-    Nothing,
-}
-
 // Whether start and end are a right pair of positions of the text.
 pub fn is_substring(text: &[u32], start: usize, end: usize) -> bool
     ensures { result ≡ right_pair (length text.now) start end }
@@ -60,14 +54,11 @@ pub fn chars_len(text: &[u32], start: usize, end: usize) -> usize
 }
 
 // The character of a view at an index, if it has one there.
-pub fn get_char_at(text: &[u32], start: usize, end: usize, index: usize) -> CharAt
+pub fn get_char_at(text: &[u32], start: usize, end: usize, index: usize) -> Option<u32>
     ensures { result ≡ char_at (part_of text.now start end) index }
 {
     let view = substring(text, start, end);
-    if index < view.len() {
-        return CharAt::Scalar(view[index]);
-    }
-    CharAt::Nothing
+    view.get(index).copied()
 }
 
 // The view of a view between two of its positions, as positions of the text. A wrong pair gives the

@@ -6,8 +6,6 @@ ghost use Rattle.std.specs.Prelude.{◌≡◌, length};
 ghost use Rattle.char_string.specs.Parts.{part_of, fitted, cell_at, char_at, sub_view};
 ghost use Rattle.char_string_view.specs.Views.{view_of, shown, shown_at, sub_view_of};
 
-use char_string::CharAt;
-
 #[derive(Clone, Copy)]
 pub struct CharView<'a> {
     pub text: &'a [u32],
@@ -31,7 +29,7 @@ impl<'a> CharView<'a> {
     }
 
     // The character of the view at an index, if it has one there.
-    pub fn get_char_at(self, index: usize) -> CharAt
+    pub fn get_char_at(self, index: usize) -> Option<u32>
         ensures { result ≡ char_at (shown self.entry) index }
     {
         char_string::get_char_at(self.text, self.start, self.end, index)
@@ -88,7 +86,7 @@ pub fn sub_get_char_at(
     from: usize,
     to: usize,
     index: usize,
-) -> CharAt
+) -> Option<u32>
     ensures { result ≡ char_at (part_of (part_of text.now start end) from to) index }
 {
     sub_view_of(text, start, end, from, to).get_char_at(index)

@@ -1,9 +1,7 @@
 -- What a host is told of its bytes and texts, and what stands in the rows that it lends: the answer
 -- and the rows of the library function, as its contract gives them.
-use Rattle.std.specs.Prelude.{ℕ, ◌≡◌, List, length}
+use Rattle.std.specs.Prelude.{ℕ, ◌≡◌, List, length, Option, Some, None}
 use Rattle.refusal.specs.Answers.{output}
-use Rattle.utf8.specs.declared.InBytes.{InBytes}
-use Rattle.utf8.specs.declared.InBytes.TheVariants.{At, Nothing}
 use Rattle.utf8.specs.Decoding.{scalars_of, room_in, decoded}
 use Rattle.utf8.specs.Positions.{positions_of, end_in_bytes}
 use Rattle.tcc_rules.specs.Clusters.{cluster_ends}
@@ -33,9 +31,9 @@ abbrev pub told_end : (number found place : ℕ) → ToldEnd
 told_end number found place = record { number = number; found = found; place = place }
 
 -- The call is never refused. Found is 1, and the place is told; or both are 0.
-abbrev pub tells_end : InBytes → ToldEnd
-tells_end (At p) = told_end 0 1 p
-tells_end Nothing = told_end 0 0 0
+abbrev pub tells_end : Option ℕ → ToldEnd
+tells_end (Some p) = told_end 0 1 p
+tells_end None = told_end 0 0 0
 
 -- AN END IN BYTES: what is told.
 abbrev pub EndTold : (positions : List ℕ) (n end : ℕ) → ToldEnd → Type 0

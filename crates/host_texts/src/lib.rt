@@ -6,7 +6,6 @@ ghost use Rattle.host_texts.specs.Calls.{DecodeTold, told_end, EndTold, Clusters
 
 use host_telling::tell;
 use tcc::tcc_pos;
-use utf8::InBytes;
 
 // The scalars of UTF-8 bytes, at the front of out, and the byte position of each and of the end, at
 // the front of positions; accepted with the number of scalars. Refusals 1, 2, 6.
@@ -38,12 +37,12 @@ pub fn end_in_bytes(
 {
     let place = utf8::end_in_bytes(positions, n, end);
     match place {
-        InBytes::At(p) => {
+        Some(p) => {
             *found = 1;
             *at = p;
             0
         }
-        InBytes::Nothing => {
+        None => {
             *found = 0;
             *at = 0;
             0

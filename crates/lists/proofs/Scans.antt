@@ -91,6 +91,17 @@ last_no p [] i h e = absurd (omega arith)
 last_no p (x ∷ xs) zero h e = last_here p x (take 0 xs) false (last_nil p) e ∙ sym (last_nil p)
 last_no p (x ∷ xs) (suc i) h e = last_same p x (take (suc i) xs) (take i xs) (last_no p xs i (omega arith) e)
 
+-- where no cell passes the test, and where the one at k is the last that does
+pub last_unfound : (p : ℕ → Bool) (s : List ℕ) → ((j : ℕ) → j < length s → p (get_or s j 0) ≡ false) → behind_last p s ≡ 0
+last_unfound p [] f = last_nil p
+last_unfound p (x ∷ xs) f = last_here p x xs false (last_unfound p xs (λ j h. f (suc j) (omega arith))) (f 0 (omega arith))
+
+pub last_found : (p : ℕ → Bool) (s : List ℕ) (k : ℕ) → k < length s → p (get_or s k 0) ≡ true → ((j : ℕ) → k < j → j < length s → p (get_or s j 0) ≡ false)
+    → behind_last p s ≡ suc k
+last_found p [] k h e f = absurd (omega arith)
+last_found p (x ∷ xs) zero h e f = last_here p x xs true (last_unfound p xs (λ j l. f (suc j) (omega arith) (omega arith))) e
+last_found p (x ∷ xs) (suc k) h e f = last_later p x xs k (last_found p xs k (omega arith) e (λ j l m. f (suc j) (omega arith) (omega arith)))
+
 -- no cell from e on passes the test
 pub record Left (p : ℕ → Bool) (s : List ℕ) (e : ℕ) : Type 0 where
   pub inside : e ≤ length s

@@ -8,8 +8,7 @@ use lib.ListN.{length, take, drop, length-take, length-drop}
 use lib.Seq.{length-take-le}
 use lib.Dec.{ltb}
 use borrow.Author.Tests.{ltb-false}
-use Rattle.char_string_last_space.specs.declared.Found.{Found}
-use Rattle.char_string_last_space.specs.declared.Found.TheVariants.{At, Nothing}
+use Rattle.std.specs.Prelude.{Option, Some, None}
 use Rattle.char_string_last_space.specs.Spaces.{last_space}
 use Rattle.newmm_rules.specs.declared.Mode.{Mode}
 use Rattle.newmm_rules.specs.declared.Mode.TheVariants.{Plain, Safe, Sheet}
@@ -29,10 +28,10 @@ edges_cons plain t a = refl
 
 module _ (plain : Cutter) (small : (t : List ℕ) → (plain t).edges ≤ 51 * length t) where
   -- a sample has 40 characters at most, and so few edges are recorded in it
-  few_for : (sample : List ℕ) → length sample ≤ 40 → (w : Found) → edges_of plain (sampled sample w) ≤ 2040
+  few_for : (sample : List ℕ) → length sample ≤ 40 → (w : Option ℕ) → edges_of plain (sampled sample w) ≤ 2040
   unfolding edges_of
-  few_for sample h (At i) = omega arith
-  few_for sample h Nothing = omega (arith, small sample)
+  few_for sample h (Some i) = omega arith
+  few_for sample h None = omega (arith, small sample)
 
   pub sample_few : (rest : List ℕ) → edges_of plain (sampled (sample_of rest) (last_space (sample_of rest))) ≤ 2040
   sample_few rest = few_for (sample_of rest) (omega (arith, length-take 40 (drop 100 rest))) (last_space (sample_of rest))

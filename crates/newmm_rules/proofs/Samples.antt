@@ -10,8 +10,7 @@ use lib.Dec.{leb}
 use borrow.Author.Tests.{leb-true}
 use Rattle.lists.specs.Scans.{behind_last}
 use Rattle.lists.proofs.Scans.{last_inside}
-use Rattle.char_string_last_space.specs.declared.Found.{Found}
-use Rattle.char_string_last_space.specs.declared.Found.TheVariants.{At, Nothing}
+use Rattle.std.specs.Prelude.{Option, Some, None}
 use Rattle.char_string_last_space.specs.Spaces.{is_space, before, last_space}
 use Rattle.newmm_rules.specs.Longest.{lengths, longest, before_longest}
 use Rattle.newmm_rules.specs.Parts.{Cutter, sample_of, cut_for, cut_at}
@@ -54,10 +53,10 @@ pub record Fits (space_cut : ℕ → ℕ) : Type 0 where
 abbrev pub Right : Cutter → Type 0
 Right plain = (t : List ℕ) → Climbs 0 (plain t).ends (length t)
 
-pub space_inside : (rest : List ℕ) (i : ℕ) → 140 ≤ length rest → last_space (sample_of rest) ≡ At i → i < 40
+pub space_inside : (rest : List ℕ) (i : ℕ) → 140 ≤ length rest → last_space (sample_of rest) ≡ Some i → i < 40
 space_inside rest i h e = go (behind_last is_space (sample_of rest)) (omega (arith, last_inside is_space (sample_of rest), sample_long rest h)) e
   where
-    go : (k : ℕ) → k ≤ 40 → before k ≡ At i → i < 40
+    go : (k : ℕ) → k ≤ 40 → before k ≡ Some i → i < 40
     go zero l q = absurd (let z : ◌≡◌ {A = ℕ} 0 1 = cc in omega arith)
     go (suc j) l q = let z : j ≡ i = cc in omega arith
 
@@ -67,8 +66,8 @@ pub cut_inside : (space_cut : ℕ → ℕ) (plain : Cutter) → Fits space_cut �
 unfolding cut_at
 cut_inside space_cut plain f r rest h = go (last_space (sample_of rest)) refl
   where
-    go : (w : Found) → last_space (sample_of rest) ≡ w → (0 < cut_for space_cut plain (sample_of rest) w) × (cut_for space_cut plain (sample_of rest) w ≤ 140)
-    go (At i) e = let l = space_inside rest i h e in (f.some i l, f.inside i l)
-    go Nothing e =
+    go : (w : Option ℕ) → last_space (sample_of rest) ≡ w → (0 < cut_for space_cut plain (sample_of rest) w) × (cut_for space_cut plain (sample_of rest) w ≤ 140)
+    go (Some i) e = let l = space_inside rest i h e in (f.some i l, f.inside i l)
+    go None e =
         let s = starts_inside (r (sample_of rest)) (omega (arith, sample_long rest h)) in
         (omega arith, omega (arith, s, sample_long rest h))

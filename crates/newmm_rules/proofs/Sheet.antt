@@ -10,8 +10,7 @@ use lib.Dec.{ltb}
 use borrow.Author.Tests.{ltb-true, ltb-false, lt-ltb, le-ltb, eq-eqb}
 use Rattle.lists.specs.Scans.{behind_last}
 use Rattle.lists.proofs.Scans.{last_inside}
-use Rattle.char_string_last_space.specs.declared.Found.{Found}
-use Rattle.char_string_last_space.specs.declared.Found.TheVariants.{At, Nothing}
+use Rattle.std.specs.Prelude.{Option, Some, None}
 use Rattle.char_string_last_space.specs.Spaces.{is_space, before, last_space}
 use Rattle.newmm_rules.specs.declared.Mode.TheVariants.{Sheet}
 use Rattle.newmm_rules.specs.Parts.{Cutter, sample_of, cut_for, cut_at, sampled, Runs, last_part, one_part, first, runs_of}
@@ -34,22 +33,22 @@ shifted_by_none (e ∷ es) = let z : 0 + e ≡ e = omega arith in λ i. z i ∷ 
 module _ (plain : Cutter) where
   -- where a remaining text is cut: 101 behind the index of its sample's last space, or as in safe
   -- mode
-  at_index : (text : List ℕ) (i : ℕ) → last_space (sample_of text) ≡ At i → cut_at behind_space plain text ≡ i + 101
+  at_index : (text : List ℕ) (i : ℕ) → last_space (sample_of text) ≡ Some i → cut_at behind_space plain text ≡ i + 101
   unfolding cut_at
   at_index text i e = ap (cut_for behind_space plain (sample_of text)) e
 
-  as_safe : (text : List ℕ) → last_space (sample_of text) ≡ Nothing → cut_at behind_space plain text ≡ cut_at unshifted plain text
+  as_safe : (text : List ℕ) → last_space (sample_of text) ≡ None → cut_at behind_space plain text ≡ cut_at unshifted plain text
   unfolding cut_at
   as_safe text e = ap (cut_for behind_space plain (sample_of text)) e ∙ sym (ap (cut_for unshifted plain (sample_of text)) e)
 
-  at_least_100 : (text : List ℕ) → last_space (sample_of text) ≡ Nothing → 100 ≤ cut_at behind_space plain text
+  at_least_100 : (text : List ℕ) → last_space (sample_of text) ≡ None → 100 ≤ cut_at behind_space plain text
   unfolding cut_at
-  at_least_100 text e = subst (λ (w : Found). 100 ≤ cut_for behind_space plain (sample_of text) w) (sym e) (omega arith)
+  at_least_100 text e = subst (λ (w : Option ℕ). 100 ≤ cut_for behind_space plain (sample_of text) w) (sym e) (omega arith)
 
   -- ---- the parts
 
   -- a first part that ends at the last space
-  ends_at : (text : List ℕ) → 140 ≤ length text → (i c : ℕ) → i < 40 → last_space (sample_of text) ≡ At i → c ≡ i + 101 → AtSpace (take c text) (drop c text)
+  ends_at : (text : List ℕ) → 140 ≤ length text → (i c : ℕ) → i < 40 → last_space (sample_of text) ≡ Some i → c ≡ i + 101 → AtSpace (take c text) (drop c text)
   ends_at text l i c h e q =
       let n = length-take-le c text (omega arith) in
       let at : length (take c text) - 1 ≡ 100 + i = omega arith in
@@ -70,15 +69,15 @@ module _ (plain : Cutter) where
         whole : take c text ++ drop c text ≡ text
         whole = take-append-drop c text
 
-        go : (w : Found) → last_space (sample_of text) ≡ w → SheetParts plain (take c text ++ drop c text) (take c text ∷ parts)
-        go (At i) e =
+        go : (w : Option ℕ) → last_space (sample_of text) ≡ w → SheetParts plain (take c text ++ drop c text) (take c text ∷ parts)
+        go (Some i) e =
             let h = space_inside text i l e in
             at_space
             (subst (λ (t : List ℕ). 140 ≤ length t) (sym whole) l)
             (subst HoldsSpace (sym whole) (holds_space text l i e h))
             (ends_at text l i c h e (at_index text i e))
             later
-        go Nothing e =
+        go None e =
             let n = length-take-le c text (omega (arith, (cut_inside behind_space plain behind_space_fits r text l).1)) in
             no_space {part = take c text}
             (subst (λ (t : List ℕ). 140 ≤ length t) (sym whole) l)
@@ -127,7 +126,7 @@ nothing_left plain zero = refl
 nothing_left plain (suc k) = refl
 
 module _ (plain : Cutter) (text : List ℕ) (h : length text ≡ 140) (s : get_or text 139 0 ≡ space) where
-  last_index : last_space (sample_of text) ≡ At 39
+  last_index : last_space (sample_of text) ≡ Some 39
   last_index =
       let l : 140 ≤ length text = omega arith in
       let a = not_behind is_space (sample_of text) 39 (omega (arith, sample_long text l)) (eq-eqb _ _ (sampled_at text l 39 (omega arith) ∙ s)) in
@@ -168,12 +167,12 @@ only_part plain text h s = (ap (λ (r : Runs). r.parts) (alone_in plain text h s
 
 -- ---- where no sample holds a space
 
-none_last : (text : List ℕ) → 140 ≤ length text → (HoldsSpace text → ⊥) → last_space (sample_of text) ≡ Nothing
+none_last : (text : List ℕ) → 140 ≤ length text → (HoldsSpace text → ⊥) → last_space (sample_of text) ≡ None
 none_last text l n = go (last_space (sample_of text)) refl
   where
-    go : (w : Found) → last_space (sample_of text) ≡ w → w ≡ Nothing
-    go (At i) e = absurd (n (holds_space text l i e (space_inside text i l e)))
-    go Nothing e = refl
+    go : (w : Option ℕ) → last_space (sample_of text) ≡ w → w ≡ None
+    go (Some i) e = absurd (n (holds_space text l i e (space_inside text i l e)))
+    go None e = refl
 
 same_runs : (plain : Cutter) (k : ℕ) (text : List ℕ) → NoSpaceMet plain text → runs_of k behind_space plain text ≡ runs_of k unshifted plain text
 unfolding runs_of

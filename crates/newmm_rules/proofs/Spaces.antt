@@ -11,7 +11,7 @@ use lib.Seq.{get_or-take, get_or-drop}
 use lib.Dec.{eqb}
 use borrow.Author.Tests.{eqb-true, eqb-false, eq-eqb}
 use Rattle.lists.specs.Scans.{behind_last}
-use Rattle.char_string_last_space.specs.declared.Found.TheVariants.{At, Nothing}
+use Rattle.std.specs.Prelude.{Some, None}
 use Rattle.char_string_last_space.specs.Spaces.{is_space, before, last_space}
 use Rattle.newmm_rules.specs.Positions.{In}
 use Rattle.newmm_rules.specs.Parts.{sample_of}
@@ -66,11 +66,11 @@ in_at x (y ∷ ys) (suc k) h e = Memᴰ.tail (in_at x ys k (omega arith) e)
 
 -- ---- the sample of a remaining text
 
-behind_of : (n i : ℕ) → before n ≡ At i → n ≡ suc i
+behind_of : (n i : ℕ) → before n ≡ Some i → n ≡ suc i
 behind_of zero i e = absurd (let z : ◌≡◌ {A = ℕ} 0 1 = cc in omega arith)
 behind_of (suc j) i e = let z : j ≡ i = cc in omega arith
 
-none_of : (n : ℕ) → before n ≡ Nothing → n ≡ 0
+none_of : (n : ℕ) → before n ≡ None → n ≡ 0
 none_of zero e = refl
 none_of (suc j) e = absurd (let z : ◌≡◌ {A = ℕ} 0 1 = cc in omega arith)
 
@@ -78,7 +78,7 @@ module _ (rest : List ℕ) (long : 140 ≤ length rest) where
   pub sampled_at : (i : ℕ) → i < 40 → get_or (sample_of rest) i 0 ≡ get_or rest (100 + i) 0
   sampled_at i h = get_or-take 40 (drop 100 rest) i 0 h ∙ get_or-drop 100 rest i 0
 
-  module _ (i : ℕ) (e : last_space (sample_of rest) ≡ At i) where
+  module _ (i : ℕ) (e : last_space (sample_of rest) ≡ Some i) where
     last_is : behind_last is_space (sample_of rest) ≡ suc i
     last_is = behind_of (behind_last is_space (sample_of rest)) i e
 
@@ -95,5 +95,5 @@ module _ (rest : List ℕ) (long : 140 ≤ length rest) where
     pub holds_space : i < 40 → HoldsSpace rest
     holds_space h = in_at space (sample_of rest) i (omega (arith, sample_long rest long)) (sampled_at i h ∙ space_at h)
 
-  pub no_space : last_space (sample_of rest) ≡ Nothing → HoldsSpace rest → ⊥
+  pub no_space : last_space (sample_of rest) ≡ None → HoldsSpace rest → ⊥
   no_space e m = omega (arith, some_last is_space space refl (sample_of rest) m, none_of (behind_last is_space (sample_of rest)) e)

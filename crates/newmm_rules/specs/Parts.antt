@@ -1,7 +1,5 @@
 -- 01, "Safe mode": the parts of a text.
-use Rattle.std.specs.Prelude.{ℕ, zero, suc, ◌+◌, ◌-◌, Bool, cond, List, [], ◌∷◌, ◌++◌, length, take, drop, ltb}
-use Rattle.char_string_last_space.specs.declared.Found.{Found}
-use Rattle.char_string_last_space.specs.declared.Found.TheVariants.{At, Nothing}
+use Rattle.std.specs.Prelude.{ℕ, zero, suc, ◌+◌, ◌-◌, Bool, cond, List, [], ◌∷◌, ◌++◌, length, take, drop, ltb, Option, Some, None}
 use Rattle.char_string_last_space.specs.Spaces.{last_space}
 use Rattle.newmm_rules.specs.Limits.{text_scan_begin, text_scan_end}
 use Rattle.newmm_rules.specs.Cutting.{Cut}
@@ -18,17 +16,17 @@ sample_of rest = take (text_scan_end - text_scan_begin) (drop text_scan_begin re
 -- If it holds U+0020, cut the remaining text where the mode says for the index of the last one in
 -- the sample. Else cut the sample plainly; the cut is 100 plus the lengths of the tokens before the
 -- longest one, the last of equals.
-abbrev pub cut_for : (ℕ → ℕ) → Cutter → List ℕ → Found → ℕ
-cut_for space_cut plain sample (At i) = space_cut i
-cut_for space_cut plain sample Nothing = text_scan_begin + before_longest (lengths 0 (plain sample).ends)
+abbrev pub cut_for : (ℕ → ℕ) → Cutter → List ℕ → Option ℕ → ℕ
+cut_for space_cut plain sample (Some i) = space_cut i
+cut_for space_cut plain sample None = text_scan_begin + before_longest (lengths 0 (plain sample).ends)
 
 unfoldable pub cut_at : (ℕ → ℕ) → Cutter → List ℕ → ℕ
 cut_at space_cut plain rest = cut_for space_cut plain (sample_of rest) (last_space (sample_of rest))
 
 -- the sample, if it was cut plainly
-abbrev pub sampled : List ℕ → Found → List (List ℕ)
-sampled sample (At i) = []
-sampled sample Nothing = sample ∷ []
+abbrev pub sampled : List ℕ → Option ℕ → List (List ℕ)
+sampled sample (Some i) = []
+sampled sample None = sample ∷ []
 
 -- The texts that are cut plainly: the samples without a space, and the parts.
 pub record Runs : Type 0 where

@@ -10,8 +10,6 @@ use lib.Seq.{length-take-le, drop_at, drop-drop, get_or-drop}
 use lib.Dec.{ltb}
 use borrow.Author.Tests.{lt-ltb, le-ltb}
 use Rattle.lists.proofs.Parts.{tail_drop}
-use Rattle.char_string_last_space.specs.declared.Found.{Found}
-use Rattle.char_string_last_space.specs.declared.Found.TheVariants.{At, Nothing}
 use Rattle.char_string_last_space.specs.Spaces.{last_space}
 use Rattle.trie_pool.specs.Meaning.{Words}
 use Rattle.newmm_rules.specs.Cutting.{Cut}

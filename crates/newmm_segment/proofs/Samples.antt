@@ -5,8 +5,7 @@ use mathlib.Core.Path.{◌≡◌, refl, sym, ◌∙◌, ap, subst}
 use mathlib.Core.List.{List, [], ◌∷◌, ◌++◌, map}
 use lib.ListN.{length, get_or, take, drop, replicate, length-append, length-take, get_or-append}
 use lib.Seq.{length-take-le, take_at, drop_at}
-use Rattle.char_string_last_space.specs.declared.Found.{Found}
-use Rattle.char_string_last_space.specs.declared.Found.TheVariants.{At, Nothing}
+use Rattle.std.specs.Prelude.{Option, Some, None}
 use Rattle.char_string_last_space.specs.Spaces.{last_space}
 use Rattle.trie_pool.specs.Words.{holds}
 use Rattle.newmm_rules.specs.Cutting.{Cut}
@@ -87,12 +86,12 @@ module _ {rest pool row : List ℕ} (ready : Ready rest pool row) (long : 140 �
   abbrev space : ℕ → ℕ
   space i = i + by
 
-  pub at_space : (i : ℕ) → last_space (sample_of rest) ≡ At i → Sampled space plain rest (record { from = by; at = i; edges = 0 })
+  pub at_space : (i : ℕ) → last_space (sample_of rest) ≡ Some i → Sampled space plain rest (record { from = by; at = i; edges = 0 })
   unfolding cut_at edges_of
   at_space i e =
       record {
         at = sym (ap (cut_for space plain (sample_of rest)) e);
-        edges = sym (ap (λ (f : Found). edges_of plain (sampled (sample_of rest) f)) e);
+        edges = sym (ap (λ (f : Option ℕ). edges_of plain (sampled (sample_of rest) f)) e);
       }
 
   module _ (row' : List ℕ) {r : Ends} (w : Written (plain (sample_of rest)) row row' r) (right : Right plain) where
@@ -102,12 +101,12 @@ module _ {rest pool row : List ℕ} (ready : Ready rest pool row) (long : 140 �
     pub sample_fits : r.ends ≤ length row'
     sample_fits = fits w (omega (arith, few (right (sample_of rest)), sample_long rest long, ready.room))
 
-    pub no_space : (x : ℕ) → last_space (sample_of rest) ≡ Nothing → x ≡ before_longest (lengths 0 (take r.ends row')) → Sampled space plain rest (record { from = 100; at = x; edges = r.edges })
+    pub no_space : (x : ℕ) → last_space (sample_of rest) ≡ None → x ≡ before_longest (lengths 0 (take r.ends row')) → Sampled space plain rest (record { from = 100; at = x; edges = r.edges })
     unfolding cut_at edges_of
     no_space x e q =
         record {
           at = (let z : x + 100 ≡ 100 + x = omega arith in z) ∙ ap (λ (y : ℕ). 100 + y) (q ∙ ap (λ (es : List ℕ). before_longest (lengths 0 es)) (front w)) ∙ sym (ap (cut_for space plain (sample_of rest)) e);
-          edges = w.edges ∙ (let z : (plain (sample_of rest)).edges ≡ (plain (sample_of rest)).edges + 0 = omega arith in z) ∙ sym (ap (λ (f : Found). edges_of plain (sampled (sample_of rest) f)) e);
+          edges = w.edges ∙ (let z : (plain (sample_of rest)).edges ≡ (plain (sample_of rest)).edges + 0 = omega arith in z) ∙ sym (ap (λ (f : Option ℕ). edges_of plain (sampled (sample_of rest) f)) e);
         }
 
     pub row_back : (row'' : List ℕ) → row'' ≡ replicate {A = ℕ} r.ends 0 ++ drop r.ends row' → row'' ≡ row

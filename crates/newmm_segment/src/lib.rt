@@ -10,7 +10,7 @@ ghost use Rattle.newmm_answers.specs.Answers.{plain_cut, cut_of};
 ghost use Rattle.newmm_segment.specs.inner.Written.{Rising, Ready, Written, shifted_cut, Sampled, FirstPart};
 
 use cells::{shift, wide};
-use char_string_last_space::{Found, rfind_space_char_index};
+use char_string_last_space::rfind_space_char_index;
 use newmm_one_cut::one_cut;
 use newmm_rules::{Ends, Mode, TEXT_SCAN_BEGIN, TEXT_SCAN_END};
 
@@ -75,12 +75,12 @@ pub fn cut_at(rest: &[u32], pool: &[u32], row: &mut [u32], space_cut: usize) -> 
     let sample = &rest[TEXT_SCAN_BEGIN..TEXT_SCAN_END];
     let space = rfind_space_char_index(sample);
     match space {
-        Found::At(i) => PartEnd {
+        Some(i) => PartEnd {
             from: space_cut,
             at: i,
             edges: 0,
         },
-        Found::Nothing => {
+        None => {
             let r = one_cut(sample, pool, row);
             let at = longest_start(row, r.ends);
             PartEnd {

@@ -8,8 +8,6 @@
 mod places;
 mod views;
 
-use char_string::CharAt;
-use char_string_last_space::Found;
 use refusal::Refusal;
 use test_lines::{
     behind, field, is, lent, number, part_at, print, print_cells, print_number, print_refusal,
@@ -120,8 +118,8 @@ fn rspace(rt: &impl Print, line: &[u8], cells: &mut [u32]) {
     let n = read_cells(rt, field(line, 1), cells);
     print(rt, b"ok ");
     match char_string_last_space::rfind_space_char_index(&cells[..n]) {
-        Found::At(i) => print_number(rt, i),
-        Found::Nothing => print(rt, b"none"),
+        Some(i) => print_number(rt, i),
+        None => print(rt, b"none"),
     }
 }
 
@@ -216,10 +214,10 @@ fn print_part(rt: &impl Print, text: &[u32], start: usize, end: usize, part: &[u
     print_number(rt, part.len());
 }
 
-fn print_char(rt: &impl Print, c: CharAt) {
+fn print_char(rt: &impl Print, c: Option<u32>) {
     match c {
-        CharAt::Scalar(x) => print_number(rt, wide(x)),
-        CharAt::Nothing => print(rt, b"none"),
+        Some(x) => print_number(rt, wide(x)),
+        None => print(rt, b"none"),
     }
 }
 

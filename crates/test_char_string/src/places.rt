@@ -5,7 +5,6 @@ use test_lines::{
     read_cells,
 };
 use test_rows::{expect_leftovers, smear};
-use utf8::InBytes;
 
 // decode bytes, out cells, position cells => ok n scalars, and the positions: the first, and how
 // far
@@ -112,10 +111,10 @@ pub fn end_in_row(rt: &impl Print, line: &[u8], positions: &mut [u32]) {
     print_place(rt, utf8::end_in_bytes(first(positions, cells), n, end));
 }
 
-fn print_place(rt: &impl Print, place: InBytes) {
+fn print_place(rt: &impl Print, place: Option<usize>) {
     match place {
-        InBytes::At(p) => print_number(rt, p),
-        InBytes::Nothing => print(rt, b"x"),
+        Some(p) => print_number(rt, p),
+        None => print(rt, b"x"),
     }
 }
 

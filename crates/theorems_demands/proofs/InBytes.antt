@@ -1,5 +1,5 @@
 -- Demand 3 holds in bytes. Assumes nothing.
-use Rattle.std.specs.Prelude.{Result, Ok}
+use Rattle.std.specs.Prelude.{Result, Ok, Option}
 use Rattle.refusal.specs.declared.Refusal.{Refusal}
 use Prim.Native.Nat.{ℕ, ◌+◌, ◌<◌}
 use native.Mathlib.Omega.{arith}
@@ -11,7 +11,6 @@ use lib.ListN.{length, take, drop, length-append, get_or-append}
 use borrow.Author.Tests.{leb-true, lt-ltb, not-false}
 use Rattle.refusal.specs.Answers.{output}
 use Rattle.refusal.proofs.Causes.{none_of}
-use Rattle.utf8.specs.declared.InBytes.{InBytes}
 use Rattle.utf8.specs.Decoding.{run_all, scalars_of, room_in, decode_causes}
 use Rattle.utf8.specs.Positions.{positions_of, end_in_bytes}
 use Rattle.theorems_unicode.proofs.Positions.{positions_right}
@@ -33,7 +32,7 @@ kept row rest n end h = go (leb end n) refl
     go false e = simp e
 
 -- so the ends in bytes are those of the bytes' own positions
-abbrev of_bytes : List ℕ → List ℕ → List InBytes
+abbrev of_bytes : List ℕ → List ℕ → List (Option ℕ)
 of_bytes bytes ends = map (λ (end : ℕ). end_in_bytes (positions_of bytes) (length (scalars_of bytes)) end) ends
 
 shown : (d : Decoding) (k : ℕ) → answered d ≡ Ok k → (text ends : List ℕ) → text ≡ scalars_of d.bytes → ends_in_bytes d (length text) ends ≡ of_bytes d.bytes ends

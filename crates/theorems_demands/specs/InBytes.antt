@@ -1,10 +1,9 @@
 -- ENDS IN BYTES (02, ticket 3): demand 3 in bytes. Equal bytes, equal words and equal mode give
 -- equal ends in bytes.
-use Rattle.std.specs.Prelude.{ℕ, ◌≤◌, ◌≡◌, List, map, length, take, Result, Ok}
+use Rattle.std.specs.Prelude.{ℕ, ◌≤◌, ◌≡◌, List, map, length, take, Result, Ok, Option}
 use Rattle.std.proofs.Math.Option.{some}
 use Rattle.refusal.specs.declared.Refusal.{Refusal}
 use Rattle.refusal.specs.Answers.{output}
-use Rattle.utf8.specs.declared.InBytes.{InBytes}
 use Rattle.utf8.specs.Decoding.{scalars_of, room_in, decoded}
 use Rattle.utf8.specs.Positions.{positions_of, end_in_bytes}
 use Rattle.trie_pool.specs.Meaning.{Words, Terms, meaning, words_in}
@@ -26,7 +25,7 @@ abbrev pub positions_left : Decoding → List ℕ
 positions_left d = output (answered d) (positions_of d.bytes) d.positions
 
 -- What `end_in_bytes` answers for each of some ends of a text of n characters, with that row.
-abbrev pub ends_in_bytes : Decoding → ℕ → List ℕ → List InBytes
+abbrev pub ends_in_bytes : Decoding → ℕ → List ℕ → List (Option ℕ)
 ends_in_bytes d n ends = map (λ (end : ℕ). end_in_bytes (positions_left d) n end) ends
 
 -- The same bytes are decoded twice, and what that gives is cut twice, in the same mode. If both

@@ -1,5 +1,5 @@
 -- Decoding and ends in bytes. Assumes nothing.
-use Rattle.std.specs.Prelude.{Result}
+use Rattle.std.specs.Prelude.{Result, Option}
 use Rattle.refusal.specs.declared.Refusal.{Refusal}
 use Prim.Native.Nat.{ℕ}
 use mathlib.Core.Path.{◌≡◌, ◌∙◌, ap}
@@ -8,7 +8,6 @@ use contract.Lifetimes.{Lfts}
 use borrow.Fn.Kinds.{Dens, res_t, ended_of}
 use denote.Triple.Clauses.{AtExit}
 use Rattle.refusal.specs.Answers.{output}
-use Rattle.utf8.specs.declared.InBytes.{InBytes}
 use Rattle.utf8.specs.Positions.{positions_of}
 use Rattle.utf8.proofs.decode.Kinds as decode_kinds
 use Rattle.utf8.proofs.decode.Reads as decode_contract
@@ -25,7 +24,7 @@ decode_one κs a x y s t p q =
     both (answer_and_output _ _ p.0 p.1.0 q.0 q.1.0)
     (ap (λ (z : Result ℕ Refusal × List ℕ). z.1) (answer_and_output _ _ p.0 p.1.1 q.0 q.1.1))
 
-pub end_in_bytes_one : OneAnswer {A = InBytes} 1 end_in_bytes_kinds.ps end_in_bytes_kinds.r end_in_bytes_contract.Post (λ κs x s. x)
+pub end_in_bytes_one : OneAnswer {A = Option ℕ} 1 end_in_bytes_kinds.ps end_in_bytes_kinds.r end_in_bytes_contract.Post (λ κs x s. x)
 end_in_bytes_one κs a x y s t p q = answer p q
 
 -- A decoding of which demand 3 in bytes speaks is what the contract promises.

@@ -9,8 +9,7 @@ use lib.ListN.{length, get_or, set, take, drop, length-drop, length-set}
 use lib.Seq.{drop-cons, take-length}
 use borrow.Author.Tests.{lt-ltb, le-ltb, le-leb, lt-leb}
 use Rattle.lists.proofs.Rows.{store}
-use Rattle.utf8.specs.declared.InBytes.{InBytes}
-use Rattle.utf8.specs.declared.InBytes.TheVariants.{At, Nothing}
+use Rattle.std.specs.Prelude.{Some, None}
 use Rattle.utf8_sequences.specs.Sequences.{size_of}
 use Rattle.utf8.specs.Decoding.{Run, run_all}
 use Rattle.utf8.specs.Positions.{places_from, positions_of, end_in_bytes}
@@ -80,11 +79,11 @@ module _ {s row₀ row : List ℕ} {at n : ℕ} (h : Placed s row₀ row at n) w
 -- ---- an end in bytes
 
 module _ (positions : List ℕ) (n end : ℕ) where
-  pub over_none : n < end → Nothing ≡ end_in_bytes positions n end
+  pub over_none : n < end → None ≡ end_in_bytes positions n end
   over_none h = simp (lt-leb end n h)
 
-  pub short_none : end ≤ n → length positions ≤ end → Nothing ≡ end_in_bytes positions n end
+  pub short_none : end ≤ n → length positions ≤ end → None ≡ end_in_bytes positions n end
   short_none h k = simp (le-leb end n h, le-ltb end (length positions) k)
 
-  pub place_at : {p : ℕ} → end ≤ n → end < length positions → p ≡ get_or positions end 0 → At p ≡ end_in_bytes positions n end
-  place_at h k e = ap At e ∙ simp (le-leb end n h, lt-ltb end (length positions) k)
+  pub place_at : {p : ℕ} → end ≤ n → end < length positions → p ≡ get_or positions end 0 → Some p ≡ end_in_bytes positions n end
+  place_at h k e = ap Some e ∙ simp (le-leb end n h, lt-ltb end (length positions) k)

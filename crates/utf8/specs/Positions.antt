@@ -1,7 +1,5 @@
 -- 02, ticket 3: the byte position of each character and of the end, and ends in bytes.
-use Rattle.std.specs.Prelude.{ℕ, ◌+◌, cond, ◌&&◌, List, [], ◌∷◌, leb, ltb, length, get_or}
-use Rattle.utf8.specs.declared.InBytes.{InBytes}
-use Rattle.utf8.specs.declared.InBytes.TheVariants.{At, Nothing}
+use Rattle.std.specs.Prelude.{ℕ, ◌+◌, cond, ◌&&◌, List, [], ◌∷◌, leb, ltb, length, get_or, Option, Some, None}
 use Rattle.utf8.specs.Decoding.{run_all}
 
 -- where sequences of these lengths start, the first at a place, and where the last one ends
@@ -16,5 +14,5 @@ positions_of bytes = places_from 0 (run_all bytes).sizes
 
 -- An end in bytes is the position row's cell at that end; an end over n has none. Nor has one that
 -- the row has no cell for.
-abbrev pub end_in_bytes : (positions : List ℕ) (n end : ℕ) → InBytes
-end_in_bytes positions n end = cond (leb end n && ltb end (length positions)) (At (get_or positions end 0)) Nothing
+abbrev pub end_in_bytes : (positions : List ℕ) (n end : ℕ) → Option ℕ
+end_in_bytes positions n end = cond (leb end n && ltb end (length positions)) (Some (get_or positions end 0)) None

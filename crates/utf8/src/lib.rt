@@ -190,23 +190,13 @@ pub fn decode(bytes: &[u8], out: &mut [u32], positions: &mut [u32]) -> Result<us
     Ok(c.scalars)
 }
 
-// An end in bytes.
-#[derive(Clone, Copy)]
-pub enum InBytes {
-    At(usize),
-    Nothing,
-}
-
 // An end of a text of n characters in bytes: the cell of its position row at that end. An end over
 // n has none, nor has one that the row has no cell for.
-pub fn end_in_bytes(positions: &[u32], n: usize, end: usize) -> InBytes
+pub fn end_in_bytes(positions: &[u32], n: usize, end: usize) -> Option<usize>
     ensures { result ≡ end_in_bytes positions.now n end }
 {
     if n < end {
-        return InBytes::Nothing;
+        return None;
     }
-    if positions.len() <= end {
-        return InBytes::Nothing;
-    }
-    InBytes::At(cells::wide(positions[end]))
+    positions.get(end).map(|place| *place as usize)
 }

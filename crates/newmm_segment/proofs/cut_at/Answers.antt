@@ -18,19 +18,19 @@ longest_start-at-requires c =
           c.requires.1 c.args.space_cut _ w right,
     )
 
-pub returns-in-At : goal.returns-in-At
-returns-in-At c =
+pub returns-in-Some : goal.returns-in-Some
+returns-in-Some c =
     record {
       sampled = at_space c.requires.0 c.requires.1 c.args.space_cut _
-          (sym c.rfind_space_char_index-space.ensures ∙ c.in-At.is);
+          (sym c.rfind_space_char_index-space.ensures ∙ c.in-Some.is);
       row_unchanged = refl;
     }
 
-pub returns-in-Nothing : goal.returns-in-Nothing
-returns-in-Nothing c =
+pub returns-in-None : goal.returns-in-None
+returns-in-None c =
     let w = written c.args.pool.now c.one_cut-r.ensures in let right = plain_right (holds c.args.pool.now) in record {
       sampled = no_space c.requires.0 c.requires.1 c.args.space_cut _ w right _
-          (sym c.rfind_space_char_index-space.ensures ∙ c.in-Nothing.is) c.longest_start-at.ensures.value;
+          (sym c.rfind_space_char_index-space.ensures ∙ c.in-None.is) c.longest_start-at.ensures.value;
       row_unchanged = row_back
           c.requires.0 c.requires.1 c.args.space_cut _ w right _ c.longest_start-at.ensures.row_after;
     }
