@@ -6,26 +6,32 @@ ghost use Rattle.newmm_claim.specs.Answers.{claim};
 ghost use Rattle.host_claims.specs.Calls.{told_claim, tells_claim, ClaimTold};
 
 use host_telling::wide;
-use newmm_claim::ClaimAnswer;
+use newmm_claim::Verdict;
+use refusal::Refusal;
 
 // Tells the answer of the check of a claim.
-fn tell_claim(a: ClaimAnswer, right: &mut usize, token: &mut usize, detail: &mut usize) -> u32
+fn tell_claim(
+    a: Result<Verdict, Refusal>,
+    right: &mut usize,
+    token: &mut usize,
+    detail: &mut usize,
+) -> u32
     ensures { told_claim result right.new token.new detail.new ≡ tells_claim a }
 {
     match a {
-        ClaimAnswer::Right => {
+        Ok(Verdict::Right) => {
             *right = 1;
             *token = 0;
             *detail = 0;
             0
         }
-        ClaimAnswer::Wrong(k) => {
+        Ok(Verdict::Wrong(k)) => {
             *right = 0;
             *token = k;
             *detail = 0;
             0
         }
-        ClaimAnswer::Refused(r) => {
+        Err(r) => {
             *right = 0;
             *token = 0;
             *detail = r.detail();

@@ -1,5 +1,5 @@
 -- What the check of a claim answers and leaves. Assumes nothing.
-use Rattle.std.specs.Prelude.{Result, Err}
+use Rattle.std.specs.Prelude.{Result, Ok, Err}
 use Prim.Native.Nat.{ℕ, ◌+◌, ◌*◌, ◌/◌, ◌<◌, min}
 use native.Mathlib.Omega.{arith}
 use mathlib.Core.Path.{◌≡◌, sym, ◌∙◌, ap}
@@ -21,8 +21,7 @@ use Rattle.newmm_answers.specs.Answers.{given, first_causes, cleared}
 use Rattle.newmm_answers.specs.inner.Passing.{Passes}
 use Rattle.newmm_answers.proofs.Checks.{known, room}
 use Rattle.newmm_word_step.specs.inner.Walks.{given_by}
-use Rattle.newmm_claim.specs.declared.ClaimAnswer.{ClaimAnswer}
-use Rattle.newmm_claim.specs.declared.ClaimAnswer.TheVariants as variants
+use Rattle.newmm_claim.specs.declared.Verdict as declared
 use Rattle.newmm_claim.specs.Answers.{verdict_told, claim_told, claim, Claims}
 use Rattle.newmm_claim.specs.inner.Judging.{Judges}
 
@@ -48,10 +47,10 @@ module _ (text pool claimed scratch : List ℕ) {n : ℕ} (p : Passes text (mean
       ∙ append-nil (replicate {A = ℕ} (length row) 0)
       ∙ ap (λ (j : ℕ). replicate {A = ℕ} j 0) long
 
-  pub judged : {r : ClaimAnswer} → r ≡ verdict_told (verdict (given_by text (take (8 * n) pool)) claimed)
-      → (row : List ℕ) (k : ℕ) {row' : List ℕ} → length row ≡ length scratch → k ≡ length row → row' ≡ replicate {A = ℕ} k 0 ++ drop k row → Claims (claim text pool claimed scratch) r row'
+  pub judged : {r : declared.Verdict} → r ≡ verdict_told (verdict (given_by text (take (8 * n) pool)) claimed)
+      → (row : List ℕ) (k : ℕ) {row' : List ℕ} → length row ≡ length scratch → k ≡ length row → row' ≡ replicate {A = ℕ} k 0 ++ drop k row → Claims (claim text pool claimed scratch) (Ok r) row'
   judged is row k long all e = (
-    is ∙ ap (λ (f : Words). verdict_told (verdict (given f text) claimed)) (sym (held_part pool n nodes (known_is pool (known p))))
+    ap Ok (is ∙ ap (λ (f : Words). verdict_told (verdict (given f text) claimed)) (sym (held_part pool n nodes (known_is pool (known p)))))
         ∙ sym (ap (λ (x : Result ℕ Refusal). claim_told x (verdict (given (held (meaning pool)) text) claimed)) p.accepted),
     e ∙ all_zero row k long all ∙ sym (ap (λ (x : Result ℕ Refusal). cleared x scratch) p.accepted),
   )
@@ -59,7 +58,7 @@ module _ (text pool claimed scratch : List ℕ) {n : ℕ} (p : Passes text (mean
 -- ---- a call that does not
 
 pub early_claims : (text pool claimed scratch : List ℕ) {a : Result ℕ Refusal} {r : Refusal} → a ≡ answer (first_causes text (meaning pool) (length scratch)) (length text) → a ≡ Err r
-    → Claims (claim text pool claimed scratch) (variants.Refused r) scratch
+    → Claims (claim text pool claimed scratch) (Err r) scratch
 early_claims text pool claimed scratch {a} {r} is no' =
     let refused : answer (first_causes text (meaning pool) (length scratch)) 0 ≡ Err r =
     sym (still (first_causes text (meaning pool) (length scratch)) (length text) 0 (sym is ∙ no')) in (

@@ -12,7 +12,7 @@ use Rattle.newmm_rules.specs.Words.{Given, size}
 use Rattle.newmm_rules.specs.Claims.{Verdict, right, wrong, token_right, verdict_from, verdict}
 use Rattle.newmm_rules.proofs.Tokens.{spans}
 use Rattle.newmm_rules.proofs.Claims.{right_token}
-use Rattle.newmm_claim.specs.declared.ClaimAnswer.TheVariants.{Right, Wrong}
+use Rattle.newmm_claim.specs.declared.Verdict.TheVariants.{Right, Wrong}
 use Rattle.newmm_word_step.specs.inner.Places.{Place}
 use Rattle.newmm_claim.specs.Answers.{verdict_told}
 use Rattle.newmm_claim.specs.inner.Judging.{Judges}

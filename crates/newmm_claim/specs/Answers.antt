@@ -7,18 +7,21 @@ use Rattle.trie_pool.specs.Meaning.{Words, meaning}
 use Rattle.trie_check.specs.Refusals.{held}
 use Rattle.newmm_rules.specs.Claims.{Verdict, right, wrong, verdict}
 use Rattle.newmm_answers.specs.Answers.{given, first_causes, scratch_after}
-use Rattle.newmm_claim.specs.declared.ClaimAnswer.{ClaimAnswer}
-use Rattle.newmm_claim.specs.declared.ClaimAnswer.TheVariants.{Right, Wrong}
-use Rattle.newmm_claim.specs.declared.ClaimAnswer.TheVariants as variants
+use Rattle.newmm_claim.specs.declared.Verdict as declared
+use Rattle.newmm_claim.specs.declared.Verdict.TheVariants.{Right, Wrong}
 
-abbrev pub verdict_told : Verdict → ClaimAnswer
+-- The answer is a verdict, unless the call is refused.
+abbrev pub ClaimAnswer : Type 0
+ClaimAnswer = Result declared.Verdict Refusal
+
+abbrev pub verdict_told : Verdict → declared.Verdict
 verdict_told right = Right
 verdict_told (wrong k) = Wrong k
 
 -- "No" is an accepted answer.
 abbrev pub claim_told : Result ℕ Refusal → Verdict → ClaimAnswer
-claim_told (Ok n) v = verdict_told v
-claim_told (Err r) v = variants.Refused r
+claim_told (Ok n) v = Ok (verdict_told v)
+claim_told (Err r) v = Err r
 
 -- Refusals: as cutting, without 6. `cells` is the number of scratch cells.
 abbrev pub claim_causes : List ℕ → Option Words → ℕ → List Cause

@@ -5,7 +5,7 @@
 // say, a `?` is written.
 #![tactic(auto)]
 
-use newmm_claim::{ClaimAnswer, check_claim};
+use newmm_claim::{Verdict, check_claim};
 use test_lines::{
     behind, field, first, is, part_at, print, print_number, print_refusal, read_cells, read_input,
 };
@@ -103,16 +103,16 @@ fn call(rt: &impl Print, text: &[u32], pool: &[u32], claimed: &[u32], scratch: &
     smear(scratch);
     let answer = check_claim(text, pool, claimed, scratch);
     match answer {
-        ClaimAnswer::Right => {
+        Ok(Verdict::Right) => {
             expect_zero(rt, scratch);
             print(rt, b"ok yes");
         }
-        ClaimAnswer::Wrong(k) => {
+        Ok(Verdict::Wrong(k)) => {
             expect_zero(rt, scratch);
             print(rt, b"ok ");
             print_number(rt, k);
         }
-        ClaimAnswer::Refused(r) => {
+        Err(r) => {
             expect_leftovers(rt, scratch, 0);
             print_refusal(rt, r);
         }

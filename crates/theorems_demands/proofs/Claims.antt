@@ -111,8 +111,8 @@ module _ (text claimed : List ℕ) (words : Words) (cells : ℕ) (room : scratch
   passing few legal = all_pass (first_causes text (some words) cells) 0 (few, (legal, (refl, (le-ltb cells (9 * length text + 128) room, tt))))
 
   -- a call that gave a verdict was not refused, so the other is not
-  same_told : (cells' : ℕ) (x : Result ℕ Refusal) → answer (first_causes text (some words) cells') 0 ≡ x → (v : Verdict) → claim_told x (verdict (given words text) claimed) ≡ verdict_told v
-      → claim_answer text (some words) cells claimed ≡ verdict_told v
+  same_told : (cells' : ℕ) (x : Result ℕ Refusal) → answer (first_causes text (some words) cells') 0 ≡ x → (v : Verdict) → claim_told x (verdict (given words text) claimed) ≡ Ok (verdict_told v)
+      → claim_answer text (some words) cells claimed ≡ Ok (verdict_told v)
   same_told cells' (Ok n) e v h =
       let r = none_of (first_causes text (some words) cells') 0 n e in
       ap (λ (x : Result ℕ Refusal). claim_told x (verdict (given words text) claimed)) (passing r.0 r.1.0) ∙ h
@@ -122,7 +122,7 @@ module _ (text claimed : List ℕ) (words : Words) (cells : ℕ) (room : scratch
 pub same_words_same_verdict : SameWordsSameVerdict
 same_words_same_verdict a b v w pa pb same text claimed u h room =
     let ma : meaning a.pool ≡ some w = pa ∙ (λ i. some (λ (x : List ℕ). same x i)) in
-    let ha : claim_answer b.text (some w) (length a.scratch) b.claimed ≡ verdict_told u =
+    let ha : claim_answer b.text (some w) (length a.scratch) b.claimed ≡ Ok (verdict_told u) =
     sym (λ i. claim_answer (text i) (ma i) (length a.scratch) (claimed i)) ∙ h in
     ap (λ (m : Option Words). claim_answer b.text m (length b.scratch) b.claimed) pb
     ∙ same_told b.text b.claimed w (length b.scratch) room (length a.scratch) _ refl u ha
@@ -144,5 +144,5 @@ answers_pass a c v w n edges pa pc same plain h text claimed room =
     let legal : ltb (first_non_scalar c.text) (length c.text) ≡ false = ap (λ (l : List ℕ). ltb (first_non_scalar l) (length l)) text ∙ r.1.0 in
     ap (λ (m : Option Words). claim_answer c.text m (length c.scratch) c.claimed) pc
     ∙ ap (λ (x : Result ℕ Refusal). claim_told x (verdict (given w c.text) c.claimed)) (passing c.text c.claimed w (length c.scratch) room few legal)
-    ∙ ap (λ (l : List ℕ). verdict_told (verdict (given w c.text) l)) ours
-    ∙ ap verdict_told (ours_pass w c.text)
+    ∙ ap (λ (l : List ℕ). Ok (verdict_told (verdict (given w c.text) l))) ours
+    ∙ ap (λ (v : Verdict). Ok (verdict_told v)) (ours_pass w c.text)

@@ -1,6 +1,6 @@
 -- CHECKING A CLAIM (02, ticket 12): what the verdict on ends that someone else gives for the plain
 -- cut of a text says of them.
-use Rattle.std.specs.Prelude.{ℕ, suc, ◌≤◌, ◌≡◌, List, [], ◌∷◌, length, take}
+use Rattle.std.specs.Prelude.{ℕ, suc, ◌≤◌, ◌≡◌, List, [], ◌∷◌, length, take, Ok}
 use Rattle.std.proofs.Math.Option.{some}
 use Rattle.trie_pool.specs.Meaning.{Words, Terms, words_in, meaning}
 use Rattle.newmm_rules.specs.Words.{Given, size}
@@ -9,7 +9,7 @@ use Rattle.newmm_rules.specs.Claims.{Verdict, right, wrong, verdict}
 use Rattle.newmm_rules.specs.declared.Mode.TheVariants.{Plain}
 use Rattle.newmm_answers.specs.Answers.{accepted_with, given, cut_of, scratch_for}
 use Rattle.newmm_answers.specs.Calls.{Call, answer_of, out_of}
-use Rattle.newmm_claim.specs.declared.ClaimAnswer.TheVariants.{Right}
+use Rattle.newmm_claim.specs.declared.Verdict.TheVariants.{Right}
 use Rattle.newmm_claim.specs.Answers.{Claim, verdict_told, claim_answer_of}
 use Rattle.theorems_demands.specs.Demand3.{Reached}
 use Rattle.theorems_demands.specs.Cases.{among}
@@ -55,7 +55,7 @@ AnswersPass =
     → c.text ≡ a.text
     → c.claimed ≡ take n (out_of a)
     → scratch_for (length c.text) ≤ length c.scratch
-    → claim_answer_of c ≡ Right
+    → claim_answer_of c ≡ Ok Right
 
 -- Passing doesn't say that it is ours: a claim that is right, and not the ends of the plain cut.
 pub record RightAndNotOurs (words : Words) (text claimed : List ℕ) : Type 0 where
@@ -77,9 +77,9 @@ SameVerdict a b =
     a.text ≡ b.text
     → a.claimed ≡ b.claimed
     → (v : Verdict)
-    → claim_answer_of a ≡ verdict_told v
+    → claim_answer_of a ≡ Ok (verdict_told v)
     → scratch_for (length b.text) ≤ length b.scratch
-    → claim_answer_of b ≡ verdict_told v
+    → claim_answer_of b ≡ Ok (verdict_told v)
 
 -- Equal words, equal verdict: for any two pools that pass and hold the same words, however they
 -- came about.

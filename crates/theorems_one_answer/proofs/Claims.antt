@@ -5,7 +5,7 @@ use mathlib.Core.List.{List}
 use lib.ListN.{take}
 use Rattle.newmm_claim.proofs.check_claim.Kinds as claim_kinds
 use Rattle.newmm_claim.proofs.check_claim.Reads as claim_contract
-use Rattle.newmm_claim.specs.declared.ClaimAnswer.{ClaimAnswer}
+use Rattle.newmm_claim.specs.Answers.{ClaimAnswer}
 use Rattle.theorems_demands.proofs.Claims.{answers_pass, same_words_same_verdict}
 use Rattle.theorems_one_answer.specs.OneAnswer.{OneAnswer}
 use Rattle.theorems_one_answer.specs.Runs.{call_of}

@@ -1,6 +1,6 @@
 -- Checking a claim, over runs of the proved functions `newmm_claim::check_claim` and `newmm::cut`
 -- themselves.
-use Rattle.std.specs.Prelude.{ℕ, ◌≤◌, ◌≡◌, List, length, take}
+use Rattle.std.specs.Prelude.{ℕ, ◌≤◌, ◌≡◌, List, length, take, Ok}
 use Rattle.std.proofs.Math.Option.{some}
 use contract.Lifetimes.{Lfts}
 use borrow.Fn.Kinds.{Dens, res_t, ended_of}
@@ -11,7 +11,7 @@ use Rattle.trie_pool.specs.Meaning.{Words, meaning}
 use Rattle.newmm_rules.specs.Claims.{Verdict}
 use Rattle.newmm_rules.specs.declared.Mode.TheVariants.{Plain}
 use Rattle.newmm_answers.specs.Answers.{accepted_with, scratch_for}
-use Rattle.newmm_claim.specs.declared.ClaimAnswer.TheVariants.{Right}
+use Rattle.newmm_claim.specs.declared.Verdict.TheVariants.{Right}
 use Rattle.newmm_claim.specs.Answers.{Claim, verdict_told}
 use Rattle.theorems_one_answer.specs.Runs.{Run, call_of, out_left}
 
@@ -46,7 +46,7 @@ OursPassOfRuns =
     → (claim_of c).text ≡ (call_of a).text
     → (claim_of c).claimed ≡ take n (out_left a)
     → scratch_for (length (claim_of c).text) ≤ length (claim_of c).scratch
-    → c.answer ≡ Right
+    → c.answer ≡ Ok Right
 
 -- Equal words, equal verdict.
 abbrev pub SameVerdictOfRuns : Type 0
@@ -58,6 +58,6 @@ SameVerdictOfRuns =
     → (claim_of a).text ≡ (claim_of b).text
     → (claim_of a).claimed ≡ (claim_of b).claimed
     → (u : Verdict)
-    → a.answer ≡ verdict_told u
+    → a.answer ≡ Ok (verdict_told u)
     → scratch_for (length (claim_of b).text) ≤ length (claim_of b).scratch
-    → b.answer ≡ verdict_told u
+    → b.answer ≡ Ok (verdict_told u)
