@@ -16,8 +16,7 @@ use Rattle.trie_pool.specs.inner.Sound.{Readable}
 use Rattle.trie_pool.proofs.Shape.{walk_more, walk_append}
 use Rattle.trie_pool.proofs.Walks.{child_past, readable_child}
 use Rattle.trie_child.specs.inner.Search.{to_place}
-use Rattle.trie_child.specs.declared.Kid.{Kid}
-use Rattle.trie_child.specs.declared.Kid.TheVariants.{Nothing, Is}
+use Rattle.std.specs.Prelude.{Option, Some, None}
 use Rattle.newmm_word_step.specs.inner.Walks.{given_by, Walked, Asks, Next}
 
 pub start_walk : (text pool : List ℕ) (b : ℕ) → Walked text pool b b 0
@@ -56,13 +55,13 @@ module _ {text pool flags : List ℕ} {e node : ℕ} (a : Asks text pool flags e
         walk_more pool (drop b text) (e - b) node (omega (arith, length-drop b text, a.inside, w.order)) w.leads
         ∙ ap (child pool node) (get_or-drop b text (e - b) 0 ∙ ap (λ (k : ℕ). get_or text k 0) i)
 
-    pub no_more : (k : Kid) → to_place k ≡ child pool node (get_or text e 0) → k ≡ Nothing → (j : ℕ) → e < j → is_word (given_by text pool) b j ≡ false
+    pub no_more : (k : Option ℕ) → to_place k ≡ child pool node (get_or text e 0) → k ≡ None → (j : ℕ) → e < j → is_word (given_by text pool) b j ≡ false
     no_more k c q j h =
         let n : walk pool (take (suc (e - b)) (drop b text)) 0 ≡ none = on_walk ∙ sym c ∙ ap to_place q in
         let f : walk pool (take (j - b) (drop b text)) 0 ≡ none = walk_append pool (drop b text) (suc (e - b)) (j - b) (omega (arith, w.order)) n in
         ap (λ (p : Place). on_place false (λ r. marked (mark_at pool r)) p && is_end text j) f
 
-    module _ {k : Kid} {r : ℕ} (c : to_place k ≡ child pool node (get_or text e 0)) (q : k ≡ Is r) where
+    module _ {k : Option ℕ} {r : ℕ} (c : to_place k ≡ child pool node (get_or text e 0)) (q : k ≡ Some r) where
       leads_to : walk pool (take (e + 1 - b) (drop b text)) 0 ≡ at r
       leads_to =
           let i : e + 1 - b ≡ suc (e - b) = omega (arith, w.order) in
@@ -72,7 +71,7 @@ module _ {text pool flags : List ℕ} {e node : ℕ} (a : Asks text pool flags e
       tells_of t u m n =
           ap (λ (p : Place). on_place false (λ r. marked (mark_at pool r)) p && is_end text (e + 1)) leads_to ∙ ap (λ (x : Bool). x && is_end text (e + 1)) m ∙ ap (λ (x : Bool). t && x) n
 
-  module _ {k : Kid} {r : ℕ} (c : to_place k ≡ child pool node (get_or text e 0)) (q : k ≡ Is r) where
+  module _ {k : Option ℕ} {r : ℕ} (c : to_place k ≡ child pool node (get_or text e 0)) (q : k ≡ Some r) where
     found_node : Readable pool r
     found_node = readable_child pool node (get_or text e 0) r (sym c ∙ ap to_place q) a.node_is
 

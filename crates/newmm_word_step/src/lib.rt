@@ -5,7 +5,7 @@ ghost use Rattle.std.specs.Prelude.{◌≡◌, ℕ, ◌≤◌, ◌+◌, ◌-◌,
 ghost use Rattle.newmm_rules.specs.Limits.{max_word};
 ghost use Rattle.newmm_word_step.specs.inner.Walks.{Asks, Steps};
 
-use trie_child::{Kid, find_child};
+use trie_child::find_child;
 use trie_pool::MAX_WORD;
 use trie_search::ends_word;
 
@@ -24,8 +24,8 @@ pub fn word_step(text: &[u32], pool: &[u32], flags: &[u32], e: usize, node: usiz
 {
     let kid = find_child(pool, node, text[e]);
     match kid {
-        Kid::Nothing => Step::Nothing,
-        Kid::Is(r) => {
+        None => Step::Nothing,
+        Some(r) => {
             if !ends_word(pool, r) {
                 return Step::Part(r);
             }

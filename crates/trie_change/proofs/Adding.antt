@@ -9,7 +9,7 @@ use Rattle.char_string_white_space.specs.Trimmed.{is_trimmed}
 use Rattle.trie_pool.specs.Cells.{scalar_at, first_at, count_at, mark_at, used}
 use Rattle.trie_pool.specs.inner.Paths.{reach}
 use Rattle.trie_pool.specs.inner.Sound.{Shaped, Sound}
-use Rattle.trie_pool.specs.Words.{lacking, none, at, on_place, scan, child, term, term_at, rev}
+use Rattle.trie_pool.specs.Words.{lacking, none, at, on_place, scan, child, term_at, rev}
 use Rattle.trie_child.specs.inner.Search.{Sought}
 use Rattle.trie_leaf.specs.inner.Planting.{Room, Plants, Planted, Beside}
 use Rattle.trie_change.specs.inner.Adding.{Enters, Entered, stayed, grew, Puts, PutIn}

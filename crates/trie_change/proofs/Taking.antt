@@ -15,8 +15,7 @@ use Rattle.trie_child.specs.inner.Search.{to_place}
 use Rattle.trie_leaf.specs.inner.Planting.{Beside}
 use Rattle.trie_leaf.specs.inner.Plucking.{Plucks, Plucked}
 use Rattle.trie_change.specs.inner.Taking.{Prunes, Pruned, Removes, Removed}
-use Rattle.trie_child.specs.declared.Kid.{Kid}
-use Rattle.trie_child.specs.declared.Kid.TheVariants.{Nothing, Is}
+use Rattle.std.specs.Prelude.{Option, Some, None}
 use Rattle.trie_pool.proofs.Shape.{within, reach_within, child_found, child_after, walk_reach, count_is, mark_is}
 use Rattle.trie_leaf.proofs.Leaf.{sh, sh_low, sh_high}
 use Rattle.trie_leaf.proofs.Gone.{back, sound', terms'}
@@ -144,7 +143,7 @@ pub tail_drop : (s : List ℕ) (a : ℕ) → tail s a ≡ drop a s
 tail_drop s a = take_all (length s - a) (drop a s) (omega (arith, length-drop a s))
 
 -- nothing to take out
-pub lost : (p w : List ℕ) (b : ℕ) (k : Kid) → Removes p b w → (length w ≡ 0 → ⊥) → to_place k ≡ child p b (get_or w 0 0) → k ≡ Nothing → (u : List ℕ) → reach p u ≡ at b → Removed p p u b w
+pub lost : (p w : List ℕ) (b : ℕ) (k : Option ℕ) → Removes p b w → (length w ≡ 0 → ⊥) → to_place k ≡ child p b (get_or w 0 0) → k ≡ None → (u : List ℕ) → reach p u ≡ at b → Removed p p u b w
 lost p [] b k h ne e q u t = absurd (ne refl)
 lost p (x ∷ w) b k h ne e q u t = record {
   sound = sound_from p (used p) b h.sound;
@@ -168,12 +167,12 @@ lost p (x ∷ w) b k h ne e q u t = record {
       shallow = g.shallow;
     }
 
-pub deeper : (p w : List ℕ) (b r : ℕ) (k : Kid) → Removes p b w → to_place k ≡ child p b (get_or w 0 0) → k ≡ Is r → Removes p r (tail w 1)
+pub deeper : (p w : List ℕ) (b r : ℕ) (k : Option ℕ) → Removes p b w → to_place k ≡ child p b (get_or w 0 0) → k ≡ Some r → Removes p r (tail w 1)
 deeper p w b r k h e q =
     let l : b < r = child_after p (used p) h.sound.shaped b (get_or w 0 0) r (reach_within p (used p) h.sound.shaped h.path b h.leads) (sym e ∙ ap to_place q) in
     record { past_root = omega arith; sound = h.sound; path = get_or w 0 0 ∷ h.path; leads = ap (on_place none (λ i. child p i (get_or w 0 0))) h.leads ∙ sym e ∙ ap to_place q }
 
-module _ (p w p₁ : List ℕ) (b r : ℕ) (k : Kid) (h : Removes p b w) (ne : length w ≡ 0 → ⊥) (e : to_place k ≡ child p b (get_or w 0 0)) (q : k ≡ Is r)
+module _ (p w p₁ : List ℕ) (b r : ℕ) (k : Option ℕ) (h : Removes p b w) (ne : length w ≡ 0 → ⊥) (e : to_place k ≡ child p b (get_or w 0 0)) (q : k ≡ Some r)
     (ih : (u : List ℕ) → reach p u ≡ at r → Removed p p₁ u r (tail w 1)) where
   down : (u : List ℕ) → reach p u ≡ at b → reach p (get_or w 0 0 ∷ u) ≡ at r
   down u t = ap (on_place none (λ i. child p i (get_or w 0 0))) t ∙ sym e ∙ ap to_place q

@@ -1,7 +1,6 @@
 // Putting a word in.
 ghost use Rattle.trie_change.specs.inner.Adding.{Enters, Entered, Puts, PutIn};
 
-use cells::wide;
 use trie_child::seek;
 use trie_leaf::plant;
 use trie_pool::{COUNT, FIRST, IN_USE, MARK, NODE};
@@ -12,8 +11,8 @@ fn enter(p: &mut [u32], b: usize, x: u32) -> usize
     ensures { Entered p.old p.new b x result }
 {
     let r = seek(p, b, x);
-    let e = wide(p[NODE * b + FIRST]) + wide(p[NODE * b + COUNT]);
-    let n = wide(p[IN_USE]);
+    let e = p[NODE * b + FIRST] as usize + p[NODE * b + COUNT] as usize;
+    let n = p[IN_USE] as usize;
     if e <= r {
         plant(p, n, b, r, x);
         return r;
@@ -32,10 +31,8 @@ pub fn add_word(p: &mut [u32], w: &[u32], mark: u32)
     ensures { PutIn p.old p.new w.now mark }
 {
     let mut i: usize = 0;
-    let mut t: usize = 0;
-    while t < w.len() {
-        i = enter(p, i, w[t]);
-        t += 1;
+    for x in w {
+        i = enter(p, i, *x);
     }
     p[NODE * i + MARK] = mark;
 }

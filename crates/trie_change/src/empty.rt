@@ -10,11 +10,7 @@ pub fn reset(cells: &mut [u32])
     requires { node_cells ≤ length cells.old }
     ensures { RootAlone cells.new }
 {
-    let mut k: usize = 0;
-    while k < cells.len() {
-        cells[k] = 0;
-        k += 1;
-    }
+    cells.fill(0);
     cells[FIRST] = 1;
     cells[IN_USE] = 1;
 }

@@ -4,8 +4,7 @@ ghost use Rattle.trie_pool.specs.Words.{at};
 ghost use Rattle.trie_pool.specs.inner.Paths.{reach};
 ghost use Rattle.trie_change.specs.inner.Taking.{Prunes, Pruned, Removes, Removed};
 
-use cells::wide;
-use trie_child::{Kid, find_child};
+use trie_child::find_child;
 use trie_leaf::pluck;
 use trie_pool::{COUNT, IN_USE, MARK, NODE};
 
@@ -20,7 +19,7 @@ fn prune(p: &mut [u32], b: usize, j: usize)
     if p[NODE * j + MARK] != 0 {
         return;
     }
-    let n = wide(p[IN_USE]);
+    let n = p[IN_USE] as usize;
     pluck(p, n - 1, b, j);
 }
 
@@ -34,14 +33,9 @@ pub fn remove_word(p: &mut [u32], b: usize, w: &[u32])
         p[NODE * b + MARK] = 0;
         return;
     }
-    let kid = find_child(p, b, w[0]);
-    match kid {
-        Kid::Nothing => {
-            return;
-        }
-        Kid::Is(r) => {
-            remove_word(p, r, &w[1..]);
-            prune(p, b, r);
-        }
-    }
+    let Some(r) = find_child(p, b, w[0]) else {
+        return;
+    };
+    remove_word(p, r, &w[1..]);
+    prune(p, b, r);
 }

@@ -1,12 +1,10 @@
 -- Where a child stands, or would stand, by halving the children that are left. Assumes nothing.
-use Prim.Native.Nat.{ℕ, suc, ◌+◌, ◌-◌, ◌*◌, ◌/◌, ◌≤◌, ◌<◌}
+use Prim.Native.Nat.{ℕ, ◌+◌, ◌-◌, ◌*◌, ◌/◌, ◌≤◌, ◌<◌}
 use native.Mathlib.Omega.{arith}
-use native.Mathlib.Decide.{dec_lt}
-use mathlib.Core.Path.{◌≡◌, sym, subst}
+use mathlib.Core.Path.{◌≡◌}
 use mathlib.Core.List.{List}
 use lib.ListN.{length, get_or}
 use Rattle.trie_pool.specs.Cells.{first_at, count_at, scalar_at}
-use Rattle.trie_pool.specs.inner.Sound.{Readable}
 use Rattle.trie_pool.proofs.Shape.{within, climb}
 use Rattle.trie_child.specs.inner.Search.{Between, Sought}
 

@@ -9,13 +9,6 @@ ghost use Rattle.trie_child.specs.inner.Search.{Between, Sought, to_place};
 use cells::wide;
 use trie_pool::{COUNT, FIRST, NODE};
 
-// A child, or none.
-#[derive(Clone, Copy)]
-pub enum Kid {
-    Nothing,
-    Is(usize),
-}
-
 fn least(a: usize, b: usize) -> usize
     ensures { result ≡ min a b }
 {
@@ -86,27 +79,27 @@ pub fn seek(p: &[u32], b: usize, x: u32) -> usize
 }
 
 // The child of b with scalar x. Most nodes have one child or none, and need no search.
-pub fn find_child(p: &[u32], b: usize, x: u32) -> Kid
+pub fn find_child(p: &[u32], b: usize, x: u32) -> Option<usize>
     requires { Readable p.now b }
     ensures { to_place result ≡ child p.now b x }
 {
     let first = wide(p[NODE * b + FIRST]);
     let count = wide(p[NODE * b + COUNT]);
     if count == 0 {
-        return Kid::Nothing;
+        return None;
     }
     if count == 1 {
         if p[NODE * first] != x {
-            return Kid::Nothing;
+            return None;
         }
-        return Kid::Is(first);
+        return Some(first);
     }
     let r = seek(p, b, x);
     if first + count <= r {
-        return Kid::Nothing;
+        return None;
     }
     if p[NODE * r] != x {
-        return Kid::Nothing;
+        return None;
     }
-    Kid::Is(r)
+    Some(r)
 }

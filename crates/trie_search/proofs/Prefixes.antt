@@ -1,5 +1,5 @@
 -- The words that a text starts with, as a walk finds them. Assumes nothing.
-use Prim.Native.Nat.{ℕ, zero, suc, ◌+◌, ◌-◌, ◌*◌, ◌≤◌, ◌<◌}
+use Prim.Native.Nat.{ℕ, zero, suc, ◌+◌, ◌≤◌, ◌<◌}
 use native.Mathlib.Omega.{arith}
 use native.Mathlib.Numerals.{add-one}
 use mathlib.Core.Path.{◌≡◌, refl, sym, ap, ◌∙◌}
@@ -12,11 +12,10 @@ use Rattle.trie_pool.specs.Words.{Place, none, at, on_place, child, walk, marked
 use Rattle.trie_pool.specs.inner.Sound.{Readable}
 use Rattle.trie_pool.specs.Meaning.{lengths_from, prefix_lengths}
 use Rattle.trie_pool.proofs.Lists.{drop_next}
-use Rattle.trie_pool.proofs.Shape.{walk_append, walk_more, mark_is}
+use Rattle.trie_pool.proofs.Shape.{walk_append, walk_more}
 use Rattle.trie_pool.proofs.Walks.{child_past, readable_child}
 use Rattle.trie_child.specs.inner.Search.{to_place}
-use Rattle.trie_child.specs.declared.Kid.{Kid}
-use Rattle.trie_child.specs.declared.Kid.TheVariants.{Nothing, Is}
+use Rattle.std.specs.Prelude.{Option, Some, None}
 use Rattle.trie_search.specs.inner.Search.{Wrote}
 
 -- the lengths of the words that the text goes on to from node b, where i characters have been read
@@ -58,35 +57,31 @@ prefixes_is p text = sym (from_node p text (length text) 0 0 (omega arith) refl)
 
 -- ---- one step
 
-is_marked : (m : ℕ) → (m ≡ 0 → ⊥) → marked m ≡ true
-is_marked zero h = absurd (h refl)
-is_marked (suc m) h = refl
-
 -- a child that was found may be read
-pub there : {p : List ℕ} {b r : ℕ} (x : ℕ) (k : Kid) → to_place k ≡ child p b x → k ≡ Is r → Readable p b → Readable p r
+pub there : {p : List ℕ} {b r : ℕ} (x : ℕ) (k : Option ℕ) → to_place k ≡ child p b x → k ≡ Some r → Readable p b → Readable p r
 there {p} {b} {r} x k t q g = readable_child p b x r (sym t ∙ ap to_place q) g
 
-module _ (p text : List ℕ) (b i : ℕ) (h : i < length text) (k : Kid) (t : to_place k ≡ child p b (get_or text i 0)) where
+pub ends_there : {p : List ℕ} {b r : ℕ} (x : ℕ) (k : Option ℕ) → to_place k ≡ child p b x → k ≡ Some r → Readable p b → (0 < r) × Readable p r
+ends_there {p} {b} {r} x k t q g = (child_past p b x r (sym t ∙ ap to_place q) g, there x k t q g)
+
+module _ (p text : List ℕ) (b i : ℕ) (h : i < length text) (k : Option ℕ) (t : to_place k ≡ child p b (get_or text i 0)) where
   abbrev more : ℕ → List ℕ
   more r = cond (marked (mark_at p r)) ((i + 1) ∷ prefixes p (drop (i + 1) text) (i + 1) r) (prefixes p (drop (i + 1) text) (i + 1) r)
 
   next : prefixes p (drop i text) i b ≡ on_place [] more (to_place k)
   next = ap (λ (u : List ℕ). prefixes p u i b) (drop_next text i h) ∙ ap (on_place [] more) (sym t)
 
-  pub no_more : k ≡ Nothing → prefixes p (drop i text) i b ≡ []
-  no_more q = next ∙ ap (λ (z : Kid). on_place [] more (to_place z)) q
+  pub no_more : k ≡ None → prefixes p (drop i text) i b ≡ []
+  no_more q = next ∙ ap (λ (z : Option ℕ). on_place [] more (to_place z)) q
 
-  module _ (g : Readable p b) (r : ℕ) (q : k ≡ Is r) where
-    mark : mark_at p r ≡ get_or p (8 * r + 3) 0
-    mark = mark_is p r (child_past p b (get_or text i 0) r (sym t ∙ ap to_place q) g)
+  module _ (r : ℕ) (q : k ≡ Some r) where
+    pub passed : marked (mark_at p r) ≡ false → prefixes p (drop i text) i b ≡ prefixes p (drop (i + 1) text) (i + 1) r
+    passed z = next ∙ ap (λ (y : Option ℕ). on_place [] more (to_place y)) q
+        ∙ ap (λ (m : Bool). cond m ((i + 1) ∷ prefixes p (drop (i + 1) text) (i + 1) r) (prefixes p (drop (i + 1) text) (i + 1) r)) z
 
-    pub passed : get_or p (8 * r + 3) 0 ≡ 0 → prefixes p (drop i text) i b ≡ prefixes p (drop (i + 1) text) (i + 1) r
-    passed z = next ∙ ap (λ (y : Kid). on_place [] more (to_place y)) q
-        ∙ ap (λ (m : ℕ). cond (marked m) ((i + 1) ∷ prefixes p (drop (i + 1) text) (i + 1) r) (prefixes p (drop (i + 1) text) (i + 1) r)) (mark ∙ z)
-
-    pub one_more : (get_or p (8 * r + 3) 0 ≡ 0 → ⊥) → prefixes p (drop i text) i b ≡ (i + 1) ∷ prefixes p (drop (i + 1) text) (i + 1) r
-    one_more nz = next ∙ ap (λ (y : Kid). on_place [] more (to_place y)) q
-        ∙ ap (λ (m : Bool). cond m ((i + 1) ∷ prefixes p (drop (i + 1) text) (i + 1) r) (prefixes p (drop (i + 1) text) (i + 1) r)) (ap marked mark ∙ is_marked (get_or p (8 * r + 3) 0) nz)
+    pub one_more : marked (mark_at p r) ≡ true → prefixes p (drop i text) i b ≡ (i + 1) ∷ prefixes p (drop (i + 1) text) (i + 1) r
+    one_more nz = next ∙ ap (λ (y : Option ℕ). on_place [] more (to_place y)) q
+        ∙ ap (λ (m : Bool). cond m ((i + 1) ∷ prefixes p (drop (i + 1) text) (i + 1) r) (prefixes p (drop (i + 1) text) (i + 1) r)) nz
 
 -- ---- counting
 
@@ -103,24 +98,24 @@ counted_none p text g = record { here = g; at_most = omega arith; few = omega ar
 pub counted_all : {p text : List ℕ} {b n i : ℕ} → Counted p text b n i → length text ≤ i → n ≡ length (prefix_lengths (holds p) text)
 counted_all {p} {text} {b} {n} {i} v h = omega (arith, v.sum, ap (λ (u : List ℕ). length (prefixes p u i b)) (drop_of_length-le text h))
 
-module _ {p text : List ℕ} {b n i : ℕ} (v : Counted p text b n i) (h : i < length text) (k : Kid) (t : to_place k ≡ child p b (get_or text i 0)) where
-  pub counted_end : k ≡ Nothing → n ≡ length (prefix_lengths (holds p) text)
+module _ {p text : List ℕ} {b n i : ℕ} (v : Counted p text b n i) (h : i < length text) (k : Option ℕ) (t : to_place k ≡ child p b (get_or text i 0)) where
+  pub counted_end : k ≡ None → n ≡ length (prefix_lengths (holds p) text)
   counted_end q = omega (arith, v.sum, ap length (no_more p text b i h k t q))
 
-  pub counted_on : (r : ℕ) → k ≡ Is r → get_or p (8 * r + 3) 0 ≡ 0 → Counted p text r n (i + 1)
+  pub counted_on : (r : ℕ) → k ≡ Some r → marked (mark_at p r) ≡ false → Counted p text r n (i + 1)
   counted_on r q z = record {
     here = there _ k t q v.here;
     at_most = omega arith;
     few = omega (arith, v.few);
-    sum = omega (arith, v.sum, ap length (passed p text b i h k t v.here r q z));
+    sum = omega (arith, v.sum, ap length (passed p text b i h k t r q z));
   }
 
-  pub counted_more : (r : ℕ) → k ≡ Is r → (get_or p (8 * r + 3) 0 ≡ 0 → ⊥) → Counted p text r (n + 1) (i + 1)
+  pub counted_more : (r : ℕ) → k ≡ Some r → marked (mark_at p r) ≡ true → Counted p text r (n + 1) (i + 1)
   counted_more r q nz = record {
     here = there _ k t q v.here;
     at_most = omega arith;
     few = omega (arith, v.few);
-    sum = omega (arith, v.sum, ap length (one_more p text b i h k t v.here r q nz));
+    sum = omega (arith, v.sum, ap length (one_more p text b i h k t r q nz));
   }
 
 -- ---- writing
@@ -151,26 +146,26 @@ pub written_all : {p text out₀ out : List ℕ} {b n i : ℕ} → Written p tex
 written_all {p} {text} {out₀} {out} {b} {n} {i} v h =
     wrote out₀ out (prefix_lengths (holds p) text) n (v.same ∙ ap (λ (u : List ℕ). take n out ++ prefixes p u i b) (drop_of_length-le text h)) v.fits v.kept
 
-module _ {p text out₀ out : List ℕ} {b n i : ℕ} (v : Written p text out₀ out b n i) (h : i < length text) (k : Kid) (t : to_place k ≡ child p b (get_or text i 0)) where
-  pub written_end : k ≡ Nothing → Wrote out₀ (prefix_lengths (holds p) text) out n
+module _ {p text out₀ out : List ℕ} {b n i : ℕ} (v : Written p text out₀ out b n i) (h : i < length text) (k : Option ℕ) (t : to_place k ≡ child p b (get_or text i 0)) where
+  pub written_end : k ≡ None → Wrote out₀ (prefix_lengths (holds p) text) out n
   written_end q = wrote out₀ out (prefix_lengths (holds p) text) n (v.same ∙ ap (λ (u : List ℕ). take n out ++ u) (no_more p text b i h k t q)) v.fits v.kept
 
-  pub written_on : (r : ℕ) → k ≡ Is r → get_or p (8 * r + 3) 0 ≡ 0 → Written p text out₀ out r n (i + 1)
+  pub written_on : (r : ℕ) → k ≡ Some r → marked (mark_at p r) ≡ false → Written p text out₀ out r n (i + 1)
   written_on r q z = record {
     here = there _ k t q v.here;
     at_most = omega arith;
     fits = v.fits;
-    same = v.same ∙ ap (λ (u : List ℕ). take n out ++ u) (passed p text b i h k t v.here r q z);
+    same = v.same ∙ ap (λ (u : List ℕ). take n out ++ u) (passed p text b i h k t r q z);
     kept = v.kept;
     long = v.long;
   }
 
-  module _ (r : ℕ) (q : k ≡ Is r) (nz : get_or p (8 * r + 3) 0 ≡ 0 → ⊥) (room : length (prefix_lengths (holds p) text) ≤ length out₀) where
+  module _ (r : ℕ) (q : k ≡ Some r) (nz : marked (mark_at p r) ≡ true) (room : length (prefix_lengths (holds p) text) ≤ length out₀) where
     pub roomy : n < length out
     roomy =
         omega (
           arith,
-          ap length (v.same ∙ ap (λ (u : List ℕ). take n out ++ u) (one_more p text b i h k t v.here r q nz)),
+          ap length (v.same ∙ ap (λ (u : List ℕ). take n out ++ u) (one_more p text b i h k t r q nz)),
           length-append (take n out) ((i + 1) ∷ prefixes p (drop (i + 1) text) (i + 1) r),
           length-take-le n out v.fits,
           v.long,
@@ -183,7 +178,7 @@ module _ {p text out₀ out : List ℕ} {b n i : ℕ} (v : Written p text out₀
           here = there _ k t q v.here;
           at_most = omega arith;
           fits = omega (arith, length-set out n (i + 1), roomy);
-          same = v.same ∙ ap (λ (u : List ℕ). take n out ++ u) (one_more p text b i h k t v.here r q nz)
+          same = v.same ∙ ap (λ (u : List ℕ). take n out ++ u) (one_more p text b i h k t r q nz)
               ∙ sym (ap (λ (u : List ℕ). u ++ prefixes p (drop (i + 1) text) (i + 1) r) front ∙ append_snoc (take n out) (i + 1) (prefixes p (drop (i + 1) text) (i + 1) r));
           kept = drop-set-lt (n + 1) out n (i + 1) (omega arith) ∙ sym (drop-drop 1 n out) ∙ ap (λ (u : List ℕ). drop 1 u) v.kept ∙ drop-drop 1 n out₀;
           long = length-set out n (i + 1) ∙ v.long;

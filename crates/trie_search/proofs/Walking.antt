@@ -13,8 +13,7 @@ use Rattle.trie_pool.specs.inner.Sound.{Readable}
 use Rattle.trie_pool.specs.Words.{lacking, none, on_place, child, walk, marked, term, term_at}
 use mathlib.Core.Option as option
 use Rattle.trie_child.specs.inner.Search.{to_place}
-use Rattle.trie_child.specs.declared.Kid.{Kid}
-use Rattle.trie_child.specs.declared.Kid.TheVariants.{Nothing, Is}
+use Rattle.std.specs.Prelude.{Option, Some, None}
 use Rattle.trie_pool.proofs.Lists.{drop_next}
 use Rattle.trie_pool.proofs.Shape.{within, child_found, mark_is}
 use Rattle.trie_pool.proofs.Held.{root_mark}
@@ -30,10 +29,10 @@ module _ (p w : List ℕ) (i t : ℕ) (v : Inv p w i t) (l : t < length w) where
   on : walk p w 0 ≡ on_place none (λ r. walk p (drop (t + 1) w) r) (child p i (get_or w t 0))
   on = v.same ∙ ap (λ (u : List ℕ). walk p u i) (drop_next w t l)
 
-  pub lost : (k : Kid) → to_place k ≡ child p i (get_or w t 0) → k ≡ Nothing → term 0 ≡ term_at p w
+  pub lost : (k : Option ℕ) → to_place k ≡ child p i (get_or w t 0) → k ≡ None → term 0 ≡ term_at p w
   lost k e q = sym (ap (on_place option.none (λ r. term (mark_at p r))) (on ∙ ap (on_place none (λ r. walk p (drop (t + 1) w) r)) (sym e ∙ ap to_place q)))
 
-  pub step : (k : Kid) (r : ℕ) → to_place k ≡ child p i (get_or w t 0) → k ≡ Is r → Inv p w r (t + 1)
+  pub step : (k : Option ℕ) (r : ℕ) → to_place k ≡ child p i (get_or w t 0) → k ≡ Some r → Inv p w r (t + 1)
   step k r e q =
       let f = child_found p i (get_or w t 0) r (sym e ∙ ap to_place q) in
       record {
@@ -74,12 +73,12 @@ module _ (p w : List ℕ) (i t : ℕ) (v : Counts p w i t) (l : t < length w) wh
   count_on : lacking p w 0 ≡ on_place (suc (length (drop (t + 1) w))) (λ r. lacking p (drop (t + 1) w) r) (child p i (get_or w t 0))
   count_on = v.same ∙ ap (λ (u : List ℕ). lacking p u i) (drop_next w t l)
 
-  pub count_lost : (k : Kid) → to_place k ≡ child p i (get_or w t 0) → k ≡ Nothing → length w - t ≡ lacking p w 0
+  pub count_lost : (k : Option ℕ) → to_place k ≡ child p i (get_or w t 0) → k ≡ None → length w - t ≡ lacking p w 0
   count_lost k e q =
       let f : lacking p w 0 ≡ suc (length (drop (t + 1) w)) = count_on ∙ ap (on_place (suc (length (drop (t + 1) w))) (λ r. lacking p (drop (t + 1) w) r)) (sym e ∙ ap to_place q) in
       omega (arith, length-drop (t + 1) w)
 
-  pub count_step : (k : Kid) (r : ℕ) → to_place k ≡ child p i (get_or w t 0) → k ≡ Is r → Counts p w r (t + 1)
+  pub count_step : (k : Option ℕ) (r : ℕ) → to_place k ≡ child p i (get_or w t 0) → k ≡ Some r → Counts p w r (t + 1)
   count_step k r e q =
       let f = child_found p i (get_or w t 0) r (sym e ∙ ap to_place q) in
       record {

@@ -6,8 +6,7 @@ ghost use Rattle.trie_pool.specs.Meaning.{prefix_lengths, amount};
 ghost use Rattle.trie_pool.specs.inner.Sound.{Readable};
 ghost use Rattle.trie_search.specs.inner.Search.{Asks, Wrote, Counts};
 
-use cells::wide;
-use trie_child::{Kid, find_child};
+use trie_child::find_child;
 use trie_pool::{IN_USE, MARK, NODE};
 
 // Whether a word ends at node i, which is not the root.
@@ -23,22 +22,15 @@ pub fn mark_of(p: &[u32], w: &[u32]) -> u32
     requires { Readable p.now 0 }
     ensures { term result ≡ term_at p.now w.now }
 {
-    if w.len() == 0 {
+    if w.is_empty() {
         return 0;
     }
     let mut i: usize = 0;
-    let mut t: usize = 0;
-    while t < w.len() {
-        let kid = find_child(p, i, w[t]);
-        match kid {
-            Kid::Nothing => {
-                return 0;
-            }
-            Kid::Is(r) => {
-                i = r;
-            }
-        }
-        t += 1;
+    for x in w {
+        let Some(r) = find_child(p, i, *x) else {
+            return 0;
+        };
+        i = r;
     }
     p[NODE * i + MARK]
 }
@@ -49,18 +41,11 @@ pub fn missing(p: &[u32], w: &[u32]) -> usize
     ensures { result ≡ lacking p.now w.now 0 }
 {
     let mut i: usize = 0;
-    let mut t: usize = 0;
-    while t < w.len() {
-        let kid = find_child(p, i, w[t]);
-        match kid {
-            Kid::Nothing => {
-                return w.len() - t;
-            }
-            Kid::Is(r) => {
-                i = r;
-            }
-        }
-        t += 1;
+    for (t, x) in w.iter().enumerate() {
+        let Some(r) = find_child(p, i, *x) else {
+            return w.len() - t;
+        };
+        i = r;
     }
     0
 }
@@ -72,21 +57,15 @@ pub fn prefix_count(p: &[u32], text: &[u32]) -> usize
 {
     let mut b: usize = 0;
     let mut n: usize = 0;
-    let mut i: usize = 0;
-    while i < text.len() {
-        let kid = find_child(p, b, text[i]);
-        match kid {
-            Kid::Nothing => {
-                return n;
-            }
-            Kid::Is(r) => {
-                b = r;
-                i += 1;
-                if p[NODE * r + MARK] != 0 {
-                    n += 1;
-                }
-            }
+    for x in text {
+        let Some(r) = find_child(p, b, *x) else {
+            return n;
+        };
+        b = r;
+        if !ends_word(p, r) {
+            continue;
         }
+        n += 1;
     }
     n
 }
@@ -100,22 +79,16 @@ pub fn prefix_lengths(p: &[u32], text: &[u32], out: &mut [u32]) -> usize
 {
     let mut b: usize = 0;
     let mut n: usize = 0;
-    let mut i: usize = 0;
-    while i < text.len() {
-        let kid = find_child(p, b, text[i]);
-        match kid {
-            Kid::Nothing => {
-                return n;
-            }
-            Kid::Is(r) => {
-                b = r;
-                i += 1;
-                if p[NODE * r + MARK] != 0 {
-                    out[n] = i as u32;
-                    n += 1;
-                }
-            }
+    for (i, x) in text.iter().enumerate() {
+        let Some(r) = find_child(p, b, *x) else {
+            return n;
+        };
+        b = r;
+        if !ends_word(p, r) {
+            continue;
         }
+        out[n] = (i + 1) as u32;
+        n += 1;
     }
     n
 }
@@ -125,7 +98,7 @@ pub fn nodes_in_use(p: &[u32]) -> usize
     requires { 0 < length p.now }
     ensures { result ≡ used p.now }
 {
-    wide(p[IN_USE])
+    p[IN_USE] as usize
 }
 
 // How many words are held. None ends at the root.
@@ -133,15 +106,14 @@ pub fn count_words(p: &[u32]) -> usize
     requires { Counts p.now }
     ensures { result ≡ amount p.now }
 {
-    let n = wide(p[IN_USE]);
+    let n = p[IN_USE] as usize;
     let mut words: usize = 0;
-    let mut i: usize = 1;
-    while i < n {
+    for i in 1..n {
         let mark = p[NODE * i + MARK];
-        i += 1;
-        if mark != 0 {
-            words += 1;
+        if mark == 0 {
+            continue;
         }
+        words += 1;
     }
     words
 }

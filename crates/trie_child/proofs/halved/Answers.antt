@@ -1,6 +1,5 @@
 use native.Mathlib.Omega.{arith}
 use mathlib.Core.Path.{refl}
-use Prim.Native.Nat.{◌-◌}
 use Rattle.trie_child.proofs.Halving.{between_fits, to_upper, to_lower, found}
 use Rattle.trie_child.proofs.halved.Goals as goal
 

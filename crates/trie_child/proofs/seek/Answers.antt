@@ -1,5 +1,4 @@
 use native.Mathlib.Omega.{arith}
-use Prim.Native.Nat.{◌-◌}
 use Rattle.trie_child.proofs.Nearing.{children_fit, no_child, at_first, past_last, nearest, not_first, down, right_behind, right_here, between_here}
 use Rattle.trie_child.proofs.seek.Goals as goal
 

@@ -1,4 +1,3 @@
-use Prim.Native.Nat.{◌-◌}
 use Rattle.trie_child.proofs.Nearing.{Nearing}
 use Rattle.trie_child.proofs.seek.Given as goal
 

@@ -1,10 +1,8 @@
 -- What a search for a child finds.
-use Rattle.std.specs.Prelude.{ℕ, ◌+◌, ◌≤◌, ◌<◌, List}
+use Rattle.std.specs.Prelude.{ℕ, ◌+◌, ◌≤◌, ◌<◌, List, Option, Some, None}
 use Rattle.trie_pool.specs.Cells.{scalar_at, first_at, count_at}
 use Rattle.trie_pool.specs.Words.{Place, none, at}
 use Rattle.trie_pool.specs.inner.Sound.{Readable}
-use Rattle.trie_child.specs.declared.Kid.{Kid}
-use Rattle.trie_child.specs.declared.Kid.TheVariants.{Nothing, Is}
 
 -- where a child of b with scalar x stands, or would stand: r
 pub record Sought (p : List ℕ) (b x r : ℕ) : Type 0 where
@@ -22,6 +20,7 @@ pub record Between (p : List ℕ) (b x low high : ℕ) : Type 0 where
   pub lower : scalar_at p low < x
   pub higher : x ≤ scalar_at p high
 
-abbrev pub to_place : Kid → Place
-to_place Nothing = none
-to_place (Is r) = at r
+-- a child that was found, or none
+abbrev pub to_place : Option ℕ → Place
+to_place None = none
+to_place (Some r) = at r

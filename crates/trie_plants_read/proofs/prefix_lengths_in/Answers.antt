@@ -1,4 +1,5 @@
-use mathlib.Core.Path.{refl}
+use mathlib.Core.Path.{refl, sym, ◌∙◌}
+use Rattle.std.proofs.lemmas.Result.{err_from_is_err_and}
 use native.Mathlib.Omega.{arith}
 use Rattle.refusal.proofs.Causes.{no_output}
 use Rattle.trie_char_answers.proofs.Reading.{asks, prefix_short, prefix_done, prefix_refused}
@@ -7,13 +8,14 @@ use Rattle.trie_plants.proofs.Parts.{half_low}
 use Rattle.trie_plants_read.proofs.Views.{inside, view}
 use Rattle.trie_plants_read.proofs.prefix_lengths_in.Goals as goal
 
-pub returns-in_default : goal.returns-in_default
-returns-in_default c =
+pub returns-in_err-check_plant : goal.returns-in_err-check_plant
+returns-in_err-check_plant c =
+    let p = err_from_is_err_and c.from_residual.result c.from_residual.ensures.1 in
+    let e = p.1 ∙ rw p.2 (sym c.in_err-check_plant.was) in
     record {
-      value = prefix_refused (plant_meaning c.args.plant c.args.pool.now) c.args.text.now
-          c.check_plant-checked.ensures c.in_default.is c.args.out.now _;
-      out_after = no_output _ _
-          c.in_default.is;
+      value = e ∙ prefix_refused (plant_meaning c.args.plant c.args.pool.now) c.args.text.now
+          c.check_plant.ensures c.in_err-check_plant.was c.args.out.now _;
+      out_after = no_output _ _ p.1;
     }
 
 pub offset_bounds-pool-at : goal.offset_bounds-pool-at
@@ -23,29 +25,29 @@ pub slice_bounds-prefix_count-count : goal.slice_bounds-prefix_count-count
 slice_bounds-prefix_count-count c =
     omega (
       arith,
-      inside c.args.plant c.args.pool.now c.args.text.now c.check_plant-checked.ensures
-          c.in-Ok.is _ c.capacity-cells.ensures _ c.half_at-at.ensures,
+      inside c.args.plant c.args.pool.now c.args.text.now c.check_plant.ensures
+          c.in_ok-check_plant.was _ c.capacity-cells.ensures _ c.half_at-at.ensures,
     )
 
 pub slice_bounds-prefix_count-start : goal.slice_bounds-prefix_count-start
 slice_bounds-prefix_count-start c =
     omega (
       arith,
-      inside c.args.plant c.args.pool.now c.args.text.now c.check_plant-checked.ensures
-          c.in-Ok.is _ c.capacity-cells.ensures _ c.half_at-at.ensures,
+      inside c.args.plant c.args.pool.now c.args.text.now c.check_plant.ensures
+          c.in_ok-check_plant.was _ c.capacity-cells.ensures _ c.half_at-at.ensures,
     )
 
 pub prefix_count-needed-requires : goal.prefix_count-needed-requires
 prefix_count-needed-requires c =
-    (view c.args.plant c.args.pool.now c.args.text.now c.check_plant-checked.ensures
-    c.in-Ok.is _ c.capacity-cells.ensures _ c.half_at-at.ensures).readable
+    (view c.args.plant c.args.pool.now c.args.text.now c.check_plant.ensures
+    c.in_ok-check_plant.was _ c.capacity-cells.ensures _ c.half_at-at.ensures).readable
 
 pub returns-then-out-needed : goal.returns-then-out-needed
 returns-then-out-needed c =
     record {
-      value = prefix_short (view c.args.plant c.args.pool.now c.args.text.now c.check_plant-checked.ensures
-          c.in-Ok.is _ c.capacity-cells.ensures _ c.half_at-at.ensures) c.args.text.now
-          c.check_plant-checked.ensures c.in-Ok.is c.args.out.now _ c.prefix_count-needed.ensures _
+      value = prefix_short (view c.args.plant c.args.pool.now c.args.text.now c.check_plant.ensures
+          c.in_ok-check_plant.was _ c.capacity-cells.ensures _ c.half_at-at.ensures) c.args.text.now
+          c.check_plant.ensures c.in_ok-check_plant.was c.args.out.now _ c.prefix_count-needed.ensures _
           c.if-out-needed.true;
       out_after = refl;
     }
@@ -57,28 +59,28 @@ pub slice_bounds-prefix_lengths-count : goal.slice_bounds-prefix_lengths-count
 slice_bounds-prefix_lengths-count c =
     omega (
       arith,
-      inside c.args.plant c.args.pool.now c.args.text.now c.check_plant-checked.ensures
-          c.in-Ok.is _ c.capacity-cells.ensures _ c.half_at-at.ensures,
+      inside c.args.plant c.args.pool.now c.args.text.now c.check_plant.ensures
+          c.in_ok-check_plant.was _ c.capacity-cells.ensures _ c.half_at-at.ensures,
     )
 
 pub slice_bounds-prefix_lengths-start : goal.slice_bounds-prefix_lengths-start
 slice_bounds-prefix_lengths-start c =
     omega (
       arith,
-      inside c.args.plant c.args.pool.now c.args.text.now c.check_plant-checked.ensures
-          c.in-Ok.is _ c.capacity-cells.ensures _ c.half_at-at.ensures,
+      inside c.args.plant c.args.pool.now c.args.text.now c.check_plant.ensures
+          c.in_ok-check_plant.was _ c.capacity-cells.ensures _ c.half_at-at.ensures,
     )
 
 pub prefix_lengths-written-requires : goal.prefix_lengths-written-requires
 prefix_lengths-written-requires c =
-    asks (view c.args.plant c.args.pool.now c.args.text.now c.check_plant-checked.ensures
-    c.in-Ok.is _ c.capacity-cells.ensures _ c.half_at-at.ensures) c.args.text.now
-    c.check_plant-checked.ensures c.in-Ok.is c.args.out.now _ c.prefix_count-needed.ensures
+    asks (view c.args.plant c.args.pool.now c.args.text.now c.check_plant.ensures
+    c.in_ok-check_plant.was _ c.capacity-cells.ensures _ c.half_at-at.ensures) c.args.text.now
+    c.check_plant.ensures c.in_ok-check_plant.was c.args.out.now _ c.prefix_count-needed.ensures
     c.if-out-needed.false
 
 pub returns : goal.returns
 returns c =
-    let both = prefix_done (view c.args.plant c.args.pool.now c.args.text.now c.check_plant-checked.ensures
-    c.in-Ok.is _ c.capacity-cells.ensures _ c.half_at-at.ensures) c.args.text.now
-    c.check_plant-checked.ensures c.in-Ok.is c.args.out.now _ c.prefix_count-needed.ensures
+    let both = prefix_done (view c.args.plant c.args.pool.now c.args.text.now c.check_plant.ensures
+    c.in_ok-check_plant.was _ c.capacity-cells.ensures _ c.half_at-at.ensures) c.args.text.now
+    c.check_plant.ensures c.in_ok-check_plant.was c.args.out.now _ c.prefix_count-needed.ensures
     c.if-out-needed.false _ _ c.prefix_lengths-written.ensures in record { value = both.0; out_after = both.1 }

@@ -1,9 +1,5 @@
-use Prim.Native.Nat.{◌-◌}
 use native.Mathlib.Omega.{arith}
 use Rattle.trie_change.proofs.Taking.{readable, cleared, lost, deeper, prunes, removed, length_tail, inside_remove}
-use borrow.Fn.PlainCycle.{is}
-use Rattle.trie_change.proofs.remove.remove_word.Reads as remove-word
-use Rattle.trie_change.proofs.remove.remove_word.Kinds as remove-word-kinds
 use Rattle.trie_change.proofs.remove.+remove_word.Goals as goal
 
 pub overflow_mul-p : goal.overflow_mul-p
@@ -24,13 +20,13 @@ returns-then-w-eq0 t c = cleared c.args.p.now c.args.w.now c.args.b c.requires c
 pub bounds-w-0 : goal.bounds-w-0
 bounds-w-0 t c = omega (arith, c.if-w-eq0.false)
 
-pub find_child-kid-requires : goal.find_child-kid-requires
-find_child-kid-requires t c = readable _ _ _ c.requires
+pub find_child-requires : goal.find_child-requires
+find_child-requires t c = readable _ _ _ c.requires
 
-pub returns-in-Nothing : goal.returns-in-Nothing
-returns-in-Nothing t c =
-    lost c.args.p.now c.args.w.now c.args.b _ c.requires c.if-w-eq0.false c.find_child-kid.ensures
-    c.in-Nothing.is
+pub returns-in_default : goal.returns-in_default
+returns-in_default t c =
+    lost c.args.p.now c.args.w.now c.args.b _ c.requires c.if-w-eq0.false c.find_child.ensures
+    c.in_default.is
 
 pub slice_bounds-remove_word-count : goal.slice_bounds-remove_word-count
 slice_bounds-remove_word-count t c = omega (arith, c.if-w-eq0.false)
@@ -42,15 +38,15 @@ pub remove_word-requires : goal.remove_word-requires
 remove_word-requires t c = (
   omega (arith, length_tail c.args.w.now 1, c.requires.past_root, c.if-w-eq0.false),
   deeper c.args.p.now
-      c.args.w.now c.args.b _ _ c.requires c.find_child-kid.ensures c.in-Is.is,
+      c.args.w.now c.args.b _ _ c.requires c.find_child.ensures c.in-Some.is,
 )
 
 pub prune-requires : goal.prune-requires
 prune-requires t c =
     prunes c.args.p.now c.args.w.now _ c.args.b _ _ c.requires c.if-w-eq0.false
-    c.find_child-kid.ensures c.in-Is.is c.remove_word.ensures
+    c.find_child.ensures c.in-Some.is c.remove_word.ensures
 
 pub returns : goal.returns
 returns t c =
     removed c.args.p.now c.args.w.now _ c.args.b _ _ c.requires c.if-w-eq0.false
-    c.find_child-kid.ensures c.in-Is.is c.remove_word.ensures _ c.prune.ensures
+    c.find_child.ensures c.in-Some.is c.remove_word.ensures _ c.prune.ensures

@@ -1,7 +1,4 @@
-use Prim.Native.Nat.{◌-◌}
 use lib.ListN.{length}
-use Rattle.trie_change.proofs.remove.remove_word.Reads as remove-word
-use Rattle.trie_change.proofs.remove.remove_word.Kinds as remove-word-kinds
 use Rattle.trie_change.proofs.remove.+remove_word.Given as goal
 
 abbrev pub decreases-remove_word : goal.decreases-remove_word

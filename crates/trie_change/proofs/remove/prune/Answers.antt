@@ -1,4 +1,4 @@
-use Prim.Native.Nat.{◌-◌}
+use mathlib.Core.Path.{refl}
 use native.Mathlib.Omega.{arith}
 use Rattle.trie_change.proofs.Taking.{inside_prune, stays_count, stays_mark, plucks, pruned}
 use Rattle.trie_change.proofs.remove.prune.Goals as goal
@@ -39,10 +39,10 @@ bounds-p-0 c = let i = inside_prune _ _ _ c.requires in omega arith
 pub overflow_sub-n : goal.overflow_sub-n
 overflow_sub-n c =
     let i = inside_prune _ _ _ c.requires in
-    omega (arith, c.wide-n.ensures)
+    omega arith
 
 pub pluck-requires : goal.pluck-requires
-pluck-requires c = plucks _ _ _ _ c.requires c.wide-n.ensures c.if-p-j-ne0.false c.if-p-j-ne0-2.false
+pluck-requires c = plucks _ _ _ _ c.requires refl c.if-p-j-ne0.false c.if-p-j-ne0-2.false
 
 pub returns : goal.returns
-returns c = pruned _ _ _ _ _ c.requires c.wide-n.ensures c.pluck.auto.p c.pluck.ensures
+returns c = pruned _ _ _ _ _ c.requires refl c.pluck.auto.p c.pluck.ensures

@@ -1,10 +1,5 @@
-use Prim.Native.Nat.{◌-◌}
-use lib.ListN.{length}
 use Rattle.trie_search.proofs.Walking.{Inv}
 use Rattle.trie_search.proofs.search.mark_of.Given as goal
 
-abbrev pub invariant-loop-t : goal.invariant-loop-t
-invariant-loop-t l = Inv l.p l.w l.i l.t
-
-abbrev pub decreases-loop-t : goal.decreases-loop-t
-decreases-loop-t l = length l.w - l.t
+abbrev pub invariant-loop-x : goal.invariant-loop-x
+invariant-loop-x l = Inv l.p l.w l.i l.x-index

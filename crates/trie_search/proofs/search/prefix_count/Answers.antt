@@ -1,53 +1,17 @@
-use Prim.Native.Nat.{◌-◌}
-use native.Mathlib.Omega.{arith}
-use Rattle.trie_search.proofs.Prefixes.{there, counted_none, counted_all, counted_end, counted_on, counted_more}
+use mathlib.Core.Path.{sym, ◌∙◌}
+use Rattle.trie_search.proofs.Prefixes.{ends_there, counted_none, counted_on, counted_more}
 use Rattle.trie_search.proofs.search.prefix_count.Goals as goal
 
-pub loop-i-init : goal.loop-i-init
-loop-i-init c = counted_none _ _ c.requires
+pub loop-x-init : goal.loop-x-init
+loop-x-init c = counted_none _ _ c.requires
 
-pub find_child-kid-requires : goal.find_child-kid-requires
-find_child-kid-requires c = c.loop-i.invariant.here
+pub ends_word-requires : goal.ends_word-requires
+ends_word-requires c = ends_there _ _ c.find_child.ensures c.in-Some.is c.loop-x.invariant.here
 
-pub returns-in-Nothing : goal.returns-in-Nothing
-returns-in-Nothing c = counted_end c.loop-i.invariant c.loop-i-test.true _ c.find_child-kid.ensures c.in-Nothing.is
+pub loop-x-preserved-then-not-ends_word : goal.loop-x-preserved-then-not-ends_word
+loop-x-preserved-then-not-ends_word c =
+    counted_on c.loop-x.invariant c.loop-x-test.true _ c.find_child.ensures _ c.in-Some.is (sym c.ends_word.ensures ∙ c.if-not-ends_word.true)
 
-pub overflow_mul-r : goal.overflow_mul-r
-overflow_mul-r c =
-    let w = there _ _ c.find_child-kid.ensures c.in-Is.is c.loop-i.invariant.here in
-    omega (arith, w.inside, w.fits)
-
-pub overflow_add-r : goal.overflow_add-r
-overflow_add-r c =
-    let w = there _ _ c.find_child-kid.ensures c.in-Is.is c.loop-i.invariant.here in
-    omega (arith, w.inside, w.fits)
-
-pub offset_bounds-p-r : goal.offset_bounds-p-r
-offset_bounds-p-r c =
-    let w = there _ _ c.find_child-kid.ensures c.in-Is.is c.loop-i.invariant.here in
-    omega (arith, w.inside, w.fits)
-
-pub bounds-p-r : goal.bounds-p-r
-bounds-p-r c =
-    let w = there _ _ c.find_child-kid.ensures c.in-Is.is c.loop-i.invariant.here in
-    omega (arith, w.inside, w.fits)
-
-pub overflow_add-n : goal.overflow_add-n
-overflow_add-n c = let v = c.loop-i.invariant in omega (arith, v.few, v.at_most)
-
-pub loop-i-smaller-then-p-r-ne0 : goal.loop-i-smaller-then-p-r-ne0
-loop-i-smaller-then-p-r-ne0 c = omega (arith, c.loop-i-test.true)
-
-pub loop-i-preserved-then-p-r-ne0 : goal.loop-i-preserved-then-p-r-ne0
-loop-i-preserved-then-p-r-ne0 c =
-    counted_more c.loop-i.invariant c.loop-i-test.true _ c.find_child-kid.ensures _ c.in-Is.is
-    c.if-p-r-ne0.true
-
-pub loop-i-smaller : goal.loop-i-smaller
-loop-i-smaller c = omega (arith, c.loop-i-test.true)
-
-pub loop-i-preserved : goal.loop-i-preserved
-loop-i-preserved c = counted_on c.loop-i.invariant c.loop-i-test.true _ c.find_child-kid.ensures _ c.in-Is.is c.if-p-r-ne0.false
-
-pub returns : goal.returns
-returns c = counted_all c.loop-i.invariant c.loop-i-test.false
+pub loop-x-preserved : goal.loop-x-preserved
+loop-x-preserved c =
+    counted_more c.loop-x.invariant c.loop-x-test.true _ c.find_child.ensures _ c.in-Some.is (sym c.ends_word.ensures ∙ c.if-not-ends_word.false)
