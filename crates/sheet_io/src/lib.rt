@@ -1,75 +1,133 @@
-// Standard input and output of a line program: `read_some` and `write_whole`, at any reader and any
-// writer. A call that was interrupted, or that would have had to wait, is tried again; one that
-// fails for another reason is told on standard error. A proved loop has to end: each has more turns
-// than any run uses up.
+// Standard input and output of a line program, at any reader and any writer.
+//   read_some    reads once
+//   read_all     reads to the end, and hands a program each part
+//   write_whole  writes all of a text
+// A call that was interrupted, or that would have had to wait, is tried again; one that fails for
+// another reason is a `Failure`. A proved loop has to end: each has more turns than any run uses up.
 #![tactic(auto)]
 
-ghost use Rattle.std.specs.Prelude.{◌≡◌, true, ℕ, ◌≤◌, length, take};
-ghost use Rattle.std.specs.Io.KnownBytes.{Appends};
+ghost use Rattle.std.specs.Prelude.{◌≡◌, ℕ, ◌≤◌, length, take, IfOk};
+ghost use Rattle.std.specs.Io.KnownBytes.{Appends, IsAtEnd};
 ghost use Rattle.sheet_io.specs.Reading.{ReadOnce};
 
 use std::io::{Error, ErrorKind, Read, Write};
-use std::thread;
+use std::{fmt, str, thread};
 
-// What a read found: so many bytes at the front of the buffer, none at the end of the input, or it
-// failed.
-#[derive(Clone, Copy)]
-pub enum Got {
-    Bytes(usize),
-    Failed,
+// Why a program stops.
+#[derive(Drop)]
+pub enum Failure {
+    // A read of standard input failed.
+    Reading(Error),
+    // A write to standard output failed.
+    Writing(Error),
+    // A write to standard output took no byte.
+    NothingTaken,
+    // A loop used up its turns.
+    NoTurnLeft,
 }
 
-// Reads once. Where that fails, `told` is written `what` and the reason.
-pub fn read_some<P: Print, R: Read>(told: &P, input: &mut R, buffer: &mut [u8], what: &[u8]) -> Got
+// As a line on standard error says it, behind the program's name: an error by the system's words.
+impl fmt::Display for Failure {
+    fn fmt<W: fmt::Write>(&self, f: &mut fmt::Formatter<W>) -> fmt::Result {
+        match self {
+            Failure::Reading(error) => {
+                f.write_str("reading standard input: ")?;
+                write_words(f, error)
+            }
+            Failure::Writing(error) => {
+                f.write_str("writing standard output: ")?;
+                write_words(f, error)
+            }
+            Failure::NothingTaken => f.write_str("writing standard output: nothing was taken"),
+            Failure::NoTurnLeft => f.write_str("no turn is left"),
+        }
+    }
+}
+
+// What std puts between the system's words for an error and its number.
+const NUMBER: &[u8] = b" (os error ";
+
+// The system's words for an error.
+fn write_words<W: fmt::Write>(f: &mut fmt::Formatter<W>, error: &Error) -> fmt::Result {
+    let mut line = [0u8; 320];
+    let mut rest = &mut line[..];
+    let _ = write!(rest, "{error}");
+    let Some(n) = line.windows(NUMBER.len()).position(|w| w == NUMBER) else {
+        return write!(f, "{error}");
+    };
+    match str::from_utf8(&line[..n]) {
+        Ok(words) => f.write_str(words),
+        Err(_) => write!(f, "{error}"),
+    }
+}
+
+// Reads once.
+pub fn read_some<R: Read>(input: &mut R, buffer: &mut [u8]) -> Result<usize, Failure>
     ensures { ReadOnce (R.remaining input.old) (R.remaining input.new) result buffer.new }
 {
-    let mut turns = u64::MAX;
-    while turns > 0 {
+    for _ in 0..u64::MAX {
         match input.read(buffer) {
-            Ok(n) => return Got::Bytes(n),
+            Ok(n) => return Ok(n),
             Err(error) => {
                 if !again(&error) {
-                    tell(told, what, &error);
-                    return Got::Failed;
+                    return Err(Failure::Reading(error));
                 }
             }
         }
-        turns -= 1;
     }
-    Got::Failed
+    Err(Failure::NoTurnLeft)
 }
 
-// Writes all of a text and answers true, or stops at the first write that fails, writes `what` and
-// the reason to `told`, and answers false.
-pub fn write_whole<P: Print, W: Write>(told: &P, output: &mut W, text: &[u8], what: &[u8]) -> bool
-    ensures whole { result ≡ true → Appends (W.contents output.old) (W.contents output.new) text.now }
+// What a program does with its standard input.
+pub trait Program {
+    // Why it stops before the end of its input.
+    type Stop: From<Failure> + Drop;
+
+    // Does what is to be done with the next bytes.
+    fn take(&mut self, bytes: &[u8]) -> Result<(), Self::Stop>;
+}
+
+// Reads to the end of the input, and hands the program each part. `Ok` says that nothing is left.
+pub fn read_all<R: Read, G: Program>(input: &mut R, program: &mut G) -> Result<(), G::Stop>
+    ensures { IfOk result (λ _. IsAtEnd (R.remaining input.new)) }
+{
+    let mut buffer = [0u8; 65536];
+    for _ in 0..u64::MAX {
+        let n = read_some(input, &mut buffer)?;
+        if n == 0 {
+            return Ok(());
+        }
+        program.take(&buffer[..n])?;
+    }
+    Err(G::Stop::from(Failure::NoTurnLeft))
+}
+
+// Writes all of a text, or stops at the first write that fails.
+pub fn write_whole<W: Write>(output: &mut W, text: &[u8]) -> Result<(), Failure>
+    ensures whole { IfOk result (λ _. Appends (W.contents output.old) (W.contents output.new) text.now) }
     ensures front { (n : ℕ) × (n ≤ length text.now)
         × Appends (W.contents output.old) (W.contents output.new) (take n text.now) }
 {
     let mut at = 0;
-    let mut turns = u64::MAX;
-    while turns > 0 {
-        if text.len() <= at {
-            return true;
-        }
+    for _ in 0..u64::MAX {
         let rest = &text[at..];
+        if rest.is_empty() {
+            return Ok(());
+        }
         match output.write(rest) {
-            Ok(0) => {
-                let _ = told.write_all(what);
-                let _ = println!(told; ": nothing was taken");
-                return false;
+            Ok(0) => return Err(Failure::NothingTaken),
+            Ok(put) => {
+                at += put;
+                continue;
             }
-            Ok(put) => at += put,
             Err(error) => {
                 if !again(&error) {
-                    tell(told, what, &error);
-                    return false;
+                    return Err(Failure::Writing(error));
                 }
             }
         }
-        turns -= 1;
     }
-    false
+    Err(Failure::NoTurnLeft)
 }
 
 // Whether the call that has just failed is to be tried again.
@@ -82,22 +140,4 @@ fn again(error: &Error) -> bool {
         }
         _ => false,
     }
-}
-
-// What std puts between the system's words for an error and its number.
-const NUMBER: &[u8] = b" (os error ";
-
-// One line: `what`, and the system's words for the error.
-fn tell<P: Print>(told: &P, what: &[u8], error: &Error) {
-    let mut line = [0u8; 320];
-    let mut rest = &mut line[..];
-    let _ = write!(rest, "{error}");
-    let _ = told.write_all(what);
-    let Some(n) = line.windows(NUMBER.len()).position(|w| w == NUMBER) else {
-        let _ = println!(told; ": {error}");
-        return;
-    };
-    let _ = told.write_all(b": ");
-    let _ = told.write_all(&line[..n]);
-    let _ = told.write_all(b"\n");
 }
