@@ -4,6 +4,8 @@ ghost use Rattle.newmm_answers.specs.Calls.{call};
 ghost use Rattle.host_telling.specs.Told.{told_cut};
 ghost use Rattle.host_cuts.specs.Calls.{CutTold};
 
+use newmm_rules::Mode::{Plain, Safe, Sheet};
+
 // Cuts a text plainly: the ends of its tokens, in characters, at the front of out; accepted with
 // their number and that of the edges. Refusals 2 to 6.
 pub fn fetlockice_cut_plain(
@@ -20,7 +22,7 @@ pub fn fetlockice_cut_plain(
         (told_cut result count.new edges.new detail.new)
         out.new scratch.new }
 {
-    host_cuts::cut_plain(text, pool, out, scratch, count, edges, detail)
+    host_cuts::cut(text, pool, out, scratch, Plain, count, edges, detail)
 }
 
 // Cuts a text in safe mode; the rest as in the plain cut.
@@ -38,7 +40,7 @@ pub fn fetlockice_cut_safe(
         (told_cut result count.new edges.new detail.new)
         out.new scratch.new }
 {
-    host_cuts::cut_safe(text, pool, out, scratch, count, edges, detail)
+    host_cuts::cut(text, pool, out, scratch, Safe, count, edges, detail)
 }
 
 // Cuts a text by the profile "sheet"; the rest as in the plain cut.
@@ -56,5 +58,5 @@ pub fn fetlockice_cut_sheet(
         (told_cut result count.new edges.new detail.new)
         out.new scratch.new }
 {
-    host_cuts::cut_sheet(text, pool, out, scratch, count, edges, detail)
+    host_cuts::cut(text, pool, out, scratch, Sheet, count, edges, detail)
 }

@@ -6,6 +6,7 @@ ghost use Rattle.host_telling.specs.Told.{told, told_cut};
 ghost use Rattle.host_figures.specs.Calls.{FeedTold, RefusedTold, JoinTold};
 
 use figures_cells::Figures;
+use newmm_rules::Mode::{Plain, Safe, Sheet};
 
 // Cuts a text plainly, with reasons, and adds what became of it to the figures: as the cut with
 // reasons, and refusal 13 before all others.
@@ -24,7 +25,9 @@ pub fn fetlockice_feed_plain(
         (told_cut result count.new edges.new detail.new)
         figures.new pairs.new scratch.new }
 {
-    host_figures::feed_plain(figures, text, pool, pairs, scratch, count, edges, detail)
+    host_figures::feed(
+        figures, text, pool, pairs, scratch, Plain, count, edges, detail,
+    )
 }
 
 // The same in safe mode. A reason is about the part.
@@ -43,7 +46,9 @@ pub fn fetlockice_feed_safe(
         (told_cut result count.new edges.new detail.new)
         figures.new pairs.new scratch.new }
 {
-    host_figures::feed_safe(figures, text, pool, pairs, scratch, count, edges, detail)
+    host_figures::feed(
+        figures, text, pool, pairs, scratch, Safe, count, edges, detail,
+    )
 }
 
 // The same by the profile "sheet".
@@ -62,7 +67,9 @@ pub fn fetlockice_feed_sheet(
         (told_cut result count.new edges.new detail.new)
         figures.new pairs.new scratch.new }
 {
-    host_figures::feed_sheet(figures, text, pool, pairs, scratch, count, edges, detail)
+    host_figures::feed(
+        figures, text, pool, pairs, scratch, Sheet, count, edges, detail,
+    )
 }
 
 // Adds a text that was refused before it could be fed, by its refusal's number. Refusal 13.

@@ -4,6 +4,8 @@ ghost use Rattle.newmm_many_answers.specs.Calls.{many_call};
 ghost use Rattle.host_telling.specs.Told.{told};
 ghost use Rattle.host_many.specs.Calls.{ManyTold, ManyReasonsTold};
 
+use newmm_rules::Mode::{Plain, Safe, Sheet};
+
 // Cuts many texts plainly, with one check of the pool. They stand joined in texts, and end there at
 // text_ends. Four cells of answers for each text: number, count, edges, detail. The ends of all
 // texts one behind the other in out, each in its own text's characters. Accepted with the number of
@@ -23,7 +25,9 @@ pub fn fetlockice_cut_many_plain(
         (told result count.new detail.new)
         answers.new out.new scratch.new }
 {
-    host_many::cut_many_plain(texts, text_ends, pool, answers, out, scratch, count, detail)
+    host_many::cut_many(
+        texts, text_ends, pool, answers, out, scratch, Plain, count, detail,
+    )
 }
 
 // Cuts many texts in safe mode; the rest as in the plain cut of many texts.
@@ -42,7 +46,9 @@ pub fn fetlockice_cut_many_safe(
         (told result count.new detail.new)
         answers.new out.new scratch.new }
 {
-    host_many::cut_many_safe(texts, text_ends, pool, answers, out, scratch, count, detail)
+    host_many::cut_many(
+        texts, text_ends, pool, answers, out, scratch, Safe, count, detail,
+    )
 }
 
 // Cuts many texts by the profile "sheet"; the rest as in the plain cut of many texts.
@@ -61,7 +67,9 @@ pub fn fetlockice_cut_many_sheet(
         (told result count.new detail.new)
         answers.new out.new scratch.new }
 {
-    host_many::cut_many_sheet(texts, text_ends, pool, answers, out, scratch, count, detail)
+    host_many::cut_many(
+        texts, text_ends, pool, answers, out, scratch, Sheet, count, detail,
+    )
 }
 
 // Cuts many texts plainly, with reasons and one check of the pool. They stand joined in texts, and
@@ -84,8 +92,8 @@ pub fn fetlockice_reasons_many_plain(
         (told result count.new detail.new)
         answers.new pairs.new scratch.new }
 {
-    host_many::reasons_many_plain(
-        texts, text_ends, pool, answers, pairs, scratch, count, detail,
+    host_many::cut_reasons_many(
+        texts, text_ends, pool, answers, pairs, scratch, Plain, count, detail,
     )
 }
 
@@ -105,8 +113,8 @@ pub fn fetlockice_reasons_many_safe(
         (told result count.new detail.new)
         answers.new pairs.new scratch.new }
 {
-    host_many::reasons_many_safe(
-        texts, text_ends, pool, answers, pairs, scratch, count, detail,
+    host_many::cut_reasons_many(
+        texts, text_ends, pool, answers, pairs, scratch, Safe, count, detail,
     )
 }
 
@@ -126,7 +134,7 @@ pub fn fetlockice_reasons_many_sheet(
         (told result count.new detail.new)
         answers.new pairs.new scratch.new }
 {
-    host_many::reasons_many_sheet(
-        texts, text_ends, pool, answers, pairs, scratch, count, detail,
+    host_many::cut_reasons_many(
+        texts, text_ends, pool, answers, pairs, scratch, Sheet, count, detail,
     )
 }

@@ -8,6 +8,8 @@ ghost use Rattle.host_plants.specs.Calls.{PlantContainsTold, PlantPrefixesTold, 
 ghost use Rattle.host_plants_cuts.specs.Calls.{PlantCutTold, PlantReasonsTold};
 ghost use Rattle.host_plants_images.specs.Calls.{PlantReadImageTold, PlantWriteImageTold};
 
+use newmm_rules::Mode::{Plain, Safe, Sheet};
+
 // Makes two dictionaries without words, each with a limit in nodes, whatever the cells held before.
 // Refusals 8, 12.
 pub fn fetlockice_plants_start(
@@ -116,7 +118,9 @@ pub fn fetlockice_plant_cut_plain(
         (told_cut result count.new edges.new detail.new)
         out.new scratch.new }
 {
-    host_plants_cuts::cut_plain(text, pool, plant_b, out, scratch, count, edges, detail)
+    host_plants_cuts::cut(
+        text, pool, plant_b, out, scratch, Plain, count, edges, detail,
+    )
 }
 
 // The same in safe mode.
@@ -135,7 +139,9 @@ pub fn fetlockice_plant_cut_safe(
         (told_cut result count.new edges.new detail.new)
         out.new scratch.new }
 {
-    host_plants_cuts::cut_safe(text, pool, plant_b, out, scratch, count, edges, detail)
+    host_plants_cuts::cut(
+        text, pool, plant_b, out, scratch, Safe, count, edges, detail,
+    )
 }
 
 // The same by the profile "sheet".
@@ -154,7 +160,9 @@ pub fn fetlockice_plant_cut_sheet(
         (told_cut result count.new edges.new detail.new)
         out.new scratch.new }
 {
-    host_plants_cuts::cut_sheet(text, pool, plant_b, out, scratch, count, edges, detail)
+    host_plants_cuts::cut(
+        text, pool, plant_b, out, scratch, Sheet, count, edges, detail,
+    )
 }
 
 // Cuts a text plainly by the words of a plant, with reasons: for each token a pair of cells at the
@@ -175,7 +183,9 @@ pub fn fetlockice_plant_reasons_plain(
         (told_cut result count.new edges.new detail.new)
         pairs.new scratch.new }
 {
-    host_plants_cuts::reasons_plain(text, pool, plant_b, pairs, scratch, count, edges, detail)
+    host_plants_cuts::cut_reasons(
+        text, pool, plant_b, pairs, scratch, Plain, count, edges, detail,
+    )
 }
 
 // The same in safe mode. A reason is about the part.
@@ -194,7 +204,9 @@ pub fn fetlockice_plant_reasons_safe(
         (told_cut result count.new edges.new detail.new)
         pairs.new scratch.new }
 {
-    host_plants_cuts::reasons_safe(text, pool, plant_b, pairs, scratch, count, edges, detail)
+    host_plants_cuts::cut_reasons(
+        text, pool, plant_b, pairs, scratch, Safe, count, edges, detail,
+    )
 }
 
 // The same by the profile "sheet".
@@ -213,7 +225,9 @@ pub fn fetlockice_plant_reasons_sheet(
         (told_cut result count.new edges.new detail.new)
         pairs.new scratch.new }
 {
-    host_plants_cuts::reasons_sheet(text, pool, plant_b, pairs, scratch, count, edges, detail)
+    host_plants_cuts::cut_reasons(
+        text, pool, plant_b, pairs, scratch, Sheet, count, edges, detail,
+    )
 }
 
 // Replaces the words of a plant and their classes by those of an image; accepted with their number.

@@ -6,6 +6,8 @@ ghost use Rattle.host_telling.specs.Told.{told};
 ghost use Rattle.host_plants.specs.Calls.{plant_of};
 ghost use Rattle.host_plants_many.specs.Calls.{PlantManyTold, PlantManyReasonsTold};
 
+use newmm_rules::Mode::{Plain, Safe, Sheet};
+
 // Cuts many texts plainly by the words of a plant, with one check of the pool. They stand joined in
 // texts, and end there at text_ends. Four cells of answers for each text: number, count, edges,
 // detail. The ends of all texts one behind the other in out, each in its own text's characters.
@@ -27,8 +29,8 @@ pub fn fetlockice_plant_cut_many_plain(
         (told result count.new detail.new)
         answers.new out.new scratch.new }
 {
-    host_plants_many::cut_many_plain(
-        texts, text_ends, pool, plant_b, answers, out, scratch, count, detail,
+    host_plants_many::cut_many(
+        texts, text_ends, pool, plant_b, answers, out, scratch, Plain, count, detail,
     )
 }
 
@@ -50,8 +52,8 @@ pub fn fetlockice_plant_cut_many_safe(
         (told result count.new detail.new)
         answers.new out.new scratch.new }
 {
-    host_plants_many::cut_many_safe(
-        texts, text_ends, pool, plant_b, answers, out, scratch, count, detail,
+    host_plants_many::cut_many(
+        texts, text_ends, pool, plant_b, answers, out, scratch, Safe, count, detail,
     )
 }
 
@@ -73,8 +75,8 @@ pub fn fetlockice_plant_cut_many_sheet(
         (told result count.new detail.new)
         answers.new out.new scratch.new }
 {
-    host_plants_many::cut_many_sheet(
-        texts, text_ends, pool, plant_b, answers, out, scratch, count, detail,
+    host_plants_many::cut_many(
+        texts, text_ends, pool, plant_b, answers, out, scratch, Sheet, count, detail,
     )
 }
 
@@ -99,8 +101,8 @@ pub fn fetlockice_plant_reasons_many_plain(
         (told result count.new detail.new)
         answers.new pairs.new scratch.new }
 {
-    host_plants_many::reasons_many_plain(
-        texts, text_ends, pool, plant_b, answers, pairs, scratch, count, detail,
+    host_plants_many::cut_reasons_many(
+        texts, text_ends, pool, plant_b, answers, pairs, scratch, Plain, count, detail,
     )
 }
 
@@ -122,8 +124,8 @@ pub fn fetlockice_plant_reasons_many_safe(
         (told result count.new detail.new)
         answers.new pairs.new scratch.new }
 {
-    host_plants_many::reasons_many_safe(
-        texts, text_ends, pool, plant_b, answers, pairs, scratch, count, detail,
+    host_plants_many::cut_reasons_many(
+        texts, text_ends, pool, plant_b, answers, pairs, scratch, Safe, count, detail,
     )
 }
 
@@ -145,7 +147,7 @@ pub fn fetlockice_plant_reasons_many_sheet(
         (told result count.new detail.new)
         answers.new pairs.new scratch.new }
 {
-    host_plants_many::reasons_many_sheet(
-        texts, text_ends, pool, plant_b, answers, pairs, scratch, count, detail,
+    host_plants_many::cut_reasons_many(
+        texts, text_ends, pool, plant_b, answers, pairs, scratch, Sheet, count, detail,
     )
 }

@@ -4,6 +4,8 @@ ghost use Rattle.newmm_answers.specs.Calls.{call};
 ghost use Rattle.host_telling.specs.Told.{told_cut};
 ghost use Rattle.host_reasons.specs.Calls.{ReasonsTold};
 
+use newmm_rules::Mode::{Plain, Safe, Sheet};
+
 // Cuts a text plainly, with reasons: for each token a pair of cells at the front of pairs, its end
 // in characters and its reason; accepted with the number of pairs and that of the edges. Refusals 2
 // to 6; 6 counts pairs.
@@ -21,7 +23,7 @@ pub fn fetlockice_reasons_plain(
         (told_cut result count.new edges.new detail.new)
         pairs.new scratch.new }
 {
-    host_reasons::reasons_plain(text, pool, pairs, scratch, count, edges, detail)
+    host_reasons::cut_reasons(text, pool, pairs, scratch, Plain, count, edges, detail)
 }
 
 // The same in safe mode. A reason is about the part.
@@ -39,7 +41,7 @@ pub fn fetlockice_reasons_safe(
         (told_cut result count.new edges.new detail.new)
         pairs.new scratch.new }
 {
-    host_reasons::reasons_safe(text, pool, pairs, scratch, count, edges, detail)
+    host_reasons::cut_reasons(text, pool, pairs, scratch, Safe, count, edges, detail)
 }
 
 // The same by the profile "sheet".
@@ -57,5 +59,5 @@ pub fn fetlockice_reasons_sheet(
         (told_cut result count.new edges.new detail.new)
         pairs.new scratch.new }
 {
-    host_reasons::reasons_sheet(text, pool, pairs, scratch, count, edges, detail)
+    host_reasons::cut_reasons(text, pool, pairs, scratch, Sheet, count, edges, detail)
 }

@@ -5,7 +5,6 @@ ghost use Rattle.std.specs.Prelude.{◌≡◌};
 ghost use Rattle.newmm_claim.specs.Answers.{claim};
 ghost use Rattle.host_claims.specs.Calls.{told_claim, tells_claim, ClaimTold};
 
-use host_telling::wide;
 use newmm_claim::Verdict;
 use refusal::Refusal;
 
@@ -35,7 +34,7 @@ fn tell_claim(
             *right = 0;
             *token = 0;
             *detail = r.detail();
-            wide(r.number())
+            u32::from(r.number())
         }
     }
 }

@@ -2,76 +2,36 @@
 #![tactic(auto)]
 
 ghost use Rattle.std.specs.Prelude.{◌≡◌};
-ghost use Rattle.newmm_rules.specs.declared.Mode.TheVariants.{Plain, Safe, Sheet};
 ghost use Rattle.newmm_answers.specs.Calls.{call};
 ghost use Rattle.host_telling.specs.Told.{told, told_cut, tells};
 ghost use Rattle.host_figures.specs.Calls.{FeedTold, RefusedTold, JoinTold};
 
-use figures::{feed, join};
+use figures::join;
 use figures_cells::Figures;
 use host_telling::{tell, tell_cut};
 use newmm_rules::Mode;
 use refusal::Refusal;
 
-// Cuts a text plainly, with reasons, and adds what became of it to the figures: as the cut with
+// Cuts a text in a mode, with reasons, and adds what became of it to the figures: as the cut with
 // reasons, and refusal 13 before all others.
-pub fn feed_plain(
+pub fn feed(
     figures: &mut Figures,
     text: &[u32],
     pool: &[u32],
     pairs: &mut [u32],
     scratch: &mut [u32],
+    mode: Mode,
     count: &mut usize,
     edges: &mut usize,
     detail: &mut usize,
 ) -> u32
     ensures { FeedTold figures.old
-        (call text.now pool.now pairs.old scratch.old Plain)
+        (call text.now pool.now pairs.old scratch.old mode)
         (told_cut result count.new edges.new detail.new)
         figures.new pairs.new scratch.new }
 {
-    let plain = feed(figures, text, pool, pairs, scratch, Mode::Plain);
-    tell_cut(plain, count, edges, detail)
-}
-
-// The same in safe mode. A reason is about the part.
-pub fn feed_safe(
-    figures: &mut Figures,
-    text: &[u32],
-    pool: &[u32],
-    pairs: &mut [u32],
-    scratch: &mut [u32],
-    count: &mut usize,
-    edges: &mut usize,
-    detail: &mut usize,
-) -> u32
-    ensures { FeedTold figures.old
-        (call text.now pool.now pairs.old scratch.old Safe)
-        (told_cut result count.new edges.new detail.new)
-        figures.new pairs.new scratch.new }
-{
-    let safe = feed(figures, text, pool, pairs, scratch, Mode::Safe);
-    tell_cut(safe, count, edges, detail)
-}
-
-// The same by the profile "sheet".
-pub fn feed_sheet(
-    figures: &mut Figures,
-    text: &[u32],
-    pool: &[u32],
-    pairs: &mut [u32],
-    scratch: &mut [u32],
-    count: &mut usize,
-    edges: &mut usize,
-    detail: &mut usize,
-) -> u32
-    ensures { FeedTold figures.old
-        (call text.now pool.now pairs.old scratch.old Sheet)
-        (told_cut result count.new edges.new detail.new)
-        figures.new pairs.new scratch.new }
-{
-    let sheet = feed(figures, text, pool, pairs, scratch, Mode::Sheet);
-    tell_cut(sheet, count, edges, detail)
+    let fed = figures::feed(figures, text, pool, pairs, scratch, mode);
+    tell_cut(fed, count, edges, detail)
 }
 
 // Tells an answer that is refused or accepted with 0.

@@ -5,7 +5,7 @@ ghost use Rattle.std.specs.Prelude.{◌≡◌};
 ghost use Rattle.host_telling.specs.Told.{told};
 ghost use Rattle.host_maps.specs.Calls.{told_next, tells_next, MapTold, CountTold, NextTold};
 
-use host_telling::{tell, wide};
+use host_telling::tell;
 use refusal::Refusal;
 
 // Writes the map of the ends of a text of n characters; accepted with the cells that it takes.
@@ -64,7 +64,7 @@ fn tell_next(
             *found = 0;
             *place = 0;
             *detail = r.detail();
-            wide(r.number())
+            u32::from(r.number())
         }
     }
 }

@@ -7,7 +7,7 @@ ghost use Rattle.host_plants.specs.Calls.{plant_of, StartTold, PlantAddTold, Pla
 ghost use Rattle.host_plants.specs.Calls.{PlantContainsTold, PlantPrefixesTold, PlantWordCountTold};
 
 use host_telling::tell;
-use refusal::Refusal;
+use host_words::{class_of, held};
 use trie_plants::Plant;
 use trie_plants_change::{add_in, remove_in};
 use trie_plants_read::{amount_of_words_in, contain_in, prefix_lengths_in};
@@ -16,10 +16,7 @@ use trie_plants_read::{amount_of_words_in, contain_in, prefix_lengths_in};
 pub fn whose(b: bool) -> Plant
     ensures { result ≡ plant_of b }
 {
-    if b {
-        return Plant::B;
-    }
-    Plant::A
+    if b { Plant::B } else { Plant::A }
 }
 
 // Makes two dictionaries without words, each with a limit in nodes, whatever the cells held before.
@@ -81,21 +78,9 @@ pub fn contains(
         (told result count.new detail.new) class.new }
 {
     let plant = whose(b);
-    let answer = contain_in(pool, plant, word);
-    match answer {
-        Ok(None) => {
-            *class = 0;
-            tell(Ok(0), count, detail)
-        }
-        Ok(Some(told)) => {
-            *class = told as usize;
-            tell(Ok(1), count, detail)
-        }
-        Err(r) => {
-            *class = 0;
-            tell(Err(r), count, detail)
-        }
-    }
+    let classed = contain_in(pool, plant, word);
+    *class = class_of(classed);
+    tell(held(classed), count, detail)
 }
 
 // The lengths of the plant's words that a text starts with, rising, at the front of out; accepted

@@ -1,70 +1,31 @@
-// Cutting with reasons, as hosts are told it: a function for each mode.
+// Cutting with reasons, as hosts are told it.
 #![tactic(auto)]
 
-ghost use Rattle.newmm_rules.specs.declared.Mode.TheVariants.{Plain, Safe, Sheet};
 ghost use Rattle.newmm_answers.specs.Calls.{call};
 ghost use Rattle.host_telling.specs.Told.{told_cut};
 ghost use Rattle.host_reasons.specs.Calls.{ReasonsTold};
 
 use host_telling::tell_cut;
-use newmm_reasons::cut_reasons;
 use newmm_rules::Mode;
 
-// Cuts a text plainly, with reasons: for each token a pair of cells at the front of pairs, its end
-// in characters and its reason; accepted with the number of pairs and that of the edges. Refusals 2
-// to 6; 6 counts pairs.
-pub fn reasons_plain(
+// Cuts a text in a mode, with reasons: for each token a pair of cells at the front of pairs, its end
+// in characters and its reason; accepted with the number of pairs and that of the edges. Where a
+// text is cut in parts, a reason is about the part. Refusals 2 to 6; 6 counts pairs.
+pub fn cut_reasons(
     text: &[u32],
     pool: &[u32],
     pairs: &mut [u32],
     scratch: &mut [u32],
+    mode: Mode,
     count: &mut usize,
     edges: &mut usize,
     detail: &mut usize,
 ) -> u32
     ensures { ReasonsTold
-        (call text.now pool.now pairs.old scratch.old Plain)
+        (call text.now pool.now pairs.old scratch.old mode)
         (told_cut result count.new edges.new detail.new)
         pairs.new scratch.new }
 {
-    let plain = cut_reasons(text, pool, pairs, scratch, Mode::Plain);
-    tell_cut(plain, count, edges, detail)
-}
-
-// The same in safe mode. A reason is about the part.
-pub fn reasons_safe(
-    text: &[u32],
-    pool: &[u32],
-    pairs: &mut [u32],
-    scratch: &mut [u32],
-    count: &mut usize,
-    edges: &mut usize,
-    detail: &mut usize,
-) -> u32
-    ensures { ReasonsTold
-        (call text.now pool.now pairs.old scratch.old Safe)
-        (told_cut result count.new edges.new detail.new)
-        pairs.new scratch.new }
-{
-    let safe = cut_reasons(text, pool, pairs, scratch, Mode::Safe);
-    tell_cut(safe, count, edges, detail)
-}
-
-// The same by the profile "sheet".
-pub fn reasons_sheet(
-    text: &[u32],
-    pool: &[u32],
-    pairs: &mut [u32],
-    scratch: &mut [u32],
-    count: &mut usize,
-    edges: &mut usize,
-    detail: &mut usize,
-) -> u32
-    ensures { ReasonsTold
-        (call text.now pool.now pairs.old scratch.old Sheet)
-        (told_cut result count.new edges.new detail.new)
-        pairs.new scratch.new }
-{
-    let sheet = cut_reasons(text, pool, pairs, scratch, Mode::Sheet);
-    tell_cut(sheet, count, edges, detail)
+    let reasons = newmm_reasons::cut_reasons(text, pool, pairs, scratch, mode);
+    tell_cut(reasons, count, edges, detail)
 }

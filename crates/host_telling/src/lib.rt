@@ -8,12 +8,6 @@ ghost use Rattle.host_telling.specs.Told.{told, told_cut, tells, tells_cut};
 use newmm_rules::Ends;
 use refusal::Refusal;
 
-pub fn wide(x: u8) -> u32
-    ensures { result ≡ x }
-{
-    x as u32
-}
-
 // Tells an answer that is one number.
 pub fn tell(a: Result<usize, Refusal>, count: &mut usize, detail: &mut usize) -> u32
     ensures { told result count.new detail.new ≡ tells a }
@@ -27,19 +21,24 @@ pub fn tell(a: Result<usize, Refusal>, count: &mut usize, detail: &mut usize) ->
         Err(r) => {
             *count = 0;
             *detail = r.detail();
-            wide(r.number())
+            u32::from(r.number())
         }
     }
 }
 
 // Tells the answer of a cut.
-pub fn tell_cut(a: Result<Ends, Refusal>, count: &mut usize, edges: &mut usize, detail: &mut usize) -> u32
+pub fn tell_cut(
+    a: Result<Ends, Refusal>,
+    count: &mut usize,
+    edges: &mut usize,
+    detail: &mut usize,
+) -> u32
     ensures { told_cut result count.new edges.new detail.new ≡ tells_cut a }
 {
     match a {
-        Ok(Ends { ends: n, edges: e }) => {
-            *count = n;
-            *edges = e;
+        Ok(cut) => {
+            *count = cut.ends;
+            *edges = cut.edges;
             *detail = 0;
             0
         }
@@ -47,7 +46,7 @@ pub fn tell_cut(a: Result<Ends, Refusal>, count: &mut usize, edges: &mut usize, 
             *count = 0;
             *edges = 0;
             *detail = r.detail();
-            wide(r.number())
+            u32::from(r.number())
         }
     }
 }

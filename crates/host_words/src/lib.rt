@@ -3,8 +3,8 @@
 
 ghost use Rattle.std.specs.Prelude.{◌≡◌};
 ghost use Rattle.host_telling.specs.Told.{told};
-ghost use Rattle.host_words.specs.Calls.{FreshTold, AddTold, RemoveTold, held_answer, ContainsTold};
-ghost use Rattle.host_words.specs.Calls.{ContainsClassTold, PrefixesTold, WordCountTold};
+ghost use Rattle.host_words.specs.Calls.{FreshTold, AddTold, RemoveTold, held_answer, class_told};
+ghost use Rattle.host_words.specs.Calls.{ContainsTold, ContainsClassTold, PrefixesTold, WordCountTold};
 
 use host_telling::tell;
 use refusal::Refusal;
@@ -53,14 +53,20 @@ pub fn remove(pool: &mut [u32], word: &[u32], count: &mut usize, detail: &mut us
     tell(removed, count, detail)
 }
 
-// Whether a word is held, 1 or 0, without its class.
-fn held(a: Result<Option<u16>, Refusal>) -> Result<usize, Refusal>
+// Whether a word is held, without its class: 1 or 0.
+pub fn held(a: Result<Option<u16>, Refusal>) -> Result<usize, Refusal>
     ensures { result ≡ held_answer a }
 {
+    Ok(usize::from(a?.is_some()))
+}
+
+// The class that is told of a word: 0 with a no and with a refusal.
+pub fn class_of(a: Result<Option<u16>, Refusal>) -> usize
+    ensures { result ≡ class_told a }
+{
     match a {
-        Ok(None) => Ok(0),
-        Ok(Some(_)) => Ok(1),
-        Err(r) => Err(r),
+        Ok(Some(class)) => usize::from(class),
+        _ => 0,
     }
 }
 
@@ -69,8 +75,7 @@ pub fn contains(pool: &[u32], word: &[u32], count: &mut usize, detail: &mut usiz
     ensures { ContainsTold word.now pool.now
         (told result count.new detail.new) }
 {
-    let classed = contain(pool, word);
-    let unclassed = held(classed);
+    let unclassed = held(contain(pool, word));
     tell(unclassed, count, detail)
 }
 
@@ -85,21 +90,9 @@ pub fn contains_class(
     ensures { ContainsClassTold word.now pool.now
         (told result count.new detail.new) class.new }
 {
-    let answer = contain(pool, word);
-    match answer {
-        Ok(None) => {
-            *class = 0;
-            tell(Ok(0), count, detail)
-        }
-        Ok(Some(told)) => {
-            *class = told as usize;
-            tell(Ok(1), count, detail)
-        }
-        Err(r) => {
-            *class = 0;
-            tell(Err(r), count, detail)
-        }
-    }
+    let classed = contain(pool, word);
+    *class = class_of(classed);
+    tell(held(classed), count, detail)
 }
 
 // The lengths of the words that a text starts with, rising, at the front of out; accepted with

@@ -1,2 +1,0 @@
-pub mod Pools
-pub mod Classes
