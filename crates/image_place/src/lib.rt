@@ -4,52 +4,30 @@
 ghost use Rattle.std.specs.Prelude.{◌≡◌};
 ghost use Rattle.trie_pool.specs.Cells.{used};
 ghost use Rattle.trie_leaf.specs.inner.Planting.{Beside};
-ghost use Rattle.image_place.specs.inner.Placing.{Opens, Lent, Placed};
+ghost use Rattle.image_place.specs.inner.Placing.{Opens, Placed};
 
-use cells::narrow;
 use image_record::{Record, record_at};
-use image_word::{Taken, take_word};
+use image_word::WordReader;
 use trie_build::append;
 
 // Puts in the words, record by record: next[d] is the first free node of level d.
-pub fn place(
-    p: &mut [u32],
-    image: &[u8],
-    next: &mut [usize; 257],
-    prev: &mut [u32],
-    row: &mut [u32],
-    positions: &mut [u32],
-)
-    requires opens { Opens image.now p.old next.old }
-    requires lent { Lent prev.old row.old positions.old }
+pub fn place(p: &mut [u32], image: &[u8], next: &mut [usize; 257])
+    requires { Opens image.now p.old next.old }
     ensures placed { Placed image.now p.new }
     ensures beside { Beside p.old p.new }
     ensures used_unchanged { used p.new ≡ used p.old }
 {
-    let mut before = 0;
+    let mut reader = WordReader::new();
     let mut at = 0;
+    // Kept: (3) each record says how long it is, so no iterator is plainer.
     while at < image.len() {
-        match record_at(image, at) {
-            Record::Broken => {
-                return;
-            }
-            Record::Last(_) => {
-                return;
-            }
-            Record::Word { class, from, to } => {
-                let Taken::Word { size, shared } = take_word(
-                    &image[from..to],
-                    before,
-                    prev,
-                    row,
-                    positions,
-                ) else {
-                    return;
-                };
-                append(p, next, &prev[..size], shared, narrow(class + 1));
-                before = size;
-                at = to;
-            }
-        }
+        let Some(Record::Word { class, from, to }) = record_at(image, at) else {
+            return;
+        };
+        let Some(taken) = reader.take_next(&image[from..to]) else {
+            return;
+        };
+        append(p, next, &reader.last[..taken.size], taken.shared, (class + 1) as u32);
+        at = to;
     }
 }

@@ -1,21 +1,19 @@
 -- The loop over the records of an image. Assumes nothing.
-use mathlib.Core.Path.{◌≡◌, refl, sym, ap, subst, ◌∙◌}
-use mathlib.Core.Bool.{Bool, true, false, cond, ◌&&◌}
+use mathlib.Core.Path.{◌≡◌, refl, sym, ap, ◌∙◌}
+use mathlib.Core.Bool.{Bool, true, false, ◌&&◌}
 use mathlib.Core.List.{List, [], ◌∷◌}
 use Prim.Native.Nat.{ℕ, zero, suc, ◌+◌, ◌-◌, ◌≤◌, ◌<◌}
 use native.Mathlib.Omega.{arith}
 use borrow.Author.Tests.{eq-eqb, ne_eqb}
-use lib.Dec.{eqb}
 use lib.ListN.{length, get_or, take, drop, length-append, length-drop, length-take, drop_of_length-le}
-use lib.Seq.{length-take-le}
 use Rattle.utf8_sequences.specs.Utf8.{Utf8, empty, next}
 use Rattle.utf8.specs.Decoding.{run_all, scalars_of}
 use Rattle.theorems_unicode.proofs.Standard.{accepted, sequence_size}
 use Rattle.image_rules.specs.Records.{Term}
 use Rattle.image_rules.specs.Order.{common}
 use Rattle.image_rules.specs.Lists.{charge_from, charge}
-use Rattle.image_rules.proofs.Order.{Parts, parts}
-use Rattle.image_rules.specs.Reading.{size_at, whole, behind, word_bytes, term_of, follows, is_word, is_last, Read, broken, list, onto, ended, read, read_of}
+use Rattle.image_rules.proofs.Order.{parts}
+use Rattle.image_rules.specs.Reading.{word_bytes, term_of, follows, is_word, is_last, broken, list, onto, read, read_of}
 use Rattle.image_rules.specs.inner.News.{new, news_from}
 use Rattle.image_record.specs.inner.Records.{Entry, End, Neither}
 use Rattle.image_word.specs.inner.Words.{is_next, Follows}

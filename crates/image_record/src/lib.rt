@@ -5,7 +5,7 @@ ghost use Rattle.std.specs.Prelude.{◌≡◌, ◌+◌, ◌≤◌, length, take,
 ghost use Rattle.image_rules.specs.Records.{value};
 ghost use Rattle.image_record.specs.inner.Records.{Says};
 
-// Kind 1, its class and where its word's bytes stand; kind 0 and its number; or neither.
+// Kind 1, its class and where its word's bytes stand; or kind 0 and its number.
 #[derive(Clone, Copy)]
 pub enum Record {
     Word {
@@ -14,7 +14,6 @@ pub enum Record {
         to: usize,
     },
     Last(usize),
-    Broken,
 }
 
 // The number of two bytes.
@@ -35,34 +34,34 @@ fn four(s: &[u8], at: usize) -> usize
     two(s, at) + 65536 * two(s, at + 2)
 }
 
-// The record that starts at a place.
-pub fn record_at(image: &[u8], at: usize) -> Record
+// The record that starts at a place; nothing where the bytes there are none.
+pub fn record_at(image: &[u8], at: usize) -> Option<Record>
     requires { at ≤ length image.now }
     ensures { Says image.now at result }
 {
     let left = image.len() - at;
     if left < 4 {
-        return Record::Broken;
+        return None;
     }
     let size = four(image, at);
     if size < 2 || left - 4 < size {
-        return Record::Broken;
+        return None;
     }
     match two(image, at + 4) {
         0 => if size == 6 {
-            Record::Last(four(image, at + 6))
+            Some(Record::Last(four(image, at + 6)))
         } else {
-            Record::Broken
+            None
         },
         1 => if 5 <= size {
-            Record::Word {
+            Some(Record::Word {
                 class: two(image, at + 6),
                 from: at + 8,
                 to: at + 4 + size,
-            }
+            })
         } else {
-            Record::Broken
+            None
         },
-        _ => Record::Broken,
+        _ => None,
     }
 }

@@ -1,5 +1,5 @@
 -- The nodes of all levels are those that the words are charged with. Assumes nothing.
-use mathlib.Core.Path.{◌≡◌, refl, sym, ap, ◌∙◌}
+use mathlib.Core.Path.{◌≡◌, refl, ap, ◌∙◌}
 use mathlib.Core.List.{List, [], ◌∷◌}
 use Prim.Native.Nat.{ℕ, zero, suc, ◌+◌, ◌-◌, ◌≤◌, ◌<◌}
 use native.Mathlib.Omega.{arith}
@@ -9,7 +9,7 @@ use Rattle.image_rules.specs.Records.{Term}
 use Rattle.image_rules.specs.Order.{common}
 use Rattle.image_rules.specs.Lists.{charge_from}
 use Rattle.image_rules.specs.inner.News.{new, news_from}
-use Rattle.image_rules.proofs.Order.{Parts, parts}
+use Rattle.image_rules.proofs.Order.{parts}
 use Rattle.image_read.proofs.Raising.{new_low, new_high, new_in}
 use Rattle.image_starts.specs.inner.Starts.{start_of}
 use Rattle.image_starts.proofs.Beginning.{start_next, start_one, start_zero}

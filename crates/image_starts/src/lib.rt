@@ -9,12 +9,10 @@ pub fn starts(levels: &mut [usize; 257])
     ensures { Begins levels.old levels.new }
 {
     let mut first = 1;
-    let mut d = 1;
-    while d < 256 {
+    for d in 1..256 {
         let count = levels[d];
         levels[d] = first;
         first += count;
-        d += 1;
     }
     levels[0] = 1;
     levels[256] = first;

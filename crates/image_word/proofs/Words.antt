@@ -1,21 +1,21 @@
 -- What the tests on the bytes of a word tell. Assumes nothing.
-use Rattle.std.specs.Prelude.{Result, Ok, Err}
+use Rattle.std.specs.Prelude.{Result, Ok, Err, Option, None, Some}
+use Rattle.std.specs.Result.{result_ok}
 use mathlib.Core.Path.{◌≡◌, refl, sym, ap, subst, ◌∙◌}
-use mathlib.Core.Bool.{Bool, true, false, not, cond, ◌&&◌}
-use mathlib.Core.List.{List, [], ◌∷◌, ◌++◌}
-use Prim.Native.Nat.{ℕ, zero, suc, ◌+◌, ◌-◌, ◌≤◌, ◌<◌}
+use mathlib.Core.Bool.{Bool, true, false, not, ◌&&◌}
+use mathlib.Core.List.{List, ◌++◌}
+use Prim.Native.Nat.{ℕ, ◌+◌, ◌-◌, ◌≤◌, ◌<◌}
 use native.Mathlib.Omega.{arith}
 use native.Mathlib.Decide.{dec_lt}
-use borrow.Author.Tests.{le-leb, lt-leb, le-ltb, ltb-false, not-true, not-false}
-use lib.Dec.{leb, ltb}
-use lib.ListN.{length, get_or, take, drop, length-append, get_or-append}
+use borrow.Author.Tests.{le-leb, lt-leb, le-ltb, ltb-false, not-false}
+use lib.Dec.{leb}
+use lib.ListN.{length, get_or, take, drop, get_or-append}
 use lib.Seq.{take_at}
 use Rattle.refusal.specs.declared.Refusal.{Refusal}
-use Rattle.refusal.specs.Answers.{answer, output}
+use Rattle.refusal.specs.Answers.{output}
 use Rattle.refusal.proofs.Causes.{none_of, again}
 use Rattle.refusal.proofs.Firsts.{accepted_if_none}
-use Rattle.refusal.proofs.Order.{not_both}
-use Rattle.utf8.specs.Decoding.{run_all, scalars_of, Room, room_in, decode_causes, decoded}
+use Rattle.utf8.specs.Decoding.{run_all, scalars_of, room_in, decode_causes, decoded}
 use Rattle.char_string_white_space.specs.Trimmed.{is_trimmed}
 use Rattle.char_string_trim.specs.Trimming.{trimmed_of}
 use Rattle.trie_pool.specs.Meaning.{same}
@@ -24,7 +24,7 @@ use Rattle.trie_pool.proofs.Sets.{same_true, same_self}
 use Rattle.image_rules.specs.Order.{below, common}
 use Rattle.image_rules.specs.Reading.{follows}
 use Rattle.trie_pool.proofs.Rules.{clash}
-use Rattle.image_word.specs.inner.Words.{is_next, Rows, Trimmed, Decodes, Follows}
+use Rattle.image_word.specs.inner.Words.{is_next, Trimmed, Follows}
 
 no_1 : (a b c d : Bool) → a ≡ false → ((a && b) && c) && d ≡ false
 no_1 a b c d e = ap (λ (x : Bool). ((x && b) && c) && d) e
@@ -75,20 +75,31 @@ module _ (before w : List ℕ) where
 
 -- ---- decoding
 
-module _ (bytes row positions : List ℕ) (h : Rows row positions) where
+none_some : {n : ℕ} → ◌≡◌ {A = Option ℕ} None (Some n) → ⊥
+none_some e = cc
+
+-- what `ok` keeps
+kept : (a : Result ℕ Refusal) (n : ℕ) → Some n ≡ result_ok a → a ≡ Ok n
+kept (Ok m) n e = cc
+kept (Err r) n e = absurd (none_some (sym e))
+
+module _ (bytes row positions : List ℕ) (long : length row ≡ 255) (places : length positions ≡ 256) where
   -- bytes that aren't taken to the row aren't a word
-  pub refused_no : (row' : List ℕ) {a : Result ℕ Refusal} {r : Refusal} → a ≡ decoded bytes (room_in row positions) → a ≡ Err r → Decodes bytes row' 0
-  refused_no row' {a} {r} is e = record { none = λ z before. go before (run_all bytes).whole refl (dec_lt 255 (length (scalars_of bytes))); word = λ l. absurd (omega arith) }
+  pub refused_no : {a : Result ℕ Refusal} → a ≡ decoded bytes (room_in row positions) → None ≡ result_ok a → (before : List ℕ) → is_next bytes before ≡ false
+  refused_no {a} is e before = go before (run_all bytes).whole refl (dec_lt 255 (length (scalars_of bytes)))
     where
       go : (before : List ℕ) (b : Bool) → (run_all bytes).whole ≡ b → Dec (255 < length (scalars_of bytes)) → is_next bytes before ≡ false
       go before false g l = ap (λ (b : Bool). b && follows before (scalars_of bytes)) g
       go before true g (yes l) = no_right (run_all bytes).whole (follows before (scalars_of bytes)) (long_no before (scalars_of bytes) l)
       go before true g (no l) =
           let n = length (scalars_of bytes) in
-          let q = accepted_if_none (decode_causes bytes (room_in row positions)) n (ap not g, (le-ltb 65535 n (omega arith), (le-ltb (length row) n (omega (arith, h.scalars)), (le-ltb (length positions) (n + 1) (omega (arith, h.places)), tt)))) in
-          not_both (sym q ∙ sym is ∙ e)
+          let q = accepted_if_none (decode_causes bytes (room_in row positions)) n (ap not g, (le-ltb 65535 n (omega arith), (le-ltb (length row) n (omega (arith, long)), (le-ltb (length positions) (n + 1) (omega (arith, places)), tt)))) in
+          absurd (none_some (e ∙ ap result_ok (is ∙ q)))
 
-  module _ {a : Result ℕ Refusal} {n : ℕ} {row' : List ℕ} (is : a ≡ decoded bytes (room_in row positions)) (e : a ≡ Ok n) (f : row' ≡ output a (scalars_of bytes) row) where
+  module _ {a : Result ℕ Refusal} {n : ℕ} {row' : List ℕ} (is : a ≡ decoded bytes (room_in row positions)) (some_n : Some n ≡ result_ok a) (f : row' ≡ output a (scalars_of bytes) row) where
+    e : a ≡ Ok n
+    e = kept a n some_n
+
     passed : decoded bytes (room_in row positions) ≡ Ok n
     passed = sym is ∙ e
 
@@ -100,7 +111,7 @@ module _ (bytes row positions : List ℕ) (h : Rows row positions) where
     good : (not (run_all bytes).whole ≡ false) × (length (scalars_of bytes) ≤ 255)
     good =
         let g = none_of (decode_causes bytes (room_in row positions)) (length (scalars_of bytes)) n passed in
-        (g.0, omega (arith, h.scalars, ltb-false (length row) (length (scalars_of bytes)) g.1.1.0))
+        (g.0, omega (arith, long, ltb-false (length row) (length (scalars_of bytes)) g.1.1.0))
 
     pub few : n ≤ 255
     few = omega (arith, count, good.1)
@@ -114,52 +125,46 @@ module _ (bytes row positions : List ℕ) (h : Rows row positions) where
     cell : (i : ℕ) → i < n → get_or row' i 0 ≡ get_or (scalars_of bytes) i 0
     cell i l = ap (λ (z : List ℕ). get_or z i 0) front ∙ get_or-append (scalars_of bytes) (drop (length (scalars_of bytes)) row) 0 i (omega (arith, count))
 
-    nothing : ((before : List ℕ) → follows before (scalars_of bytes) ≡ false) → Decodes bytes row' 0
-    nothing g = record { none = λ z before. no_right (run_all bytes).whole (follows before (scalars_of bytes)) (g before); word = λ l. absurd (omega arith) }
+    nothing : ((before : List ℕ) → follows before (scalars_of bytes) ≡ false) → (before : List ℕ) → is_next bytes before ≡ false
+    nothing g before = no_right (run_all bytes).whole (follows before (scalars_of bytes)) (g before)
 
-    pub empty_nothing : n ≡ 0 → Decodes bytes row' 0
+    pub empty_nothing : n ≡ 0 → (before : List ℕ) → is_next bytes before ≡ false
     empty_nothing z = nothing (λ before. empty_no before (scalars_of bytes) (sym count ∙ z))
 
     module _ (some : n ≡ 0 → ⊥) where
-      pub start_nothing : is_trimmed (get_or row' 0 0) ≡ true → Decodes bytes row' 0
+      pub start_nothing : is_trimmed (get_or row' 0 0) ≡ true → (before : List ℕ) → is_next bytes before ≡ false
       start_nothing g = nothing (λ before. edge_no before (scalars_of bytes) (omega (arith, count)) (λ d. clash (sym d.start ∙ ap is_trimmed (sym (cell 0 (omega arith))) ∙ g)))
 
       last_cell : get_or row' (n - 1) 0 ≡ get_or (scalars_of bytes) (length (scalars_of bytes) - 1) 0
       last_cell = cell (n - 1) (omega arith) ∙ ap (λ (k : ℕ). get_or (scalars_of bytes) (k - 1) 0) count
 
-      pub stop_nothing : is_trimmed (get_or row' (n - 1) 0) ≡ true → Decodes bytes row' 0
+      pub stop_nothing : is_trimmed (get_or row' (n - 1) 0) ≡ true → (before : List ℕ) → is_next bytes before ≡ false
       stop_nothing g = nothing (λ before. edge_no before (scalars_of bytes) (omega (arith, count)) (λ d. clash (sym d.stop ∙ ap is_trimmed (sym last_cell) ∙ g)))
 
-      pub word_decodes : is_trimmed (get_or row' 0 0) ≡ false → is_trimmed (get_or row' (n - 1) 0) ≡ false → Decodes bytes row' n
+      pub word_decodes : is_trimmed (get_or row' 0 0) ≡ false → is_trimmed (get_or row' (n - 1) 0) ≡ false → Trimmed bytes row' n
       word_decodes a z = record {
-        none = λ q. absurd (some q);
-        word = λ l. record {
-          some = l;
-          short = few;
-          good = not-false (run_all bytes).whole good.0;
-          word = spelt;
-          number = count;
-          start = ap is_trimmed (sym (cell 0 (omega arith))) ∙ a;
-          stop = ap is_trimmed (sym last_cell) ∙ z;
-        };
+        some = omega (arith, some);
+        short = few;
+        good = not-false (run_all bytes).whole good.0;
+        word = spelt;
+        number = count;
+        start = ap is_trimmed (sym (cell 0 (omega arith))) ∙ a;
+        stop = ap is_trimmed (sym last_cell) ∙ z;
       }
 
 -- ---- behind the word before it
-
-pub is_word : {bytes row : List ℕ} {n : ℕ} → Decodes bytes row n → (n ≡ 0 → ⊥) → Trimmed bytes row n
-is_word d some = d.word (omega arith)
 
 module _ (before : List ℕ) {bytes row : List ℕ} {n : ℕ} (t : Trimmed bytes row n) where
   pub below_nothing : below before (take n row) ≡ false → is_next bytes before ≡ false
   below_nothing h = no_right (run_all bytes).whole (follows before (scalars_of bytes)) (below_no before (scalars_of bytes) (ap (below before) (sym t.word) ∙ h))
 
-  pub word_follows : (prev : List ℕ) {prev' : List ℕ} {l : ℕ} → l ≡ common before (take n row) → below before (take n row) ≡ true → prev' ≡ take n row ++ drop n prev → Follows bytes before prev' n l
-  word_follows prev {prev'} {l} s b e = record {
+  pub word_follows : (prev : List ℕ) {prev' : List ℕ} {l : ℕ} → below before (take n row) ≡ true → l ≡ common before (take n row) → prev' ≡ take n row ++ drop (length (take n row)) prev → Follows bytes before prev' n l
+  word_follows prev {prev'} {l} b s e = record {
     is =
         ap (λ (x : Bool). x && follows before (scalars_of bytes)) t.good
         ∙ all_yes before (scalars_of bytes) (omega (arith, t.some, t.number)) (omega (arith, t.short, t.number)) (record { start = t.start; stop = t.stop }) (ap (below before) (sym t.word) ∙ b);
     number = t.number;
     together = s ∙ ap (common before) t.word;
-    word = ap (take n) e ∙ take_at (take n row) (drop n prev) n (ap length t.word ∙ sym t.number) ∙ t.word;
+    word = ap (take n) e ∙ take_at (take n row) (drop (length (take n row)) prev) n (ap length t.word ∙ sym t.number) ∙ t.word;
     short = t.short;
   }

@@ -3,36 +3,33 @@
 
 ghost use Rattle.std.specs.Prelude.{◌≡◌, ◌≤◌, length, take};
 ghost use Rattle.image_rules.specs.Order.{below, common};
-ghost use Rattle.image_word.specs.inner.Words.{Rows, Decodes, Takes};
+ghost use Rattle.image_word.specs.inner.Words.{Decodes, Rises, Takes};
 
-use cells::copy;
 use char_string_white_space::is_trimmed;
-use refusal::Refusal;
 use utf8::decode;
 
-// A word that may stand where it does, its length and how many characters it shares with the word
-// before it; or no such word.
+// A word that may stand where it does: how many characters it has, and how many of them it shares
+// with the word before it.
 #[derive(Clone, Copy)]
-pub enum Taken {
-    Word { size: usize, shared: usize },
-    Nothing,
+pub struct Taken {
+    pub size: usize,
+    pub shared: usize,
+}
+
+// The last word that was taken, at the front of `last`, and rows for the next one.
+#[derive(Drop)]
+pub struct WordReader {
+    pub last: [u32; 255],
+    pub size: u8,
+    row: [u32; 255],
+    positions: [u32; 256],
 }
 
 // How many characters two words share from their start.
 fn shared(v: &[u32], w: &[u32]) -> usize
     ensures { result ≡ common v.now w.now }
 {
-    let mut l = 0;
-    while l < v.len() {
-        if w.len() <= l {
-            return l;
-        }
-        if v[l] != w[l] {
-            return l;
-        }
-        l += 1;
-    }
-    l
+    v.iter().zip(w.iter()).take_while(|(x, y)| x == y).count()
 }
 
 // Whether v stands before w; they share l characters.
@@ -43,54 +40,57 @@ fn rises(v: &[u32], w: &[u32], l: usize) -> bool
     if w.len() <= l {
         return false;
     }
-    if v.len() <= l {
-        return true;
-    }
-    v[l] < w[l]
+    v.len() <= l || v[l] < w[l]
 }
 
 // Writes the characters of a trimmed word of 1 to 255 to the front of `row`, and answers how many
-// there are; 0 where the bytes are no such word.
-fn word_in(bytes: &[u8], row: &mut [u32], positions: &mut [u32]) -> usize
-    requires { Rows row.old positions.old }
+// there are; nothing where the bytes are no such word.
+fn word_in(bytes: &[u8], row: &mut [u32; 255], positions: &mut [u32; 256]) -> Option<usize>
     ensures { Decodes bytes.now row.new result }
 {
-    let Ok(n) = decode(bytes, row, positions) else {
-        return 0;
-    };
-    if n == 0 {
-        return 0;
+    let n = decode(bytes, row, positions).ok()?;
+    if n == 0 || is_trimmed(row[0]) || is_trimmed(row[n - 1]) {
+        return None;
     }
-    if is_trimmed(row[0]) {
-        return 0;
-    }
-    if is_trimmed(row[n - 1]) {
-        return 0;
-    }
-    n
+    Some(n)
 }
 
-// Takes the word of these bytes, if it may stand behind the first `before` cells of `prev`, to the
-// front of `prev`.
-pub fn take_word(
-    bytes: &[u8],
-    before: usize,
-    prev: &mut [u32],
-    row: &mut [u32],
-    positions: &mut [u32],
-) -> Taken
-    requires before_bound { (before ≤ 255) × (length prev.old ≡ 255) }
-    requires rows { Rows row.old positions.old }
-    ensures { Takes bytes.now (take before prev.old) prev.new result }
+// Puts the first n cells of `row` to the front of `last`, if that word stands behind the one of
+// `size` characters there. Answers how many characters the two share.
+fn put_behind(last: &mut [u32; 255], size: usize, row: &[u32; 255], n: usize) -> Option<usize>
+    requires { (size ≤ 255) × (n ≤ 255) }
+    ensures { Rises (take size last.old) (take n row.now) last.old last.new result }
 {
-    let n = word_in(bytes, row, positions);
-    if n == 0 {
-        return Taken::Nothing;
+    let word = &row[..n];
+    let l = shared(&last[..size], word);
+    if !rises(&last[..size], word, l) {
+        return None;
     }
-    let l = shared(&prev[..before], &row[..n]);
-    if !rises(&prev[..before], &row[..n], l) {
-        return Taken::Nothing;
+    last[..n].copy_from_slice(word);
+    Some(l)
+}
+
+impl WordReader {
+    // No word was taken yet.
+    pub fn new() -> WordReader
+        ensures { result.size ≡ 0 }
+    {
+        WordReader {
+            last: [0; 255],
+            size: 0,
+            row: [0; 255],
+            positions: [0; 256],
+        }
     }
-    copy(row, prev, n);
-    Taken::Word { size: n, shared: l }
+
+    // Takes the word of these bytes, if it may stand behind the last one.
+    pub fn take_next(&mut self, bytes: &[u8]) -> Option<Taken>
+        ensures { Takes bytes.now (take self.old.size self.old.last) self.new result }
+    {
+        let n = word_in(bytes, &mut self.row, &mut self.positions)?;
+        let size = usize::from(self.size);
+        let shared = put_behind(&mut self.last, size, &self.row, n)?;
+        self.size = n as u8;
+        Some(Taken { size: n, shared })
+    }
 }

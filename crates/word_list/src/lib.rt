@@ -6,7 +6,7 @@ ghost use Rattle.trie_char_answers.specs.Changes.{After};
 ghost use Rattle.word_list_answers.specs.Answers.{read_answer, image_terms};
 
 use image_build::build;
-use image_read::{Surveyed, survey};
+use image_read::survey;
 use refusal::Refusal;
 use trie_check::{capacity, is_dictionary};
 use trie_pool::NODE;
@@ -20,30 +20,12 @@ pub fn read_image(pool: &mut [u32], image: &[u8]) -> Result<usize, Refusal>
     if !is_dictionary(pool) {
         return Err(Refusal::NotADictionary);
     }
-    let mut levels = [0usize; 257];
-    let mut prev = [0u32; 255];
-    let mut row = [0u32; 255];
-    let mut positions = [0u32; 256];
-    match survey(image, &mut levels, &mut prev, &mut row, &mut positions) {
-        Surveyed::Broken(at) => Err(Refusal::BadImage(at)),
-        Surveyed::Right { words, nodes } => {
-            let room = capacity(pool.len());
-            let n = 1 + nodes;
-            if room < n {
-                let missing = n - room;
-                return Err(Refusal::TooFewNodes(missing));
-            }
-            let cells = NODE * room;
-            build(
-                &mut pool[..cells],
-                image,
-                n,
-                &mut levels,
-                &mut prev,
-                &mut row,
-                &mut positions,
-            );
-            Ok(words)
-        }
+    let found = survey(image).map_err(Refusal::BadImage)?;
+    let room = capacity(pool.len());
+    let n = 1 + found.nodes;
+    if room < n {
+        return Err(Refusal::TooFewNodes(n - room));
     }
+    build(&mut pool[..NODE * room], image, &found);
+    Ok(found.words)
 }

@@ -6,9 +6,8 @@ ghost use Rattle.trie_plants_answers.specs.Changes.{PlantAfter};
 ghost use Rattle.word_list_answers.specs.Answers.{image_terms};
 ghost use Rattle.word_list_plants.specs.Answers.{plant_read_answer};
 
-use cells::wide;
 use image_build::build;
-use image_read::{Surveyed, survey};
+use image_read::survey;
 use refusal::Refusal;
 use trie_check::capacity;
 use trie_plants::{Plant, half_at};
@@ -24,32 +23,15 @@ pub fn read_image_in(pool: &mut [u32], plant: Plant, image: &[u8]) -> Result<usi
     if !is_plants(pool) {
         return Err(Refusal::NotADictionary);
     }
-    let mut levels = [0usize; 257];
-    let mut prev = [0u32; 255];
-    let mut row = [0u32; 255];
-    let mut positions = [0u32; 256];
-    match survey(image, &mut levels, &mut prev, &mut row, &mut positions) {
-        Surveyed::Broken(at) => Err(Refusal::BadImage(at)),
-        Surveyed::Right { words, nodes } => {
-            let a = half_at(plant);
-            // The limit and one, for the root.
-            let room = wide(pool[a + MARK]);
-            let n = 1 + nodes;
-            if room < n {
-                let missing = n - room;
-                return Err(Refusal::TooFewNodes(missing));
-            }
-            let cells = NODE * capacity(pool.len());
-            build(
-                &mut pool[a..cells],
-                image,
-                n,
-                &mut levels,
-                &mut prev,
-                &mut row,
-                &mut positions,
-            );
-            Ok(words)
-        }
+    let found = survey(image).map_err(Refusal::BadImage)?;
+    let a = half_at(plant);
+    // The limit and one, for the root.
+    let room = pool[a + MARK] as usize;
+    let n = 1 + found.nodes;
+    if room < n {
+        return Err(Refusal::TooFewNodes(n - room));
     }
+    let cells = NODE * capacity(pool.len());
+    build(&mut pool[a..cells], image, &found);
+    Ok(found.words)
 }

@@ -6,7 +6,6 @@ use Rattle.image_rules.specs.Records.{Term}
 use Rattle.image_rules.specs.Lists.{charge, terms_in}
 use Rattle.image_rules.specs.Reading.{list, read_of}
 use Rattle.image_rules.specs.inner.News.{news_from}
-use Rattle.image_word.specs.inner.Words.{Rows}
 use Rattle.trie_build_rules.specs.inner.Growing.{Bare, Starts}
 
 -- The root alone, each level empty where it is to start, and room on it for its nodes.
@@ -18,11 +17,6 @@ pub record Opens (image p next : List ℕ) : Type 0 where
   pub starts : Starts s (λ d. get_or next d 0)
   pub many : length next ≡ 257
   pub room : (d : ℕ) → d < 256 → get_or next d 0 + news_from d [] terms ≡ s (suc d)
-
--- rows to work in
-pub record Lent (prev row positions : List ℕ) : Type 0 where
-  pub words : length prev ≡ 255
-  pub rows : Rows row positions
 
 -- a dictionary of these words
 pub record Holds (p : List ℕ) (n : ℕ) (terms : List Term) : Type 0 where

@@ -1,9 +1,5 @@
-use Prim.Native.Nat.{◌-◌, ◌≤◌}
 use Rattle.image_read.proofs.Raising.{Raising}
 use Rattle.image_read.proofs.raise.Given as goal
 
 abbrev pub invariant-loop-d : goal.invariant-loop-d
-invariant-loop-d l = Raising l.initial.levels l.levels l.l l.d × (l.d ≤ l.n)
-
-abbrev pub decreases-loop-d : goal.decreases-loop-d
-decreases-loop-d l = l.n - l.d
+invariant-loop-d l = Raising l.initial.levels l.levels l.l l.d

@@ -1,19 +1,10 @@
 -- What a survey of an image asks and tells.
-use Rattle.std.specs.Prelude.{ℕ, ◌+◌, ◌≤◌, ◌<◌, ◌≡◌, List, [], length, get_or}
+use Rattle.std.specs.Prelude.{ℕ, ◌+◌, ◌≤◌, ◌≡◌, List, [], length, get_or, Result, Ok, Err}
 use Rattle.image_rules.specs.Records.{Term}
 use Rattle.image_rules.specs.Lists.{charge}
 use Rattle.image_rules.specs.Reading.{broken, list, read_of}
 use Rattle.image_rules.specs.inner.News.{new, news_from}
-use Rattle.image_word.specs.inner.Words.{Rows}
 use Rattle.image_read.specs.declared.Surveyed.{Surveyed}
-use Rattle.image_read.specs.declared.Surveyed.TheVariants.{Right, Broken}
-
--- rows to work in, and a count of 0 for each level
-pub record Ready (levels prev row positions : List ℕ) : Type 0 where
-  pub many : length levels ≡ 257
-  pub zero' : (d : ℕ) → get_or levels d 0 ≡ 0
-  pub words : length prev ≡ 255
-  pub rows : Rows row positions
 
 -- one node more on each level from l, exclusive, to n
 pub record Raises (levels levels' : List ℕ) (l n : ℕ) : Type 0 where
@@ -30,6 +21,6 @@ pub record Listed (image levels : List ℕ) (words nodes : ℕ) : Type 0 where
   pub news : (d : ℕ) → get_or levels d 0 ≡ news_from d [] terms
   pub many : length levels ≡ 257
 
-abbrev pub Surveys : List ℕ → List ℕ → Surveyed → Type 0
-Surveys image levels (Right words nodes) = Listed image levels words nodes
-Surveys image levels (Broken at) = read_of image ≡ broken at
+abbrev pub Surveys : List ℕ → Result Surveyed ℕ → Type 0
+Surveys image (Ok s) = Listed image s.levels s.words s.nodes
+Surveys image (Err at) = read_of image ≡ broken at

@@ -1,10 +1,10 @@
 -- What is told of the record at a place of an image.
-use Rattle.std.specs.Prelude.{ℕ, ◌+◌, ◌-◌, ◌≤◌, ◌<◌, ◌≡◌, false, ◌&&◌, List, eqb, length, take, drop}
+use Rattle.std.specs.Prelude.{ℕ, ◌+◌, ◌-◌, ◌≤◌, ◌<◌, ◌≡◌, false, ◌&&◌, List, eqb, length, take, drop, Option, None, Some}
 use Rattle.utf8.specs.Decoding.{run_all}
 use Rattle.trie_pool.specs.Cells.{max_class}
 use Rattle.image_rules.specs.Reading.{size_at, behind, word_bytes, term_of, follows, is_word, is_last}
 use Rattle.image_record.specs.declared.Record.{Record}
-use Rattle.image_record.specs.declared.Record.TheVariants.{Word, Last, Broken}
+use Rattle.image_record.specs.declared.Record.TheVariants.{Word, Last}
 
 -- kind 1: its class, and the bytes of its word
 pub record Entry (s : List ℕ) (at c from to : ℕ) : Type 0 where
@@ -31,7 +31,7 @@ pub record Neither (bytes : List ℕ) : Type 0 where
   pub no_word : (before : List ℕ) → is_word before bytes ≡ false
   pub no_last : (m : ℕ) → is_last m bytes ≡ false
 
-abbrev pub Says : List ℕ → ℕ → Record → Type 0
-Says s at (Word c from to) = Entry s at c from to
-Says s at (Last n) = End s at n
-Says s at Broken = Neither (drop at s)
+abbrev pub Says : List ℕ → ℕ → Option Record → Type 0
+Says s at (Some (Word c from to)) = Entry s at c from to
+Says s at (Some (Last n)) = End s at n
+Says s at None = Neither (drop at s)

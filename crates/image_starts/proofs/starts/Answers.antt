@@ -1,5 +1,4 @@
 use native.Mathlib.Omega.{arith}
-use Prim.Native.Nat.{◌-◌}
 use Rattle.image_starts.proofs.Beginning.{beginning_none, beginning_next, beginning_done, beginning_small}
 use Rattle.image_starts.proofs.starts.Goals as goal
 
@@ -8,9 +7,6 @@ loop-d-init c = beginning_none c.args.levels.now c.requires.many
 
 pub overflow_add-first : goal.overflow_add-first
 overflow_add-first c = record { fits = omega (arith, beginning_small c.requires c.loop-d.invariant c.loop-d-test.true) }
-
-pub loop-d-smaller : goal.loop-d-smaller
-loop-d-smaller c = omega (arith, c.loop-d-test.true)
 
 pub loop-d-preserved : goal.loop-d-preserved
 loop-d-preserved c = beginning_next c.loop-d.invariant c.loop-d-test.true

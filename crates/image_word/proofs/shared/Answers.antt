@@ -1,22 +1,17 @@
-use Prim.Native.Nat.{◌-◌}
-use native.Mathlib.Omega.{arith}
-use Rattle.image_word.proofs.Sharing.{sharing_none, sharing_next, sharing_right, sharing_left, sharing_apart}
+use Rattle.std.proofs.Common.{rules, tests, ℕ, ◌∙◌}
+use lib.Dec.{eqb}
+use Rattle.std.specs.List.{zip}
+use Rattle.std.proofs.lemmas.Iterator.{YieldsList-from_slice, YieldsList-from_zip}
+use Rattle.std.proofs.lemmas.Iterator.Search.{YieldsList-from_take_while}
+use Rattle.std.proofs.lemmas.Iterator.Consumers.{YieldsList-at, count_from_yields_List}
+use Rattle.std.proofs.lemmas.List.Folds.{length-prefix_len}
+use Rattle.image_word.proofs.Sharing.{alike}
 use Rattle.image_word.proofs.shared.Goals as goal
 
-pub loop-l-init : goal.loop-l-init
-loop-l-init c = sharing_none c.args.v.now c.args.w.now
-
-pub returns-then-w-l : goal.returns-then-w-l
-returns-then-w-l c = sharing_right c.loop-l.invariant c.if-w-l.true
-
-pub returns-then-v-l : goal.returns-then-v-l
-returns-then-v-l c = sharing_apart c.loop-l.invariant c.loop-l-test.true c.if-w-l.false c.if-v-l.true
-
-pub loop-l-smaller : goal.loop-l-smaller
-loop-l-smaller c = omega (arith, c.loop-l-test.true)
-
-pub loop-l-preserved : goal.loop-l-preserved
-loop-l-preserved c = sharing_next c.loop-l.invariant c.loop-l-test.true c.if-w-l.false c.if-v-l.false
-
 pub returns : goal.returns
-returns c = sharing_left c.loop-l.invariant c.loop-l-test.false
+returns c =
+    let pairs = YieldsList-from_zip (YieldsList-at c.zip.ensures.first (YieldsList-from_slice c.args.v.now c.iter.ensures.rest)) (YieldsList-at c.zip.ensures.second (YieldsList-from_slice c.args.w.now c.iter-2.ensures.rest)) in
+    count_from_yields_List c.take_while.result _ c.count.ensures.ran
+    (YieldsList-from_take_while _ (λ (p : ℕ × ℕ). eqb p.0 p.1) (YieldsList-at c.take_while.ensures.source pairs) c.take_while.ensures.closure c.take_while.ensures.done (λ x b q k. search (rules, tests)))
+    ∙ length-prefix_len (λ (p : ℕ × ℕ). eqb p.0 p.1) (zip c.args.v.now c.args.w.now)
+    ∙ alike c.args.v.now c.args.w.now
