@@ -2,7 +2,7 @@
 use mathlib.Core.Path.{◌≡◌, refl, sym, ap, subst, ◌∙◌}
 use mathlib.Core.Bool.{Bool, true, false, ◌&&◌}
 use mathlib.Core.List.{List, [], ◌∷◌}
-use mathlib.Core.Option.{Option}
+use Rattle.std.specs.Prelude.{Option, None, Some}
 use Prim.Native.Nat.{ℕ, zero, suc, ◌+◌, ◌-◌, ◌*◌, ◌≤◌, ◌<◌}
 use native.Mathlib.Omega.{arith}
 use native.Mathlib.Decide.{dec_lt}
@@ -29,8 +29,8 @@ use Rattle.image_record.specs.declared.Record.{Record}
 use Rattle.image_record.specs.declared.Record.TheVariants as records
 use Rattle.image_record.specs.inner.Records.{Entry, End, Neither, Says}
 use Rattle.image_word.specs.declared.Taken.{Taken}
-use Rattle.image_word.specs.declared.Taken.TheVariants as taken
-use Rattle.image_word.specs.inner.Words.{Rows, is_next, Follows, Takes}
+use Rattle.image_word.specs.declared.WordReader.{WordReader}
+use Rattle.image_word.specs.inner.Words.{is_next, Follows, Takes}
 use Rattle.image_read.proofs.Readings.{read_other, read_none, term_word, word_is, is_word_holds, read_on}
 use Rattle.image_read.proofs.Surveying.{news_first, none_news}
 use Rattle.image_read.proofs.Raising.{new_low, new_high, new_in}
@@ -38,7 +38,7 @@ use Rattle.trie_build_rules.specs.inner.Growing.{Grown, Built, Above, Bare, Star
 use Rattle.trie_build_rules.proofs.Start.{start_built}
 use Rattle.trie_build_rules.proofs.Whole.{whole_sound, whole_terms, scalar_is}
 use Rattle.trie_build.specs.inner.Appending.{row, Fits, Puts, Put}
-use Rattle.image_place.specs.inner.Placing.{Opens, Lent, Holds, Placed}
+use Rattle.image_place.specs.inner.Placing.{Opens, Holds, Placed}
 use Rattle.image_place.proofs.Readings.{word_of, read_zero, climbs, Onto, onto_list, ended_list}
 
 -- words of the image are in the pool, `rest` are to come
@@ -216,56 +216,53 @@ module _ {image p next w : List ℕ} {at : ℕ} (g : Going image p next w at) wh
 
 -- ---- the turns, as the code takes them
 
-pub record Turn (p₀ image p next prev row positions : List ℕ) (before at : ℕ) : Type 0 where
+pub record Turn (p₀ image p next : List ℕ) (reader : WordReader) (at : ℕ) : Type 0 where
   pub size : length p ≡ length p₀
   pub beside : Beside p₀ p
   pub in_use : used p ≡ used p₀
-  pub going : Going image p next (take before prev) at
-  pub upto : before ≤ 255
-  pub long : length prev ≡ 255
-  pub rows : Rows row positions
+  pub going : Going image p next (take reader.size reader.last) at
 
-pub turn_none : {image p next prev row positions : List ℕ} → Opens image p next → Lent prev row positions → Turn p image p next prev row positions 0 0
-turn_none {image} {p} o l = record { size = refl; beside = no_change p; in_use = refl; going = going_none o; upto = omega arith; long = l.words; rows = l.rows }
+pub turn_none : {image p next : List ℕ} (reader : WordReader) → Opens image p next → reader.size ≡ 0 → Turn p image p next reader 0
+turn_none {image} {p} {next} reader o z = record {
+  size = refl;
+  beside = no_change p;
+  in_use = refl;
+  going = subst (λ (n : ℕ). Going image p next (take n reader.last) 0) (sym z) (going_none o);
+}
 
-module _ {p₀ image p next prev row positions : List ℕ} {before at : ℕ} (t : Turn p₀ image p next prev row positions before at) where
+module _ {p₀ image p next : List ℕ} {reader : WordReader} {at : ℕ} (t : Turn p₀ image p next reader at) where
   pub all_placed : length image ≤ at → Placed image p
   all_placed h = at_end t.going h
 
-  module _ (r : Record) (s : Says image at r) where
-    pub stop_last : {n : ℕ} → r ≡ records.Last n → Placed image p
-    stop_last e = no_more t.going ((subst (Says image at) e s).no_word (take before prev))
+  module _ (r : Option Record) (s : Says image at r) where
+    pub stop_last : {n : ℕ} → r ≡ Some (records.Last n) → Placed image p
+    stop_last e = no_more t.going ((subst (Says image at) e s).no_word (take reader.size reader.last))
 
-    pub stop_broken : r ≡ records.Broken → Placed image p
-    stop_broken e = no_more t.going ((subst (Says image at) e s).no_word (take before prev))
+    pub stop_broken : r ≡ None → Placed image p
+    stop_broken e = no_more t.going ((subst (Says image at) e s).no_word (take reader.size reader.last))
 
-    module _ {c from to : ℕ} (e : r ≡ records.Word c from to) where
+    module _ {c from to : ℕ} (e : r ≡ Some (records.Word c from to)) where
       pub entry : Entry image at c from to
       entry = subst (Says image at) e s
 
-      module _ (prev' : List ℕ) (k : Taken) (q : Takes (take (to - from) (drop from image)) (take before prev) prev' k) where
-        pub stop_word : k ≡ taken.Nothing → Placed image p
-        stop_word z = not_next t.going entry (subst (Takes (take (to - from) (drop from image)) (take before prev) prev') z q)
+      module _ (reader' : WordReader) (k : Option Taken) (q : Takes (take (to - from) (drop from image)) (take reader.size reader.last) reader' k) where
+        pub stop_word : k ≡ None → Placed image p
+        stop_word z = not_next t.going entry (subst (Takes (take (to - from) (drop from image)) (take reader.size reader.last) reader') z q)
 
-        module _ {size shared : ℕ} (z : k ≡ taken.Word size shared) where
-          follows' : Follows (take (to - from) (drop from image)) (take before prev) prev' size shared
-          follows' = subst (Takes (take (to - from) (drop from image)) (take before prev) prev') z q
+        module _ {taken : Taken} (z : k ≡ Some taken) where
+          both' : Follows (take (to - from) (drop from image)) (take reader.size reader.last) reader'.last taken.size taken.shared × (reader'.size ≡ taken.size)
+          both' = subst (Takes (take (to - from) (drop from image)) (take reader.size reader.last) reader') z q
 
-          pub few : size ≤ 255
-          few = follows'.short
+          pub few : taken.size ≤ 255
+          few = both'.0.short
 
-          pub asks : {mark : ℕ} → mark ≡ c + 1 → Puts p next (take size prev') shared mark
-          asks m = puts t.going entry follows' m
+          pub asks : {mark : ℕ} → mark ≡ c + 1 → Puts p next (take taken.size reader'.last) taken.shared mark
+          asks m = puts t.going entry both'.0 m
 
-          pub turn_next : {mark : ℕ} {p' next' row' positions' : List ℕ} → mark ≡ c + 1 → Put p next (take size prev') shared mark p' next'
-              → length p' ≡ length p → length prev' ≡ length prev → length row' ≡ length row → length positions' ≡ length positions
-              → Turn p₀ image p' next' prev' row' positions' size to
-          turn_next m h f a b d = record {
+          pub turn_next : {mark : ℕ} {p' next' : List ℕ} → mark ≡ c + 1 → Put p next (take taken.size reader'.last) taken.shared mark p' next' → length p' ≡ length p → Turn p₀ image p' next' reader' to
+          turn_next {mark} {p'} {next'} m h f = record {
             size = f ∙ t.size;
             beside = both_change t.beside h.beside;
-            in_use = same_use t.going entry follows' m h ∙ t.in_use;
-            going = going_next t.going entry follows' m h;
-            upto = few;
-            long = a ∙ t.long;
-            rows = record { scalars = b ∙ t.rows.scalars; places = d ∙ t.rows.places };
+            in_use = same_use t.going entry both'.0 m h ∙ t.in_use;
+            going = subst (λ (n : ℕ). Going image p' next' (take n reader'.last) to) (sym both'.1) (going_next t.going entry both'.0 m h);
           }

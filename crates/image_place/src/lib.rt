@@ -21,13 +21,22 @@ pub fn place(p: &mut [u32], image: &[u8], next: &mut [usize; 257])
     let mut at = 0;
     // Kept: (3) each record says how long it is, so no iterator is plainer.
     while at < image.len() {
-        let Some(Record::Word { class, from, to }) = record_at(image, at) else {
+        let Some(record) = record_at(image, at) else {
+            return;
+        };
+        let Record::Word { class, from, to } = record else {
             return;
         };
         let Some(taken) = reader.take_next(&image[from..to]) else {
             return;
         };
-        append(p, next, &reader.last[..taken.size], taken.shared, (class + 1) as u32);
+        append(
+            p,
+            next,
+            &reader.last[..taken.size],
+            taken.shared,
+            (class + 1) as u32,
+        );
         at = to;
     }
 }
