@@ -74,7 +74,9 @@ fn list<P: Print, W: Write>(told: &P, output: &mut W, image: &[u8]) -> bool {
     let mut line = [0u8; LINE];
     let mut at = 0;
     while at < image.len() {
-        let found = record_at(image, at);
+        let Some(found) = record_at(image, at) else {
+            return true;
+        };
         let Record::Word { class, from, to } = found else {
             return true;
         };
