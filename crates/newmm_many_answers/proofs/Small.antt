@@ -36,7 +36,7 @@ detail_fits : (rs : List Cause) (n : ℕ) (r : Refusal) → EachFits rs → answ
 detail_fits [] n r e h = not_both h
 detail_fits (q ∷ rs) n r e h = go q.holds refl h (λ f k. detail_fits rs n r f k)
   where
-    same : Err q.refusal ≡ Err r → q.refusal ≡ r
+    same : ◌≡◌ {A = Result ℕ Refusal} (Err q.refusal) (Err r) → q.refusal ≡ r
     same e = cc
 
     go : (b : Bool) → q.holds ≡ b → cond b (Err q.refusal) (answer rs n) ≡ Err r → (EachFits rs → answer rs n ≡ Err r → detail_of r ≤ 4294967295) → detail_of r ≤ 4294967295

@@ -18,8 +18,8 @@ use Rattle.newmm_reasons_answers.specs.Answers.{pairs, pair_room}
 use Rattle.newmm_reasons_answers.proofs.Told.{as_many}
 use Rattle.newmm_reasons_answers.proofs.Cells.{pairs_long}
 use Rattle.newmm_many_answers.specs.declared.Wanted.{Wanted}
-use Rattle.newmm_many_answers.specs.declared.Wanted.TheVariants.{Ends, Pairs}
-use Rattle.newmm_many_answers.specs.Turns.{Single, Singly, ends_told, wrote_of, rest_of}
+use Rattle.newmm_many_answers.specs.declared.Wanted.TheVariants as wants
+use Rattle.newmm_many_answers.specs.Turns.{Singly, ends_told, wrote_of, rest_of}
 use Rattle.newmm_many_answers.specs.Singles.{cut_singly, reasons_singly, singly}
 use Rattle.newmm_many_answers.specs.inner.Small.{Small}
 use Rattle.newmm_many_answers.specs.inner.Singles.{width_of}
@@ -62,13 +62,13 @@ module _ (mode : Mode) (m : Option Words) where
       }
 
   pub steady : (wanted : Wanted) → Steady (singly wanted mode m)
-  steady Ends = cut_steady
-  steady Pairs = reasons_steady
+  steady wants.Ends = cut_steady
+  steady wants.Pairs = reasons_steady
 
   pub steady_width : (wanted : Wanted) → (steady wanted).width ≡ width_of wanted
   unfolding steady cut_steady reasons_steady
-  steady_width Ends = refl
-  steady_width Pairs = refl
+  steady_width wants.Ends = refl
+  steady_width wants.Pairs = refl
 
   pub by_width : (wanted : Wanted) (told : Result Ends Refusal) {n : ℕ} → n ≡ width_of wanted * ends_told told → n ≡ (steady wanted).width * ends_told told
   by_width wanted told e = e ∙ ap (λ (w : ℕ). w * ends_told told) (sym (steady_width wanted))

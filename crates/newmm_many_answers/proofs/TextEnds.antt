@@ -1,19 +1,18 @@
 -- The text ends of a call, tested from the left. Assumes nothing.
-use Rattle.std.specs.Prelude.{Ok, Err}
+use Rattle.std.specs.Prelude.{Ok, Err, ◌⊎◌}
+use Rattle.std.proofs.Common.{inl, inr}
 use Prim.Native.Nat.{ℕ, suc, ◌+◌, ◌*◌, ◌-◌, ◌≤◌, ◌<◌}
 use native.Mathlib.Omega.{arith}
 use native.Mathlib.Decide.{dec_lt}
 use mathlib.Core.Path.{◌≡◌, refl, sym, ◌∙◌, ap}
-use mathlib.Core.Bool.{Bool, true, false, cond, ◌&&◌}
+use mathlib.Core.Bool.{Bool, cond}
 use mathlib.Core.List.{List, [], ◌∷◌}
-use lib.ListN.{length, get_or, take, drop, length-drop, drop_of_length-le}
+use lib.ListN.{length, get_or, take, drop, drop_of_length-le}
 use lib.Seq.{drop-cons}
-use lib.Dec.{leb, ltb}
-use borrow.Author.Tests.{leb-true, leb-false, le-leb, lt-leb, lt-ltb, le-ltb, ltb-false}
-use Rattle.lists.specs.Scans.{within}
+use borrow.Author.Tests.{le-leb, lt-leb, lt-ltb, le-ltb, ltb-false}
 use Rattle.refusal.specs.declared.Refusal.TheVariants.{WrongPosition, OutputTooShort}
 use Rattle.refusal.specs.Answers.{Cause, answer, out_cause}
-use Rattle.refusal.proofs.Causes.{none_of, cause_yes, out_short, out_fits}
+use Rattle.refusal.proofs.Causes.{none_of, out_short}
 use Rattle.newmm_many_answers.specs.Texts.{texts_from, right_from, first_wrong}
 use Rattle.newmm_many_answers.specs.Calls.{ends_cause, many_causes}
 use Rattle.newmm_many_answers.specs.inner.Whole.{Whole}
@@ -60,8 +59,13 @@ module _ {size : ℕ} {ends : List ℕ} {from i : ℕ} (r : Right size ends from
     pub stop_over : from ≤ get_or ends i 0 → size < get_or ends i 0 → i ≡ first_wrong size ends
     stop_over h k = omega (arith, r.rest, ap (right_from size from) (next_end ends i l) ∙ right_over size from (get_or ends i 0) (drop (i + 1) ends) h k)
 
-  pub right_all : length ends ≤ i → i ≡ first_wrong size ends
-  right_all l = omega (arith, r.rest, ap (right_from size from) (drop_of_length-le ends l) ∙ right_nil size from)
+    pub stop : (get_or ends i 0 < from) ⊎ ((from ≤ get_or ends i 0) × (size < get_or ends i 0)) → i ≡ first_wrong size ends
+    stop (inl h) = stop_below h
+    stop (inr h) = stop_over h.0 h.1
+
+pub right_all : {size : ℕ} {ends : List ℕ} {from i : ℕ} → Right size ends from i → length ends ≤ i → length ends ≡ first_wrong size ends
+right_all {size} {ends} {from} r l =
+    omega (arith, r.inside, r.rest, ap (right_from size from) (drop_of_length-le ends l) ∙ right_nil size from)
 
 -- ---- the refusals of the whole call
 

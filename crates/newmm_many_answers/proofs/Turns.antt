@@ -2,7 +2,7 @@
 use Rattle.std.specs.Prelude.{Ok, Result, Err}
 use Rattle.newmm_rules.specs.declared.Ends.{Ends}
 use Rattle.refusal.specs.declared.Refusal.{Refusal}
-use Prim.Native.Nat.{ℕ, ◌+◌, ◌*◌, ◌-◌}
+use Prim.Native.Nat.{ℕ, ◌*◌}
 use native.Mathlib.Omega.{arith}
 use mathlib.Core.Path.{◌≡◌, refl, sym, ◌∙◌, ap}
 use mathlib.Core.List.{List, [], ◌∷◌, ◌++◌, append_assoc, append-nil}

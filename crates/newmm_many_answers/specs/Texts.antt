@@ -1,5 +1,5 @@
 -- Texts that stand joined in one row, and the positions in it where each of them ends.
-use Rattle.std.specs.Prelude.{ℕ, suc, ◌-◌, Bool, cond, List, [], ◌∷◌, take, drop}
+use Rattle.std.specs.Prelude.{ℕ, suc, ◌-◌, cond, List, [], ◌∷◌, take, drop}
 use Rattle.lists.specs.Scans.{within}
 
 -- A text goes from the end of the text before it, or from 0, to its own end.

@@ -2,7 +2,8 @@
 // stand in specs/. The test of the whole call, and the four cells of an answer.
 #![tactic(auto)]
 
-ghost use Rattle.std.specs.Prelude.{◌≡◌, ◌∷◌, ◌++◌, ◌*◌, ◌≤◌, length, drop};
+ghost use Rattle.std.specs.Prelude.{◌≡◌, ◌∷◌, ◌++◌, ◌*◌, ◌≤◌, ◌<◌, length, drop, IfSome};
+ghost use Rattle.std.specs.Option.{unwrap_or};
 ghost use Rattle.refusal.specs.Answers.{answer};
 ghost use Rattle.newmm_many_answers.specs.Texts.{first_wrong};
 ghost use Rattle.newmm_many_answers.specs.Turns.{cells_of, ends_told};
@@ -11,38 +12,32 @@ ghost use Rattle.newmm_many_answers.specs.inner.Small.{Small};
 ghost use Rattle.newmm_many_answers.specs.inner.Singles.{width_of};
 
 use newmm_rules::Ends;
-use cells::wide;
 use refusal::Refusal;
 
 // The cells of a text's answer.
 pub const ANSWER: usize = 4;
 
 // What a call with many texts writes for a token: its end, or a pair of its end and its reason.
-#[derive(Clone, Copy)]
+#[derive(Clone, Copy, Debug, PartialEq, Eq)]
 pub enum Wanted {
     Ends,
     Pairs,
 }
 
-// The index of the first text end that is below the one before it or over `size`, or the number of
-// ends where none is.
-pub fn first_wrong(ends: &[u32], size: usize) -> usize
-    ensures { result ≡ first_wrong size ends.now }
+// The index of the first text end that is below the one before it or over `size`.
+pub fn first_wrong(ends: &[u32], size: usize) -> Option<usize>
+    ensures index { unwrap_or result (length ends.now) ≡ first_wrong size ends.now }
+    ensures within { IfSome result (λ i. i < length ends.now) }
 {
     let mut from = 0;
-    let mut i = 0;
-    while i < ends.len() {
-        let end = wide(ends[i]);
-        if end < from {
-            return i;
-        }
-        if size < end {
-            return i;
+    for (i, cell) in ends.iter().enumerate() {
+        let end = *cell as usize;
+        if end < from || size < end {
+            return Some(i);
         }
         from = end;
-        i += 1;
     }
-    i
+    None
 }
 
 // Refusals 10 and 6 of the whole call, by the cells of the row of texts and of the row of answers;
@@ -50,11 +45,10 @@ pub fn first_wrong(ends: &[u32], size: usize) -> usize
 pub fn check_many(ends: &[u32], size: usize, room: usize) -> Result<usize, Refusal>
     ensures { result ≡ answer (many_causes size ends.now room) (length ends.now) }
 {
-    let n = ends.len();
-    let wrong = first_wrong(ends, size);
-    if wrong < n {
+    if let Some(wrong) = first_wrong(ends, size) {
         return Err(Refusal::WrongPosition(wrong));
     }
+    let n = ends.len();
     let needed = ANSWER * n;
     if room < needed {
         return Err(Refusal::OutputTooShort(needed));
@@ -62,28 +56,15 @@ pub fn check_many(ends: &[u32], size: usize, room: usize) -> Result<usize, Refus
     Ok(n)
 }
 
-// A number as a cell.
-fn cell(x: usize) -> u32
-    requires { x ≤ 4294967295 }
-    ensures { result ≡ x }
+// The four cells of an answer.
+fn answer_cells(told: Result<Ends, Refusal>) -> [u32; 4]
+    requires { Small told }
+    ensures { result ≡ cells_of told }
 {
-    x as u32
-}
-
-fn short_cell(x: u8) -> u32
-    ensures { result ≡ x }
-{
-    x as u32
-}
-
-fn put_cells(row: &mut [u32], number: u32, count: u32, edges: u32, detail: u32)
-    requires { 4 ≤ length row.old }
-    ensures { row.new ≡ number ∷ count ∷ edges ∷ detail ∷ drop 4 row.old }
-{
-    row[0] = number;
-    row[1] = count;
-    row[2] = edges;
-    row[3] = detail;
+    match told {
+        Ok(cut) => [0, cut.ends as u32, cut.edges as u32, 0],
+        Err(r) => [r.number() as u32, 0, 0, r.detail() as u32],
+    }
 }
 
 // The four cells of an answer, at the front of the row.
@@ -91,10 +72,7 @@ pub fn put_answer(row: &mut [u32], told: Result<Ends, Refusal>)
     requires { (4 ≤ length row.old) × Small told }
     ensures { row.new ≡ cells_of told ++ drop 4 row.old }
 {
-    match told {
-        Ok(Ends { ends: n, edges }) => put_cells(row, 0, cell(n), cell(edges), 0),
-        Err(r) => put_cells(row, short_cell(r.number()), 0, 0, cell(r.detail())),
-    }
+    row[..ANSWER].copy_from_slice(&answer_cells(told));
 }
 
 // The number of ends that an answer tells; a refused text has none.
@@ -102,7 +80,7 @@ pub fn ends_told(told: Result<Ends, Refusal>) -> usize
     ensures { result ≡ ends_told told }
 {
     match told {
-        Ok(Ends { ends: n, edges: _ }) => n,
+        Ok(cut) => cut.ends,
         Err(_) => 0,
     }
 }

@@ -3,7 +3,7 @@ use Rattle.std.specs.Prelude.{ℕ, ◌≡◌, List, Result}
 use Rattle.newmm_rules.specs.declared.Ends.{Ends}
 use Rattle.refusal.specs.declared.Refusal.{Refusal}
 use Rattle.newmm_many_answers.specs.declared.Wanted.{Wanted}
-use Rattle.newmm_many_answers.specs.declared.Wanted.TheVariants.{Ends, Pairs}
+use Rattle.newmm_many_answers.specs.declared.Wanted.TheVariants as wants
 use Rattle.newmm_many_answers.specs.Turns.{Single}
 
 -- what was told, and what stands in the output and in scratch, are the single call's
@@ -12,5 +12,5 @@ SingleIs s told out scratch = (told ≡ s.told) × ((out ≡ s.out) × (scratch 
 
 -- the cells that are written for a token
 abbrev pub width_of : Wanted → ℕ
-width_of Ends = 1
-width_of Pairs = 2
+width_of wants.Ends = 1
+width_of wants.Pairs = 2
