@@ -1,6 +1,7 @@
 // Standard input and output of a line program, at any reader and any writer.
 //   read_some    reads once
 //   read_all     reads to the end, and hands a program each part
+//   read_lines   reads to the end, and hands a program each line
 //   write_whole  writes all of a text
 // A call that was interrupted, or that would have had to wait, is tried again; one that fails for
 // another reason is a `Failure`. A proved loop has to end: each has more turns than any run uses up.
@@ -10,6 +11,7 @@ ghost use Rattle.std.specs.Prelude.{◌≡◌, ℕ, ◌≤◌, length, take, IfO
 ghost use Rattle.std.specs.Io.KnownBytes.{Appends, IsAtEnd};
 ghost use Rattle.sheet_io.specs.Reading.{ReadOnce};
 
+use sheet_bytes::{front, keep, line_end};
 use std::io::{Error, ErrorKind, Read, Write};
 use std::{fmt, str, thread};
 
@@ -100,6 +102,64 @@ pub fn read_all<R: Read, G: Program>(input: &mut R, program: &mut G) -> Result<(
         program.take(&buffer[..n])?;
     }
     Err(G::Stop::from(Failure::NoTurnLeft))
+}
+
+// What a program does with the lines of its input.
+pub trait Lines {
+    // Why it stops before the end of its input.
+    type Stop: From<Failure> + Drop;
+
+    // Does what is to be done with the next line, which stands without its line feed.
+    fn take_line(&mut self, line: &[u8]) -> Result<(), Self::Stop>;
+}
+
+// A program that takes parts of the input as lines: `kept` bytes of a line that goes on stand at
+// the front of `row`.
+#[derive(Drop)]
+struct Joined<'a, 'b, L> {
+    lines: &'a mut L,
+    row: &'b mut [u8],
+    kept: usize,
+}
+
+impl<'a, 'b, L: Lines> Program for Joined<'a, 'b, L> {
+    type Stop = L::Stop;
+
+    fn take(&mut self, bytes: &[u8]) -> Result<(), L::Stop> {
+        let Joined { lines, row, kept } = self;
+        let mut rest = bytes;
+        while !rest.is_empty() {
+            let (part, more) = rest.split_at(line_end(rest));
+            *kept = keep(row, *kept, part);
+            let Some((_, next)) = more.split_first() else {
+                return Ok(());
+            };
+            lines.take_line(front(row, *kept))?;
+            *kept = 0;
+            rest = next;
+        }
+        Ok(())
+    }
+}
+
+// Reads to the end of the input, and hands the program each line, of which as much is kept as
+// `row` has room for. The last one is what stands behind the last line feed, even if that is
+// nothing. `Ok` says that nothing is left.
+pub fn read_lines<R: Read, L: Lines>(
+    input: &mut R,
+    row: &mut [u8],
+    lines: &mut L,
+) -> Result<(), L::Stop>
+    ensures { IfOk result (λ _. IsAtEnd (R.remaining input.new)) }
+{
+    let mut joined = Joined {
+        lines,
+        row,
+        kept: 0,
+    };
+    read_all(input, &mut joined)?;
+    let Joined { lines, row, kept } = joined;
+    lines.take_line(front(row, kept))
 }
 
 // Writes all of a text, or stops at the first write that fails.

@@ -4,170 +4,89 @@
 #![tactic(auto)]
 
 use sheet_bytes::front;
-use sheet_io::{Got, read_some, write_whole};
+use sheet_io::{Failure, Program, read_all, write_whole};
 use sheet_steps::{LINE, POOL, POSITIONS, REPLY, SCRATCH, TEXT, last, step};
 use std::io::{Read, Write};
 
-// What became of the input: how many bytes of a line that goes on are kept, or a call failed.
-#[derive(Clone, Copy)]
-enum Line {
-    Kept(usize),
-    Failed,
+// The rows of a run: `kept` bytes of a line that goes on stand at the front of `line`.
+#[derive(Drop)]
+struct Run<'a, W> {
+    output: &'a mut W,
+    line: [u8; LINE],
+    kept: usize,
+    pool: [u32; POOL],
+    scalars: [u32; TEXT],
+    positions: [u32; POSITIONS],
+    ends: [u32; TEXT],
+    scratch: [u32; SCRATCH],
+    out: [u8; REPLY],
+}
+
+impl<'a, W: Write> Run<'a, W> {
+    // Writes the reply of a last line without a line feed.
+    fn end(&mut self) -> Result<(), Failure> {
+        let kept = self.kept;
+        let n = last(
+            &self.line,
+            kept,
+            &mut self.pool,
+            &mut self.scalars,
+            &mut self.positions,
+            &mut self.ends,
+            &mut self.scratch,
+            &mut self.out,
+        );
+        write_whole(self.output, front(&self.out, n))
+    }
+}
+
+impl<'a, W: Write> Program for Run<'a, W> {
+    type Stop = Failure;
+
+    // Writes the replies of the lines that end in the bytes.
+    fn take(&mut self, bytes: &[u8]) -> Result<(), Failure> {
+        let mut rest = bytes;
+        while !rest.is_empty() {
+            let kept = self.kept;
+            let fed = step(
+                rest,
+                &mut self.line,
+                kept,
+                &mut self.pool,
+                &mut self.scalars,
+                &mut self.positions,
+                &mut self.ends,
+                &mut self.scratch,
+                &mut self.out,
+            );
+            self.kept = fed.kept;
+            write_whole(self.output, front(&self.out, fed.written))?;
+            rest = &rest[fed.taken..];
+        }
+        Ok(())
+    }
 }
 
 fn main(rt: HostRuntime) {
-    let mut line = [0u8; LINE];
-    let mut pool = [0u32; POOL];
-    let mut scalars = [0u32; TEXT];
-    let mut positions = [0u32; POSITIONS];
-    let mut ends = [0u32; TEXT];
-    let mut scratch = [0u32; SCRATCH];
-    let mut out = [0u8; REPLY];
-    trie_char::fresh(&mut pool);
-    let mut input = rt.stdin();
-    let mut output = rt.stdout();
-    let told = rt.stderr();
-    let read = read_all(
-        &told,
-        &mut input,
-        &mut output,
-        &mut line,
-        &mut pool,
-        &mut scalars,
-        &mut positions,
-        &mut ends,
-        &mut scratch,
-        &mut out,
-    );
-    let Line::Kept(kept) = read else {
-        return;
-    };
-    end_run(
-        &told,
-        &mut output,
-        &line,
-        kept,
-        &mut pool,
-        &mut scalars,
-        &mut positions,
-        &mut ends,
-        &mut scratch,
-        &mut out,
-    );
+    if let Err(failure) = run(&mut rt.stdin(), &mut rt.stdout()) {
+        let _ = println!(rt.stderr(); "sheet_lines: {failure}");
+    }
 }
 
-// Writes the reply of a last line without a line feed.
-fn end_run<P: Print, W: Write>(
-    told: &P,
-    output: &mut W,
-    line: &[u8; LINE],
-    kept: usize,
-    pool: &mut [u32; POOL],
-    scalars: &mut [u32; TEXT],
-    positions: &mut [u32; POSITIONS],
-    ends: &mut [u32; TEXT],
-    scratch: &mut [u32; SCRATCH],
-    out: &mut [u8; REPLY],
-) {
-    let n = last(line, kept, pool, scalars, positions, ends, scratch, out);
-    write_whole(
-        told,
+// Reads all of the input, and writes the replies.
+fn run<R: Read, W: Write>(input: &mut R, output: &mut W) -> Result<(), Failure> {
+    let mut run = Run {
         output,
-        front(out, n),
-        b"sheet_lines: writing standard output",
-    );
-}
-
-// A proved loop has to end, and nothing says that the input does: it has more turns than any run
-// uses up.
-fn read_all<P: Print, R: Read, W: Write>(
-    told: &P,
-    input: &mut R,
-    output: &mut W,
-    line: &mut [u8; LINE],
-    pool: &mut [u32; POOL],
-    scalars: &mut [u32; TEXT],
-    positions: &mut [u32; POSITIONS],
-    ends: &mut [u32; TEXT],
-    scratch: &mut [u32; SCRATCH],
-    out: &mut [u8; REPLY],
-) -> Line {
-    let mut buffer = [0u8; 65536];
-    let mut kept = 0;
-    let mut turns = u64::MAX;
-    while turns > 0 {
-        let got = read_some(
-            told,
-            input,
-            &mut buffer,
-            b"sheet_lines: reading standard input",
-        );
-        let Got::Bytes(n) = got else {
-            return Line::Failed;
-        };
-        if n == 0 {
-            return Line::Kept(kept);
-        }
-        let fed = feed_all(
-            told,
-            output,
-            front(&buffer, n),
-            line,
-            kept,
-            pool,
-            scalars,
-            positions,
-            ends,
-            scratch,
-            out,
-        );
-        let Line::Kept(k) = fed else {
-            return Line::Failed;
-        };
-        kept = k;
-        turns -= 1;
-    }
-    Line::Kept(kept)
-}
-
-// Feeds all of the bytes, and writes the replies of the lines that end in them.
-fn feed_all<P: Print, W: Write>(
-    told: &P,
-    output: &mut W,
-    bytes: &[u8],
-    line: &mut [u8; LINE],
-    kept: usize,
-    pool: &mut [u32; POOL],
-    scalars: &mut [u32; TEXT],
-    positions: &mut [u32; POSITIONS],
-    ends: &mut [u32; TEXT],
-    scratch: &mut [u32; SCRATCH],
-    out: &mut [u8; REPLY],
-) -> Line {
-    let mut n = kept;
-    let mut at = 0;
-    while at < bytes.len() {
-        let fed = step(
-            &bytes[at..],
-            line,
-            n,
-            pool,
-            scalars,
-            positions,
-            ends,
-            scratch,
-            out,
-        );
-        if !write_whole(
-            told,
-            output,
-            front(out, fed.written),
-            b"sheet_lines: writing standard output",
-        ) {
-            return Line::Failed;
-        }
-        n = fed.kept;
-        at += fed.taken;
-    }
-    Line::Kept(n)
+        line: [0; LINE],
+        kept: 0,
+        pool: [0; POOL],
+        scalars: [0; TEXT],
+        positions: [0; POSITIONS],
+        ends: [0; TEXT],
+        scratch: [0; SCRATCH],
+        out: [0; REPLY],
+    };
+    trie_char::fresh(&mut run.pool);
+    read_all(input, &mut run)?;
+    run.end()
 }
