@@ -10,6 +10,8 @@ use lib.Seq.{drop-cons, take-length}
 use lib.ListN.{drop_of_length-le}
 use lib.Dec.{eqb}
 use borrow.Author.Tests.{ne_eqb}
+use Rattle.std.specs.List.{prefix_len, take_while}
+use Rattle.std.proofs.lemmas.List.Folds.{length-prefix_len}
 use Rattle.lists.specs.Scans.{leading, behind_last}
 
 pub leading_yes : (p : ℕ → Bool) (x : ℕ) (xs : List ℕ) → p x ≡ true → leading p (x ∷ xs) ≡ suc (leading p xs)
@@ -23,6 +25,15 @@ leading_no p x xs h = simp h
 pub leading_nil : (p : ℕ → Bool) → leading p [] ≡ 0
 unfolding leading
 leading_nil p = refl
+
+-- what `take_while(..).count()` tells
+leading_prefix : (p : ℕ → Bool) (xs : List ℕ) → prefix_len p xs ≡ leading p xs
+unfolding leading
+leading_prefix p [] = refl
+leading_prefix p (x ∷ xs) = ap (λ (n : ℕ). cond (p x) n 0) (let z : 1 + prefix_len p xs ≡ suc (leading p xs) = omega (arith, leading_prefix p xs) in z)
+
+pub leading_counted : (p : ℕ → Bool) (xs : List ℕ) → length (take_while p xs) ≡ leading p xs
+leading_counted p xs = length-prefix_len p xs ∙ leading_prefix p xs
 
 -- the first i cells pass the test
 pub record Passed (p : ℕ → Bool) (s : List ℕ) (i : ℕ) : Type 0 where

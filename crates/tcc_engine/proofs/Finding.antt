@@ -1,23 +1,20 @@
 -- The first alternative that matches, over plain values. Assumes nothing.
-use Prim.Native.Nat.{ℕ, suc, ◌+◌, ◌-◌, ◌≤◌, ◌<◌}
+use Rattle.std.specs.Prelude.{Option, Some, None}
+use Prim.Native.Nat.{ℕ, suc, ◌+◌, ◌≤◌, ◌<◌}
 use native.Mathlib.Omega.{arith}
 use native.Mathlib.Numerals.{add-one}
 use mathlib.Core.Path.{◌≡◌, refl, sym, ◌∙◌, ap}
-use mathlib.Core.Bool.{Bool, true, false, cond}
+use mathlib.Core.Bool.{cond}
 use mathlib.Core.List.{List, [], ◌∷◌}
-use lib.ListN.{length, get_or, drop}
+use lib.ListN.{get_or, drop}
 use Rattle.tcc_rules.specs.Patterns.{Match, none, upto, or_else, match, is_match, Alternative, pattern, first_of, winner}
 use Rattle.tcc_rules.specs.Rules.{alternatives}
-use Rattle.tcc_engine.specs.declared.Matched.{Matched}
-use Rattle.tcc_engine.specs.declared.Matched.TheVariants.{Nowhere, Upto}
-use Rattle.tcc_engine.specs.declared.Found.{Found}
-use Rattle.tcc_engine.specs.declared.Found.TheVariants.{Nothing, By}
 use Rattle.tcc_engine.specs.inner.Trying.{Tables, stretch, group_start, tried_at, matched, found, found_in}
 use Rattle.tcc_engine.proofs.Items.{is_none, is_upto}
 use Rattle.tcc_engine.proofs.Reading.{behind_is, none_behind}
 
 -- what `match_items` gives is the match of the alternative
-pub tried_by : (classes row starts text : List ℕ) (k p : ℕ) {a g e : ℕ} {r : Matched} → a ≡ get_or starts k 0 → e ≡ get_or starts (k + 1) 0 → g ≡ group_start row a e
+pub tried_by : (classes row starts text : List ℕ) (k p : ℕ) {a g e : ℕ} {r : Option ℕ} → a ≡ get_or starts k 0 → e ≡ get_or starts (k + 1) 0 → g ≡ group_start row a e
     → r ≡ matched (match (stretch classes row a g e) text p) → r ≡ matched (match (pattern (tried_at classes row starts k)) text p)
 unfolding stretch tried_at
 tried_by classes row starts text k p {a} {g} {e} starts_at es gs is =
@@ -32,11 +29,11 @@ module _ (text : List ℕ) (p : ℕ) where
   unfolding found_in winner match
   past a rest h = ap (λ (m : Match). found (cond (is_match m) a.number (winner rest text p)) (or_else m (match (first_of rest) text p))) h
 
-  hit : (a : Alternative) (rest : List Alternative) {e : ℕ} → match (pattern a) text p ≡ upto e → found_in (a ∷ rest) text p ≡ By a.number e
+  hit : (a : Alternative) (rest : List Alternative) {e : ℕ} → match (pattern a) text p ≡ upto e → found_in (a ∷ rest) text p ≡ Some (record { number = a.number; end = e })
   unfolding found_in winner match
   hit a rest h = ap (λ (m : Match). found (cond (is_match m) a.number (winner rest text p)) (or_else m (match (first_of rest) text p))) h
 
-  nobody : found_in [] text p ≡ Nothing
+  nobody : found_in [] text p ≡ None
   unfolding found_in winner match
   nobody = refl
 
@@ -48,8 +45,8 @@ module _ (text : List ℕ) (p : ℕ) where
   trying_none from = record { same = refl }
 
   module _ {classes row starts : List ℕ} {from k : ℕ} (v : Tables classes row starts) (t : Trying from k) where
-    module _ (h : k < 29) {r : Matched} (is : r ≡ matched (match (pattern (tried_at classes row starts k)) text p)) where
-      pub trying_next : r ≡ Nowhere → Trying from (k + 1)
+    module _ (h : k < 29) {r : Option ℕ} (is : r ≡ matched (match (pattern (tried_at classes row starts k)) text p)) where
+      pub trying_next : r ≡ None → Trying from (k + 1)
       trying_next e =
           let m = is_none (match (pattern (tried_at classes row starts k)) text p) is e in
           record {
@@ -59,14 +56,14 @@ module _ (text : List ℕ) (p : ℕ) where
                 ∙ ap (λ (i : ℕ). found_in (drop i alternatives) text p) (sym (add-one k));
           }
 
-      pub trying_hit : {n e : ℕ} → n ≡ k + 1 → r ≡ Upto e → By n e ≡ found_in (drop from alternatives) text p
+      pub trying_hit : {n e : ℕ} → n ≡ k + 1 → r ≡ Some e → Some (record { number = n; end = e }) ≡ found_in (drop from alternatives) text p
       unfolding tried_at
       trying_hit {n} {e} ns q =
           let m = is_upto (match (pattern (tried_at classes row starts k)) text p) is q in
-          ap (λ (z : ℕ). By z e) (ns ∙ add-one k)
+          ap (λ (z : ℕ). Some (record { number = z; end = e })) (ns ∙ add-one k)
           ∙ sym
           (t.same ∙ ap (λ (l : List Alternative). found_in l text p) (behind_is v k h)
           ∙ hit (tried_at classes row starts k) (drop (suc k) alternatives) m)
 
-    pub trying_all : 29 ≤ k → Nothing ≡ found_in (drop from alternatives) text p
+    pub trying_all : 29 ≤ k → None ≡ found_in (drop from alternatives) text p
     trying_all h = sym (t.same ∙ ap (λ (l : List Alternative). found_in l text p) (none_behind v k h) ∙ nobody)

@@ -1,46 +1,29 @@
 -- Where the group of an alternative's items starts. Assumes nothing.
-use Prim.Native.Nat.{ℕ, zero, suc, ◌+◌, ◌-◌, ◌%◌, ◌≤◌, ◌<◌}
+use Prim.Native.Nat.{ℕ, suc, ◌-◌, ◌%◌, ◌≤◌}
 use native.Mathlib.Omega.{arith}
-use mathlib.Core.Path.{◌≡◌, refl, sym, ◌∙◌, ap}
+use mathlib.Core.Path.{◌≡◌, refl, ◌∙◌, ap}
 use mathlib.Core.Bool.{Bool, true, false, cond, not}
 use mathlib.Core.List.{List, [], ◌∷◌}
-use lib.ListN.{length, get_or, take, drop, length-take}
+use lib.ListN.{length, take, drop, length-take}
 use lib.Dec.{eqb}
-use borrow.Author.Tests.{eq-eqb, ne_eqb}
+use Rattle.std.specs.List.{take_while}
+use Rattle.lists.specs.Scans.{leading}
+use Rattle.lists.proofs.Scans.{leading_counted}
 use Rattle.tcc_engine.specs.Tables.{in_group}
 use Rattle.tcc_engine.specs.inner.Trying.{part, ungrouped, group_start}
-use Rattle.tcc_engine.proofs.Items.{part_none, part_next}
 
--- none of the items a to i stands in the group
-pub record Seeking (row : List ℕ) (a e i : ℕ) : Type 0 where
-  pub inside : i ≤ e
-  pub same : group_start row a e ≡ group_start row i e
+one_more : (t : Bool) {m n : ℕ} → m ≡ n → cond t (suc m) 0 ≡ cond (not t) 0 (suc n)
+one_more true h = ap suc h
+one_more false h = refl
 
-pub seeking_none : (row : List ℕ) (a e : ℕ) → a ≤ e → Seeking row a e a
-seeking_none row a e h = record { inside = h; same = refl }
+ungrouped_leading : (xs : List ℕ) → leading (λ (x : ℕ). eqb (x % 16) 0) xs ≡ ungrouped xs
+unfolding ungrouped leading
+ungrouped_leading [] = refl
+ungrouped_leading (x ∷ xs) = one_more (eqb (x % 16) 0) (ungrouped_leading xs)
 
-module _ {row : List ℕ} {a e i : ℕ} (s : Seeking row a e i) where
-  module _ (all : e ≤ length row) (h : i < e) where
-    here : (t : Bool) → eqb (get_or row i 0 % 16) 0 ≡ t → group_start row i e ≡ i + cond (not t) 0 (suc (ungrouped (part row (i + 1) e)))
-    unfolding ungrouped
-    here t q =
-        ap (λ (l : List ℕ). i + ungrouped l) (part_next row i e h all)
-        ∙ ap (λ (b : Bool). i + cond (not b) 0 (suc (ungrouped (part row (i + 1) e)))) q
-
-    pub seeking_next : get_or row i 0 % 16 ≡ 0 → Seeking row a e (i + 1)
-    seeking_next q =
-        let z = here true (eq-eqb (get_or row i 0 % 16) 0 q) in
-        record { inside = omega arith; same = omega (arith, s.same, z) }
-
-    pub seeking_hit : (get_or row i 0 % 16 ≡ 0 → ⊥) → i ≡ group_start row a e
-    seeking_hit q = let z = here false (ne_eqb (get_or row i 0 % 16) 0 q) in omega (arith, s.same, z)
-
-  pub seeking_all : e ≤ i → e ≡ group_start row a e
-  unfolding ungrouped
-  seeking_all h =
-      let i_is : i ≡ e = omega (arith, s.inside) in
-      let z : group_start row i e ≡ e + 0 = ap (λ (j : ℕ). group_start row j e) i_is ∙ ap (λ (l : List ℕ). e + ungrouped l) (part_none row e) in
-      omega (arith, s.same, z)
+-- the items before the group, as they are counted
+pub ungrouped_counted : (xs : List ℕ) → length (take_while (λ (x : ℕ). eqb (x % 16) 0) xs) ≡ ungrouped xs
+ungrouped_counted xs = leading_counted (λ (x : ℕ). eqb (x % 16) 0) xs ∙ ungrouped_leading xs
 
 few : (l : List ℕ) → ungrouped l ≤ length l
 unfolding ungrouped

@@ -1,4 +1,6 @@
 -- A stretch of items and the group behind it, item by item. Assumes nothing.
+use Rattle.std.specs.Prelude.{Option, Some, None}
+use Rattle.std.specs.Option.{option_or}
 use Prim.Native.Nat.{ℕ, suc, ◌+◌, ◌-◌, ◌/◌, ◌%◌, ◌≤◌, ◌<◌}
 use native.Mathlib.Omega.{arith}
 use mathlib.Core.Path.{◌≡◌, refl, sym, ◌∙◌, ap}
@@ -9,8 +11,6 @@ use lib.Seq.{drop-cons}
 use lib.Dec.{eqb}
 use borrow.Author.Tests.{eq-eqb, ne_eqb}
 use Rattle.tcc_rules.specs.Patterns.{Range, Pattern, Match, none, upto, or_else, match, holds_at, Item, one, opt, items, optional}
-use Rattle.tcc_engine.specs.declared.Matched.{Matched}
-use Rattle.tcc_engine.specs.declared.Matched.TheVariants.{Nowhere, Upto}
 use Rattle.tcc_engine.specs.Tables.{class_in, item_in}
 use Rattle.tcc_engine.specs.inner.Trying.{part, stretch, matched}
 
@@ -29,16 +29,20 @@ part_next row i g h k =
 
 -- ---- what the engine tells says what the match is
 
-differ : {P : Type 0} {e : ℕ} → Nowhere ≡ Upto e → P
+differ : {P : Type 0} {e : ℕ} → None ≡ Some e → P
 differ h = absurd (let z : ◌≡◌ {A = ℕ} 0 1 = cc in omega arith)
 
-pub is_none : (m : Match) {r : Matched} → r ≡ matched m → r ≡ Nowhere → m ≡ none
+pub is_none : (m : Match) {r : Option ℕ} → r ≡ matched m → r ≡ None → m ≡ none
 is_none none h k = refl
 is_none (upto e) h k = differ (sym k ∙ h)
 
-pub is_upto : (m : Match) {r : Matched} {e : ℕ} → r ≡ matched m → r ≡ Upto e → m ≡ upto e
+pub is_upto : (m : Match) {r : Option ℕ} {e : ℕ} → r ≡ matched m → r ≡ Some e → m ≡ upto e
 is_upto none h k = differ (sym h ∙ k)
 is_upto (upto d) {r} {e} h k = let z : d ≡ e = cc in ap upto z
+
+with_or : (m : Match) (p : ℕ) → option_or (matched m) (Some p) ≡ matched (or_else m (upto p))
+with_or none p = refl
+with_or (upto e) p = refl
 
 module _ (classes row text : List ℕ) where
   item : ℕ → Item
@@ -48,7 +52,7 @@ module _ (classes row text : List ℕ) where
   unfolding stretch match item
   at_end i p = ap (λ (l : List ℕ). match (items (map item l) (optional (map item l))) text p) (part_none row i)
 
-  pub no_item : (i g e p : ℕ) → i ≡ g → g ≡ e → Upto p ≡ matched (match (stretch classes row i g e) text p)
+  pub no_item : (i g e p : ℕ) → i ≡ g → g ≡ e → Some p ≡ matched (match (stretch classes row i g e) text p)
   no_item i g e p h k =
       sym
       (ap (λ (a : ℕ). matched (match (stretch classes row i a e) text p)) (sym h)
@@ -66,19 +70,13 @@ module _ (classes row text : List ℕ) where
       (ap (λ (l : List ℕ). or_else (match (items (map item l) (optional (map item (part row e e)))) text p) (upto p)) (part_next row g e h k)
       ∙ ap (λ (l : List ℕ). or_else (match (items (map item (get_or row g 0 ∷ part row (g + 1) e)) (optional (map item l))) text p) (upto p)) (part_none row e))
 
-  module _ (i g e p : ℕ) (h : i ≡ g) (k : g < e) (l : e ≤ length row) {r : Matched} (is : r ≡ matched (match (stretch classes row g e e) text p)) where
+  module _ (i g e p : ℕ) (h : i ≡ g) (k : g < e) (l : e ≤ length row) {r : Option ℕ} (is : r ≡ matched (match (stretch classes row g e e) text p)) where
     whole : match (stretch classes row i g e) text p ≡ or_else (match (stretch classes row g e e) text p) (upto p)
     whole = ap (λ (a : ℕ). match (stretch classes row a g e) text p) h ∙ group_is g e p k l
 
-    pub with_group : {q : ℕ} → r ≡ Upto q → r ≡ matched (match (stretch classes row i g e) text p)
-    with_group u =
-        let m = is_upto (match (stretch classes row g e e) text p) is u in
-        u ∙ sym (ap matched (whole ∙ ap (λ (z : Match). or_else z (upto p)) m))
-
-    pub without_group : r ≡ Nowhere → Upto p ≡ matched (match (stretch classes row i g e) text p)
-    without_group u =
-        let m = is_none (match (stretch classes row g e e) text p) is u in
-        sym (ap matched (whole ∙ ap (λ (z : Match). or_else z (upto p)) m))
+    -- the group is tried first with and then without a character
+    pub group_or : option_or r (Some p) ≡ matched (match (stretch classes row i g e) text p)
+    group_or = ap (λ (o : Option ℕ). option_or o (Some p)) is ∙ with_or (match (stretch classes row g e e) text p) p ∙ sym (ap matched whole)
 
   -- ---- one item
 
@@ -120,24 +118,24 @@ module _ (classes row text : List ℕ) where
     case_is : (b t : Bool) → eqb (x / 16 % 16) 0 ≡ b → here ≡ t → match (stretch classes row i g e) text p ≡ tried b t behind at_once
     case_is b t u v = seen ∙ ap (λ (z : Bool). tried z here behind at_once) u ∙ ap (λ (z : Bool). tried b z behind at_once) v
 
-    pub needed_not_there : x / 16 % 16 ≡ 0 → here ≡ false → Nowhere ≡ matched (match (stretch classes row i g e) text p)
+    pub needed_not_there : x / 16 % 16 ≡ 0 → here ≡ false → None ≡ matched (match (stretch classes row i g e) text p)
     needed_not_there u v = sym (ap matched (case_is true false (eq-eqb (x / 16 % 16) 0 u) v))
 
-    pub needed_there : {r : Matched} → x / 16 % 16 ≡ 0 → here ≡ true → r ≡ matched (match (stretch classes row (i + 1) g e) text (p + 1)) → r ≡ matched (match (stretch classes row i g e) text p)
+    pub needed_there : {r : Option ℕ} → x / 16 % 16 ≡ 0 → here ≡ true → r ≡ matched (match (stretch classes row (i + 1) g e) text (p + 1)) → r ≡ matched (match (stretch classes row i g e) text p)
     unfolding behind
     needed_there u v w = w ∙ sym (ap matched (case_is true true (eq-eqb (x / 16 % 16) 0 u) v))
 
-    pub optional_not_there : {r : Matched} → (x / 16 % 16 ≡ 0 → ⊥) → here ≡ false → r ≡ matched (match (stretch classes row (i + 1) g e) text p) → r ≡ matched (match (stretch classes row i g e) text p)
+    pub optional_not_there : {r : Option ℕ} → (x / 16 % 16 ≡ 0 → ⊥) → here ≡ false → r ≡ matched (match (stretch classes row (i + 1) g e) text p) → r ≡ matched (match (stretch classes row i g e) text p)
     unfolding at_once
     optional_not_there u v w = w ∙ sym (ap matched (case_is false false (ne_eqb (x / 16 % 16) 0 u) v))
 
-    module _ (u : x / 16 % 16 ≡ 0 → ⊥) (v : here ≡ true) {first : Matched} (w : first ≡ matched (match (stretch classes row (i + 1) g e) text (p + 1))) where
-      pub optional_with : {q : ℕ} → first ≡ Upto q → first ≡ matched (match (stretch classes row i g e) text p)
+    module _ (u : x / 16 % 16 ≡ 0 → ⊥) (v : here ≡ true) {first : Option ℕ} (w : first ≡ matched (match (stretch classes row (i + 1) g e) text (p + 1))) where
+      pub optional_with : {q : ℕ} → first ≡ Some q → first ≡ matched (match (stretch classes row i g e) text p)
       unfolding behind at_once
       optional_with y =
           y ∙ sym (ap matched (case_is false true (ne_eqb (x / 16 % 16) 0 u) v ∙ ap (λ (z : Match). or_else z at_once) (is_upto behind w y)))
 
-      pub optional_without : {r : Matched} → first ≡ Nowhere → r ≡ matched (match (stretch classes row (i + 1) g e) text p) → r ≡ matched (match (stretch classes row i g e) text p)
+      pub optional_without : {r : Option ℕ} → first ≡ None → r ≡ matched (match (stretch classes row (i + 1) g e) text p) → r ≡ matched (match (stretch classes row i g e) text p)
       unfolding behind at_once
       optional_without y r =
           r ∙ sym (ap matched (case_is false true (ne_eqb (x / 16 % 16) 0 u) v ∙ ap (λ (z : Match). or_else z at_once) (is_none behind w y)))

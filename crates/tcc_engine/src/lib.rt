@@ -10,8 +10,6 @@ ghost use Rattle.tcc_engine.specs.Tables.{class_in};
 ghost use Rattle.tcc_engine.specs.inner.Trying.{Classed, Tables, stretch, group_start, tried_at, matched};
 ghost use Rattle.tcc_engine.specs.inner.Trying.{found_in, told_at};
 
-use cells::{narrow, wide};
-
 // The classes of characters, numbered from 00 to 1C, with three ranges each: lo and hi, four
 // hexadecimal digits each, lo above hi for no range.
 pub type Classes = [u32; 87];
@@ -28,20 +26,6 @@ pub const ALTERNATIVES: usize = 29;
 
 pub const AHEAD: usize = 27;
 
-// No match, or a match up to a position.
-#[derive(Clone, Copy)]
-pub enum Matched {
-    Nowhere,
-    Upto(usize),
-}
-
-// No alternative matches, or the first that does: its number, and where its match ends.
-#[derive(Clone, Copy)]
-pub enum Found {
-    Nothing,
-    By { number: u32, end: usize },
-}
-
 // A cluster: the number of the alternative that won, 0 for none, and where the cluster ends.
 #[derive(Clone, Copy)]
 pub struct Won {
@@ -49,165 +33,136 @@ pub struct Won {
     pub end: usize,
 }
 
+// The tables with which clusters are matched: read back, they are the alternatives.
+#[derive(Clone, Copy)]
+pub struct Engine<'a> {
+    pub classes: &'a Classes,
+    pub items: &'a Items,
+    pub starts: &'a Starts,
+    ghost right: { Tables classes.now items.now starts.now },
+}
+
 // Whether a range, lo and hi in one number, has the character.
 fn in_range(range: u32, x: u32) -> bool
     ensures { result ≡ within (range / 65536) (range % 65536) x }
 {
-    if x < range / 65536 {
-        return false;
-    }
-    x <= range % 65536
+    range / 65536 <= x && x <= range % 65536
 }
 
-// Whether a character of the class stands at p.
-fn in_class(classes: &Classes, number: usize, text: &[u32], p: usize) -> bool
-    requires { number < 29 }
-    ensures { result ≡ holds_at (class_in classes.now number) text.now p }
-{
-    if text.len() <= p {
-        return false;
-    }
-    let x = text[p];
-    let at = 3 * number;
-    if in_range(classes[at], x) {
-        return true;
-    }
-    if in_range(classes[at + 1], x) {
-        return true;
-    }
-    in_range(classes[at + 2], x)
-}
-
-// The match of items i to g and then of the group, items g to e, at p. An optional item is tried
-// first with and then without a character, and so is the group.
-fn match_items(
-    classes: &Classes,
-    items: &Items,
-    i: usize,
-    g: usize,
-    e: usize,
-    text: &[u32],
-    p: usize,
-) -> Matched
-    requires { Classed items.now × (i ≤ g) × (g ≤ e) × (e ≤ 195) }
-    ensures { result ≡ matched (match
-        (stretch classes.now items.now i g e) text.now p) }
-{
-    if i == g {
-        if g == e {
-            return Matched::Upto(p);
+impl<'a> Engine<'a> {
+    // Whether a character of the class stands at p.
+    fn in_class(self, number: usize, text: &[u32], p: usize) -> bool
+        requires { number < 29 }
+        ensures { result ≡ holds_at (class_in self.entry.classes.now number) text.now p }
+    {
+        if text.len() <= p {
+            return false;
         }
-        let group = match_items(classes, items, g, e, e, text, p);
-        let Matched::Upto(_) = group else {
-            return Matched::Upto(p);
-        };
-        return group;
+        let x = text[p];
+        let at = 3 * number;
+        if in_range(self.classes[at], x) {
+            return true;
+        }
+        if in_range(self.classes[at + 1], x) {
+            return true;
+        }
+        in_range(self.classes[at + 2], x)
     }
-    let item = items[i];
-    let here = in_class(classes, wide(item / 256), text, p);
-    if item / 16 % 16 == 0 {
+
+    // The match of items i to g and then of the group, items g to e, at p. An optional item is
+    // tried first with and then without a character, and so is the group.
+    fn match_items(self, i: usize, g: usize, e: usize, text: &[u32], p: usize) -> Option<usize>
+        requires { (i ≤ g) × (g ≤ e) × (e ≤ 195) }
+        ensures { result ≡ matched (match
+            (stretch self.entry.classes.now self.entry.items.now i g e) text.now p) }
+    {
+        if i == g {
+            if g == e {
+                return Some(p);
+            }
+            let group = self.match_items(g, e, e, text, p);
+            return group.or(Some(p));
+        }
+        let item = self.items[i];
+        let here = self.in_class((item / 256) as usize, text, p);
+        if item / 16 % 16 == 0 {
+            if !here {
+                return None;
+            }
+            return self.match_items(i + 1, g, e, text, p + 1);
+        }
         if !here {
-            return Matched::Nowhere;
+            return self.match_items(i + 1, g, e, text, p);
         }
-        return match_items(classes, items, i + 1, g, e, text, p + 1);
-    }
-    if !here {
-        return match_items(classes, items, i + 1, g, e, text, p);
-    }
-    let with = match_items(classes, items, i + 1, g, e, text, p + 1);
-    let Matched::Upto(_) = with else {
-        return match_items(classes, items, i + 1, g, e, text, p);
-    };
-    with
-}
-
-// Where the group of items a to e starts: at the first that stands in it, at e where none does.
-fn group_start(items: &Items, a: usize, e: usize) -> usize
-    requires { Classed items.now × (a ≤ e) × (e ≤ 195) }
-    ensures { result ≡ group_start items.now a e }
-{
-    let mut i = a;
-    while i < e {
-        if items[i] % 16 != 0 {
-            return i;
-        }
-        i += 1;
-    }
-    e
-}
-
-// The match of the alternative that stands behind the first k.
-fn match_alternative(
-    classes: &Classes,
-    items: &Items,
-    starts: &Starts,
-    k: usize,
-    text: &[u32],
-    p: usize,
-) -> Matched
-    requires tables { Tables classes.now items.now starts.now }
-    requires k_bound { k < 29 }
-    ensures { result ≡ matched (match
-        (pattern (tried_at classes.now items.now starts.now k)) text.now p) }
-{
-    let a = wide(starts[k]);
-    let e = wide(starts[k + 1]);
-    let g = group_start(items, a, e);
-    match_items(classes, items, a, g, e, text, p)
-}
-
-// The first of the alternatives behind the first `past` that matches at p.
-fn first_behind(
-    classes: &Classes,
-    items: &Items,
-    starts: &Starts,
-    past: usize,
-    text: &[u32],
-    p: usize,
-) -> Found
-    requires { Tables classes.now items.now starts.now }
-    ensures { result ≡ found_in (drop past alternatives) text.now p }
-{
-    let mut k = past;
-    while k < ALTERNATIVES {
-        let here = match_alternative(classes, items, starts, k, text, p);
-        if let Matched::Upto(end) = here {
-            return Found::By {
-                number: narrow(k + 1),
-                end,
-            };
-        }
-        k += 1;
-    }
-    Found::Nothing
-}
-
-// The cluster that starts at p. It is one character shorter where the matched characters also
-// match alternative 28 or 29.
-pub fn next_cluster(
-    classes: &Classes,
-    items: &Items,
-    starts: &Starts,
-    text: &[u32],
-    p: usize,
-) -> Won
-    requires tables { Tables classes.now items.now starts.now }
-    requires p_in_bounds { p < length text.now }
-    ensures { result ≡ told_at text.now p }
-{
-    let found = first_behind(classes, items, starts, 0, text, p);
-    let Found::By { number, end } = found else {
-        return Won {
-            number: 0,
-            end: p + 1,
+        let with = self.match_items(i + 1, g, e, text, p + 1);
+        let Some(_) = with else {
+            return self.match_items(i + 1, g, e, text, p);
         };
-    };
-    let ahead = first_behind(classes, items, starts, AHEAD, &text[..end], p);
-    let Found::By { .. } = ahead else {
-        return Won { number, end };
-    };
-    Won {
-        number,
-        end: end - 1,
+        with
+    }
+
+    // Where the group of items a to e starts: at the first that stands in it, at e where none does.
+    fn group_start(self, a: usize, e: usize) -> usize
+        requires { (a ≤ e) × (e ≤ 195) }
+        ensures { result ≡ group_start self.entry.items.now a e }
+    {
+        let items = self.items;
+        a + items[a..e]
+            .iter()
+            .take_while(|item| **item % 16 == 0)
+            .count()
+    }
+
+    // The match of the alternative that stands behind the first k.
+    fn match_alternative(self, k: usize, text: &[u32], p: usize) -> Option<usize>
+        requires k_bound { k < 29 }
+        ensures { result ≡ matched (match
+            (pattern (tried_at self.entry.classes.now self.entry.items.now self.entry.starts.now k)) text.now p) }
+    {
+        let a = self.starts[k] as usize;
+        let e = self.starts[k + 1] as usize;
+        let g = self.group_start(a, e);
+        self.match_items(a, g, e, text, p)
+    }
+
+    // The first of the alternatives behind the first `past` that matches at p.
+    fn first_behind(self, past: usize, text: &[u32], p: usize) -> Option<Won>
+        ensures { result ≡ found_in (drop past alternatives) text.now p }
+    {
+        let mut k = past;
+        while k < ALTERNATIVES {
+            let here = self.match_alternative(k, text, p);
+            if let Some(end) = here {
+                return Some(Won {
+                    number: k as u32 + 1,
+                    end,
+                });
+            }
+            k += 1;
+        }
+        None
+    }
+
+    // The cluster that starts at p. It is one character shorter where the matched characters also
+    // match alternative 28 or 29.
+    pub fn next_cluster(self, text: &[u32], p: usize) -> Won
+        requires p_in_bounds { p < length text.now }
+        ensures { result ≡ told_at text.now p }
+    {
+        let found = self.first_behind(0, text, p);
+        let Some(won) = found else {
+            return Won {
+                number: 0,
+                end: p + 1,
+            };
+        };
+        let ahead = self.first_behind(AHEAD, &text[..won.end], p);
+        let Some(_) = ahead else {
+            return won;
+        };
+        Won {
+            number: won.number,
+            end: won.end - 1,
+        }
     }
 }

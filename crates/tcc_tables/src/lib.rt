@@ -9,21 +9,19 @@ ghost use Rattle.refusal.specs.Limits.{max_text};
 ghost use Rattle.char_string_scalars.specs.Scalars.{checked};
 ghost use Rattle.tcc_rules.specs.Clusters.{cluster_ends};
 ghost use Rattle.tcc_tables.specs.Answers.{winners_of, Wins};
-ghost use Rattle.tcc_engine.specs.inner.Trying.{Tables};
 
 use char_string_scalars::check_text;
 use refusal::Refusal;
 use tables::{CLASSES, ITEMS, STARTS};
-use tcc_engine::{Classes, Items, Starts, next_cluster};
+use tcc_engine::Engine;
 
-fn count_clusters(classes: &Classes, items: &Items, starts: &Starts, text: &[u32]) -> usize
-    requires { Tables classes.now items.now starts.now }
+fn count_clusters(engine: Engine, text: &[u32]) -> usize
     ensures { result ≡ length (cluster_ends text.now) }
 {
     let mut p = 0;
     let mut n = 0;
     while p < text.len() {
-        let won = next_cluster(classes, items, starts, text, p);
+        let won = engine.next_cluster(text, p);
         p = won.end;
         n += 1;
     }
@@ -31,15 +29,7 @@ fn count_clusters(classes: &Classes, items: &Items, starts: &Starts, text: &[u32
 }
 
 // Writes each cluster's end, and the number of the alternative that won it.
-fn put_clusters(
-    classes: &Classes,
-    items: &Items,
-    starts: &Starts,
-    text: &[u32],
-    ends: &mut [u32],
-    winners: &mut [u32],
-)
-    requires tables { Tables classes.now items.now starts.now }
+fn put_clusters(engine: Engine, text: &[u32], ends: &mut [u32], winners: &mut [u32])
     requires text_len_bound { length text.now ≤ max_text }
     requires text_in_bounds { length (cluster_ends text.now) ≤ length ends.old }
     requires text_in_bounds_2 { length (cluster_ends text.now) ≤ length winners.old }
@@ -51,7 +41,7 @@ fn put_clusters(
     let mut p = 0;
     let mut n = 0;
     while p < text.len() {
-        let won = next_cluster(classes, items, starts, text, p);
+        let won = engine.next_cluster(text, p);
         p = won.end;
         ends[n] = p as u32;
         winners[n] = won.number;
@@ -61,40 +51,39 @@ fn put_clusters(
 
 // What is told of a text that is accepted, by tables that are right.
 fn told_by(
-    classes: &Classes,
-    items: &Items,
-    starts: &Starts,
+    engine: Engine,
     text: &[u32],
     ends: &mut [u32],
     winners: &mut [u32],
 ) -> Result<usize, Refusal>
-    requires tables { Tables classes.now items.now starts.now }
     requires text_value { checked text.now ≡ Ok (length text.now) }
     ensures { Wins text.now ends.old winners.old
         result ends.new winners.new }
 {
-    let needed = count_clusters(classes, items, starts, text);
+    let needed = count_clusters(engine, text);
     if ends.len() < needed {
         return Err(Refusal::OutputTooShort(needed));
     }
     if winners.len() < needed {
         return Err(Refusal::OutputTooShort(needed));
     }
-    put_clusters(classes, items, starts, text, ends, winners);
+    put_clusters(engine, text, ends, winners);
     Ok(needed)
 }
 
 // The ends of the text's clusters, in characters, and for each the number of the alternative that
 // won, 0 where none did; accepted with the number of clusters. Neither row is written if either is
-// too short. A constant is made anew wherever it stands, so the tables are taken once and lent.
+// too short.
 // Refusals 2, 3, 6.
 pub fn tcc_winners(text: &[u32], ends: &mut [u32], winners: &mut [u32]) -> Result<usize, Refusal>
     ensures { Wins text.now ends.old winners.old
         result ends.new winners.new }
 {
     check_text(text)?;
-    let classes = CLASSES;
-    let items = ITEMS;
-    let starts = STARTS;
-    told_by(&classes, &items, &starts, text, ends, winners)
+    let engine = Engine {
+        classes: &CLASSES,
+        items: &ITEMS,
+        starts: &STARTS,
+    };
+    told_by(engine, text, ends, winners)
 }

@@ -2,7 +2,7 @@
 // docs/ASSESSMENT.md has them beside the Rust's patterns.
 use tcc_engine::{Classes, Items, Starts};
 
-pub const CLASSES: Classes = [
+pub static CLASSES: Classes = [
     // 00: c
     0x0E01_0E2E,
     0x0001_0000,
@@ -121,7 +121,7 @@ pub const CLASSES: Classes = [
     0x0001_0000,
 ];
 
-pub const ITEMS: Items = [
+pub static ITEMS: Items = [
     // 1: เc็ck
     0x03_0_0, 0x00_0_0, 0x04_0_0, 0x00_0_0, 0x00_0_1, 0x00_1_1, 0x02_1_1, 0x0A_0_1,
     // 2: เcctาะk
@@ -189,7 +189,7 @@ pub const ITEMS: Items = [
     0x0A_0_1,
 ];
 
-pub const STARTS: Starts = [
+pub static STARTS: Starts = [
     0, 8, 18, 29, 38, 48, 57, 67, 77, 86, 95, 104, 111, 118, 125, 127, 134, 139, 143, 147, 151,
     156, 161, 165, 168, 170, 172, 174, 185, 195,
 ];

@@ -1,12 +1,8 @@
 -- What the engine tries, and what it asks of the tables.
-use Rattle.std.specs.Prelude.{ℕ, suc, ◌+◌, ◌-◌, ◌/◌, ◌≡◌, Bool, true, cond, ◌&&◌, List, [], ◌∷◌, map, length, get_or, take, drop, T, ltb, leb}
+use Rattle.std.specs.Prelude.{ℕ, suc, ◌+◌, ◌-◌, ◌/◌, ◌≡◌, Bool, true, cond, ◌&&◌, List, [], ◌∷◌, map, length, get_or, take, drop, T, ltb, leb, Option, Some, None}
 use Rattle.tcc_rules.specs.Patterns.{Pattern, Match, none, upto, match, items, optional, Alternative, first_of, winner}
 use Rattle.tcc_rules.specs.Rules.{alternatives}
 use Rattle.tcc_rules.specs.Clusters.{cluster_end}
-use Rattle.tcc_engine.specs.declared.Matched.{Matched}
-use Rattle.tcc_engine.specs.declared.Matched.TheVariants.{Nowhere, Upto}
-use Rattle.tcc_engine.specs.declared.Found.{Found}
-use Rattle.tcc_engine.specs.declared.Found.TheVariants.{Nothing, By}
 use Rattle.tcc_engine.specs.declared.Won.{Won}
 use Rattle.tcc_engine.specs.Tables.{item_in, in_group, alternatives_from, ReadBack}
 
@@ -66,15 +62,15 @@ pub record Tables (classes row starts : List ℕ) : Type 0 where
   pub rising : T (stepped 195 0 starts)
 
 -- a match, and the first of several, as the engine tells them
-abbrev pub matched : Match → Matched
-matched none = Nowhere
-matched (upto e) = Upto e
+abbrev pub matched : Match → Option ℕ
+matched none = None
+matched (upto e) = Some e
 
-abbrev pub found : ℕ → Match → Found
-found number none = Nothing
-found number (upto e) = By number e
+abbrev pub found : ℕ → Match → Option Won
+found number none = None
+found number (upto e) = Some (record { number = number; end = e })
 
-unfoldable pub found_in : List Alternative → List ℕ → ℕ → Found
+unfoldable pub found_in : List Alternative → List ℕ → ℕ → Option Won
 found_in as' text p = found (winner as' text p) (match (first_of as') text p)
 
 -- the cluster that starts at p

@@ -15,9 +15,12 @@ returns-in_err-check_text c =
     )
 
 -- THE TABLES' RULE, computed: read back, they are the alternatives.
-pub told_by-requires : goal.told_by-requires
+pub invariant_of-engine : goal.invariant_of-engine
 unfolding part ungrouped tried_at
-told_by-requires c = record { tables = record { right = refl; tried = refl; classed = record { many = refl; all = tt }; ends = refl; rising = tt }; text_value = passed c.args.text.now c.check_text.ensures c.in_ok-check_text.was }
+invariant_of-engine c = record { right = record { right = refl; tried = refl; classed = record { many = refl; all = tt }; ends = refl; rising = tt } }
+
+pub told_by-requires : goal.told_by-requires
+told_by-requires c = record { text_value = passed c.args.text.now c.check_text.ensures c.in_ok-check_text.was }
 
 pub returns : goal.returns
 returns c = c.told_by.ensures

@@ -21,7 +21,6 @@ returns-then-winners-needed c = (
 pub put_clusters-requires : goal.put_clusters-requires
 put_clusters-requires c =
     record {
-      tables = c.requires.tables;
       text_len_bound = (right c.args.text.now c.requires.text_value).small;
       text_in_bounds = omega (arith, c.count_clusters-needed.ensures, c.if-ends-needed.false);
       text_in_bounds_2 = omega

@@ -1,6 +1,6 @@
 use Prim.Native.Nat.{◌-◌}
 use Rattle.tcc_engine.proofs.Finding.{Trying}
-use Rattle.tcc_engine.proofs.first_behind.Given as goal
+use Rattle.tcc_engine.proofs.Engine.first_behind.Given as goal
 
 abbrev pub invariant-loop-k : goal.invariant-loop-k
 invariant-loop-k l = Trying l.text l.p l.past l.k
