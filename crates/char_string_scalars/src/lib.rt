@@ -6,29 +6,21 @@ ghost use Rattle.char_string_scalars.specs.Scalars.{is_scalar, first_non_scalar,
 
 use refusal::{MAX_SCALARS, Refusal};
 
+#[tactic(auto, unfolding(crate::specs::Scalars::is_scalar))]
 pub fn is_scalar(x: u32) -> bool
     ensures { result ≡ is_scalar x }
 {
-    if x < 0xD800 {
-        return true;
-    }
-    if x < 0xE000 {
-        return false;
-    }
-    x <= 0x10FFFF
+    matches!(x, 0..=0xD7FF | 0xE000..=0x10FFFF)
 }
 
 // The highest cell, 0 where there is none.
 fn highest(cells: &[u32]) -> u32
     ensures { (a : ℕ) → get_or cells.now a 0 ≤ result }
 {
-    let mut most: u32 = 0;
-    let mut i: usize = 0;
-    while i < cells.len() {
-        let x = cells[i];
-        i += 1;
-        if most < x {
-            most = x;
+    let mut most = 0;
+    for x in cells {
+        if most < *x {
+            most = *x;
         }
     }
     most
@@ -41,14 +33,7 @@ pub fn first_non_scalar(cells: &[u32]) -> usize
     if highest(cells) < 0xD800 {
         return cells.len();
     }
-    let mut i = 0;
-    while i < cells.len() {
-        if !is_scalar(cells[i]) {
-            return i;
-        }
-        i += 1;
-    }
-    i
+    cells.iter().take_while(|x| is_scalar(**x)).count()
 }
 
 // Refusals 2 and 3, which every operation on a text gives first; accepted with the text's length.

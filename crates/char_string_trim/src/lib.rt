@@ -12,28 +12,17 @@ use char_string_white_space::is_trimmed;
 fn trim_start(word: &[u32]) -> usize
     ensures { result ≡ trim_start word.now }
 {
-    let mut i = 0;
-    while i < word.len() {
-        if !is_trimmed(word[i]) {
-            return i;
-        }
-        i += 1;
-    }
-    i
+    word.iter().take_while(|x| is_trimmed(**x)).count()
 }
 
 // How many characters are left once those at the back are stripped.
 fn kept(word: &[u32]) -> usize
     ensures { result ≡ behind_last stays word.now }
 {
-    let mut e = word.len();
-    while 0 < e {
-        if !is_trimmed(word[e - 1]) {
-            return e;
-        }
-        e -= 1;
+    match word.iter().rposition(|x| !is_trimmed(*x)) {
+        Some(last) => last + 1,
+        None => 0,
     }
-    e
 }
 
 // The positions between which the trimmed word stands.

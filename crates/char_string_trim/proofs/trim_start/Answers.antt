@@ -1,21 +1,15 @@
-use Prim.Native.Nat.{◌-◌}
-use mathlib.Core.Path.{sym, ◌∙◌}
-use Rattle.lists.proofs.Scans.{passed_none, passed_more, passed_stop, passed_all}
+use mathlib.Core.Path.{◌∙◌}
+use borrow.Author.Tests.{tests}
+use Rattle.std.proofs.Common.{rules}
+use Rattle.std.proofs.lemmas.Iterator.{YieldsList-from_slice}
+use Rattle.std.proofs.lemmas.Iterator.Search.{YieldsList-from_take_while}
+use Rattle.std.proofs.lemmas.Iterator.Consumers.{count_from_yields_List}
+use Rattle.lists.proofs.Scans.{leading_counted}
 use Rattle.char_string_white_space.specs.Trimmed.{is_trimmed}
 use Rattle.char_string_trim.proofs.trim_start.Goals as goal
 
-pub loop-i-init : goal.loop-i-init
-loop-i-init c = passed_none _ _
-
-pub returns-then-not-is_trimmed : goal.returns-then-not-is_trimmed
-returns-then-not-is_trimmed c =
-    passed_stop c.loop-i.invariant c.loop-i-test.true
-    (sym c.is_trimmed.ensures ∙ c.if-not-is_trimmed.true)
-
-pub loop-i-preserved : goal.loop-i-preserved
-loop-i-preserved c =
-    passed_more c.loop-i.invariant c.loop-i-test.true
-    (sym c.is_trimmed.ensures ∙ c.if-not-is_trimmed.false)
-
 pub returns : goal.returns
-returns c = passed_all c.loop-i.invariant c.loop-i-test.false
+returns c =
+    count_from_yields_List c.take_while.result _ c.count.ensures.ran
+    (YieldsList-from_take_while _ is_trimmed (YieldsList-from_slice c.args.word.now cc) c.take_while.ensures.closure c.take_while.ensures.done (λ x b q k. search (rules, tests)))
+    ∙ leading_counted is_trimmed c.args.word.now
