@@ -1,6 +1,10 @@
 // The functions for hosts, written in C or Rust, which link them from fetlockice_c: each hands its
-// call on to the function of the same name in a host_ crate, and has that function's contract. No
-// struct crosses.
+// call on to a function of a host_ crate, with its mode and its plant where it has one, and has that
+// function's contract. No struct crosses.
+// Kept: (2) C knows names and no enums, so each mode has an export, and fetlockice_c exports each
+// once more: no other crate can stand on the static library, and theorems speak of this one.
+// Kept: (1) C has no `Plant`: an export takes `plant_b`, and hands on what `whose` makes of it.
+// Kept: (6) the slices and references are those of the C interface.
 #![tactic(auto)]
 
 mod claims;

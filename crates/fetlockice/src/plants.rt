@@ -8,6 +8,7 @@ ghost use Rattle.host_plants.specs.Calls.{PlantContainsTold, PlantPrefixesTold, 
 ghost use Rattle.host_plants_cuts.specs.Calls.{PlantCutTold, PlantReasonsTold};
 ghost use Rattle.host_plants_images.specs.Calls.{PlantReadImageTold, PlantWriteImageTold};
 
+use host_plants::whose;
 use newmm_rules::Mode::{Plain, Safe, Sheet};
 
 // Makes two dictionaries without words, each with a limit in nodes, whatever the cells held before.
@@ -38,7 +39,8 @@ pub fn fetlockice_plant_add(
     ensures { PlantAddTold (plant_of plant_b) word.now class pool.old
         (told result count.new detail.new) pool.new }
 {
-    host_plants::add(pool, plant_b, word, class, count, detail)
+    let plant = whose(plant_b);
+    host_plants::add(pool, plant, word, class, count, detail)
 }
 
 // Removes the trimmed word from a plant's own; accepted with 1 if its words changed, else 0.
@@ -53,7 +55,8 @@ pub fn fetlockice_plant_remove(
     ensures { PlantRemoveTold (plant_of plant_b) word.now pool.old
         (told result count.new detail.new) pool.new }
 {
-    host_plants::remove(pool, plant_b, word, count, detail)
+    let plant = whose(plant_b);
+    host_plants::remove(pool, plant, word, count, detail)
 }
 
 // Accepted with 1 if the plant holds the word as it is, else 0; and the word's class: 0 with a no
@@ -69,7 +72,8 @@ pub fn fetlockice_plant_contains(
     ensures { PlantContainsTold (plant_of plant_b) word.now pool.now
         (told result count.new detail.new) class.new }
 {
-    host_plants::contains(pool, plant_b, word, count, class, detail)
+    let plant = whose(plant_b);
+    host_plants::contains(pool, plant, word, count, class, detail)
 }
 
 // The lengths of the plant's words that a text starts with, rising, at the front of out; accepted
@@ -85,7 +89,8 @@ pub fn fetlockice_plant_prefix_lengths(
     ensures { PlantPrefixesTold (plant_of plant_b) text.now pool.now out.old
         (told result count.new detail.new) out.new }
 {
-    host_plants::prefix_lengths(pool, plant_b, text, out, count, detail)
+    let plant = whose(plant_b);
+    host_plants::prefix_lengths(pool, plant, text, out, count, detail)
 }
 
 // Accepted with the number of the plant's words. Refusal 4.
@@ -98,7 +103,8 @@ pub fn fetlockice_plant_word_count(
     ensures { PlantWordCountTold (plant_of plant_b) pool.now
         (told result count.new detail.new) }
 {
-    host_plants::word_count(pool, plant_b, count, detail)
+    let plant = whose(plant_b);
+    host_plants::word_count(pool, plant, count, detail)
 }
 
 // Cuts a text plainly by the words of a plant: the ends of its tokens, in characters, at the front
@@ -118,9 +124,8 @@ pub fn fetlockice_plant_cut_plain(
         (told_cut result count.new edges.new detail.new)
         out.new scratch.new }
 {
-    host_plants_cuts::cut(
-        text, pool, plant_b, out, scratch, Plain, count, edges, detail,
-    )
+    let plant = whose(plant_b);
+    host_plants_cuts::cut(text, pool, plant, out, scratch, Plain, count, edges, detail)
 }
 
 // The same in safe mode.
@@ -139,9 +144,8 @@ pub fn fetlockice_plant_cut_safe(
         (told_cut result count.new edges.new detail.new)
         out.new scratch.new }
 {
-    host_plants_cuts::cut(
-        text, pool, plant_b, out, scratch, Safe, count, edges, detail,
-    )
+    let plant = whose(plant_b);
+    host_plants_cuts::cut(text, pool, plant, out, scratch, Safe, count, edges, detail)
 }
 
 // The same by the profile "sheet".
@@ -160,9 +164,8 @@ pub fn fetlockice_plant_cut_sheet(
         (told_cut result count.new edges.new detail.new)
         out.new scratch.new }
 {
-    host_plants_cuts::cut(
-        text, pool, plant_b, out, scratch, Sheet, count, edges, detail,
-    )
+    let plant = whose(plant_b);
+    host_plants_cuts::cut(text, pool, plant, out, scratch, Sheet, count, edges, detail)
 }
 
 // Cuts a text plainly by the words of a plant, with reasons: for each token a pair of cells at the
@@ -183,8 +186,9 @@ pub fn fetlockice_plant_reasons_plain(
         (told_cut result count.new edges.new detail.new)
         pairs.new scratch.new }
 {
+    let plant = whose(plant_b);
     host_plants_cuts::cut_reasons(
-        text, pool, plant_b, pairs, scratch, Plain, count, edges, detail,
+        text, pool, plant, pairs, scratch, Plain, count, edges, detail,
     )
 }
 
@@ -204,8 +208,9 @@ pub fn fetlockice_plant_reasons_safe(
         (told_cut result count.new edges.new detail.new)
         pairs.new scratch.new }
 {
+    let plant = whose(plant_b);
     host_plants_cuts::cut_reasons(
-        text, pool, plant_b, pairs, scratch, Safe, count, edges, detail,
+        text, pool, plant, pairs, scratch, Safe, count, edges, detail,
     )
 }
 
@@ -225,8 +230,9 @@ pub fn fetlockice_plant_reasons_sheet(
         (told_cut result count.new edges.new detail.new)
         pairs.new scratch.new }
 {
+    let plant = whose(plant_b);
     host_plants_cuts::cut_reasons(
-        text, pool, plant_b, pairs, scratch, Sheet, count, edges, detail,
+        text, pool, plant, pairs, scratch, Sheet, count, edges, detail,
     )
 }
 
@@ -242,7 +248,8 @@ pub fn fetlockice_plant_read_image(
     ensures { PlantReadImageTold (plant_of plant_b) image.now pool.old
         (told result count.new detail.new) pool.new }
 {
-    host_plants_images::read_image(pool, plant_b, image, count, detail)
+    let plant = whose(plant_b);
+    host_plants_images::read_image(pool, plant, image, count, detail)
 }
 
 // Writes the words of a plant and their classes as an image to the front of out; accepted with its
@@ -257,5 +264,6 @@ pub fn fetlockice_plant_write_image(
     ensures { PlantWriteImageTold (plant_of plant_b) pool.now out.old
         (told result count.new detail.new) out.new }
 {
-    host_plants_images::write_image(pool, plant_b, out, count, detail)
+    let plant = whose(plant_b);
+    host_plants_images::write_image(pool, plant, out, count, detail)
 }

@@ -6,6 +6,7 @@ ghost use Rattle.host_telling.specs.Told.{told};
 ghost use Rattle.host_plants.specs.Calls.{plant_of};
 ghost use Rattle.host_plants_many.specs.Calls.{PlantManyTold, PlantManyReasonsTold};
 
+use host_plants::whose;
 use newmm_rules::Mode::{Plain, Safe, Sheet};
 
 // Cuts many texts plainly by the words of a plant, with one check of the pool. They stand joined in
@@ -29,8 +30,9 @@ pub fn fetlockice_plant_cut_many_plain(
         (told result count.new detail.new)
         answers.new out.new scratch.new }
 {
+    let plant = whose(plant_b);
     host_plants_many::cut_many(
-        texts, text_ends, pool, plant_b, answers, out, scratch, Plain, count, detail,
+        texts, text_ends, pool, plant, answers, out, scratch, Plain, count, detail,
     )
 }
 
@@ -52,8 +54,9 @@ pub fn fetlockice_plant_cut_many_safe(
         (told result count.new detail.new)
         answers.new out.new scratch.new }
 {
+    let plant = whose(plant_b);
     host_plants_many::cut_many(
-        texts, text_ends, pool, plant_b, answers, out, scratch, Safe, count, detail,
+        texts, text_ends, pool, plant, answers, out, scratch, Safe, count, detail,
     )
 }
 
@@ -75,8 +78,9 @@ pub fn fetlockice_plant_cut_many_sheet(
         (told result count.new detail.new)
         answers.new out.new scratch.new }
 {
+    let plant = whose(plant_b);
     host_plants_many::cut_many(
-        texts, text_ends, pool, plant_b, answers, out, scratch, Sheet, count, detail,
+        texts, text_ends, pool, plant, answers, out, scratch, Sheet, count, detail,
     )
 }
 
@@ -101,8 +105,9 @@ pub fn fetlockice_plant_reasons_many_plain(
         (told result count.new detail.new)
         answers.new pairs.new scratch.new }
 {
+    let plant = whose(plant_b);
     host_plants_many::cut_reasons_many(
-        texts, text_ends, pool, plant_b, answers, pairs, scratch, Plain, count, detail,
+        texts, text_ends, pool, plant, answers, pairs, scratch, Plain, count, detail,
     )
 }
 
@@ -124,8 +129,9 @@ pub fn fetlockice_plant_reasons_many_safe(
         (told result count.new detail.new)
         answers.new pairs.new scratch.new }
 {
+    let plant = whose(plant_b);
     host_plants_many::cut_reasons_many(
-        texts, text_ends, pool, plant_b, answers, pairs, scratch, Safe, count, detail,
+        texts, text_ends, pool, plant, answers, pairs, scratch, Safe, count, detail,
     )
 }
 
@@ -147,7 +153,8 @@ pub fn fetlockice_plant_reasons_many_sheet(
         (told result count.new detail.new)
         answers.new pairs.new scratch.new }
 {
+    let plant = whose(plant_b);
     host_plants_many::cut_reasons_many(
-        texts, text_ends, pool, plant_b, answers, pairs, scratch, Sheet, count, detail,
+        texts, text_ends, pool, plant, answers, pairs, scratch, Sheet, count, detail,
     )
 }

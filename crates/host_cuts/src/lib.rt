@@ -5,6 +5,8 @@ ghost use Rattle.newmm_answers.specs.Calls.{call};
 ghost use Rattle.host_telling.specs.Told.{told_cut};
 ghost use Rattle.host_cuts.specs.Calls.{CutTold};
 
+// Kept: (2) the cut with reasons (host_reasons), those of a plant (host_plants_cuts) and those of many
+// texts differ in the library's function and in what it promises; alike are one call and the telling.
 use host_telling::tell_cut;
 use newmm_rules::Mode;
 

@@ -12,7 +12,8 @@ use trie_plants::Plant;
 use trie_plants_change::{add_in, remove_in};
 use trie_plants_read::{amount_of_words_in, contain_in, prefix_lengths_in};
 
-// Which plant a host means.
+// Which plant a host means by its flag.
+// Kept: (1), (4) the flag is C's. `Plant::from(true)` would not say which plant true is.
 pub fn whose(b: bool) -> Plant
     ensures { result ≡ plant_of b }
 {
@@ -39,27 +40,31 @@ pub fn start(
 // classes changed, else 0. Refusals 2, 3, 4, 7, 8.
 pub fn add(
     pool: &mut [u32],
-    b: bool,
+    plant: Plant,
     word: &[u32],
     class: u16,
     count: &mut usize,
     detail: &mut usize,
 ) -> u32
-    ensures { PlantAddTold (plant_of b) word.now class pool.old
+    ensures { PlantAddTold plant word.now class pool.old
         (told result count.new detail.new) pool.new }
 {
-    let plant = whose(b);
     let added = add_in(pool, plant, word, class);
     tell(added, count, detail)
 }
 
 // Removes the trimmed word from a plant's own; accepted with 1 if its words changed, else 0.
 // Refusals 2, 3, 4, 7.
-pub fn remove(pool: &mut [u32], b: bool, word: &[u32], count: &mut usize, detail: &mut usize) -> u32
-    ensures { PlantRemoveTold (plant_of b) word.now pool.old
+pub fn remove(
+    pool: &mut [u32],
+    plant: Plant,
+    word: &[u32],
+    count: &mut usize,
+    detail: &mut usize,
+) -> u32
+    ensures { PlantRemoveTold plant word.now pool.old
         (told result count.new detail.new) pool.new }
 {
-    let plant = whose(b);
     let removed = remove_in(pool, plant, word);
     tell(removed, count, detail)
 }
@@ -68,16 +73,15 @@ pub fn remove(pool: &mut [u32], b: bool, word: &[u32], count: &mut usize, detail
 // and with a refusal. Refusals 2, 3, 4.
 pub fn contains(
     pool: &[u32],
-    b: bool,
+    plant: Plant,
     word: &[u32],
     count: &mut usize,
     class: &mut usize,
     detail: &mut usize,
 ) -> u32
-    ensures { PlantContainsTold (plant_of b) word.now pool.now
+    ensures { PlantContainsTold plant word.now pool.now
         (told result count.new detail.new) class.new }
 {
-    let plant = whose(b);
     let classed = contain_in(pool, plant, word);
     *class = class_of(classed);
     tell(held(classed), count, detail)
@@ -87,26 +91,24 @@ pub fn contains(
 // with their number. Refusals 2, 3, 4, 6.
 pub fn prefix_lengths(
     pool: &[u32],
-    b: bool,
+    plant: Plant,
     text: &[u32],
     out: &mut [u32],
     count: &mut usize,
     detail: &mut usize,
 ) -> u32
-    ensures { PlantPrefixesTold (plant_of b) text.now pool.now out.old
+    ensures { PlantPrefixesTold plant text.now pool.now out.old
         (told result count.new detail.new) out.new }
 {
-    let plant = whose(b);
     let lengths = prefix_lengths_in(pool, plant, text, out);
     tell(lengths, count, detail)
 }
 
 // Accepted with the number of the plant's words. Refusal 4.
-pub fn word_count(pool: &[u32], b: bool, count: &mut usize, detail: &mut usize) -> u32
-    ensures { PlantWordCountTold (plant_of b) pool.now
+pub fn word_count(pool: &[u32], plant: Plant, count: &mut usize, detail: &mut usize) -> u32
+    ensures { PlantWordCountTold plant pool.now
         (told result count.new detail.new) }
 {
-    let plant = whose(b);
     let words = amount_of_words_in(pool, plant);
     tell(words, count, detail)
 }

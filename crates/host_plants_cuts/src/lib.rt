@@ -3,21 +3,20 @@
 
 ghost use Rattle.newmm_answers.specs.Calls.{call};
 ghost use Rattle.host_telling.specs.Told.{told_cut};
-ghost use Rattle.host_plants.specs.Calls.{plant_of};
 ghost use Rattle.host_plants_cuts.specs.Calls.{PlantCutTold, PlantReasonsTold};
 
-use host_plants::whose;
 use host_telling::tell_cut;
 use newmm_plants::cut_in;
 use newmm_plants_reasons::cut_reasons_in;
 use newmm_rules::Mode;
+use trie_plants::Plant;
 
 // Cuts a text in a mode by the words of a plant: the ends of its tokens, in characters, at the front
 // of out; accepted with their number and that of the edges. Refusals 2 to 6.
 pub fn cut(
     text: &[u32],
     pool: &[u32],
-    b: bool,
+    plant: Plant,
     out: &mut [u32],
     scratch: &mut [u32],
     mode: Mode,
@@ -25,12 +24,11 @@ pub fn cut(
     edges: &mut usize,
     detail: &mut usize,
 ) -> u32
-    ensures { PlantCutTold (plant_of b)
+    ensures { PlantCutTold plant
         (call text.now pool.now out.old scratch.old mode)
         (told_cut result count.new edges.new detail.new)
         out.new scratch.new }
 {
-    let plant = whose(b);
     let ends = cut_in(text, pool, plant, out, scratch, mode);
     tell_cut(ends, count, edges, detail)
 }
@@ -42,7 +40,7 @@ pub fn cut(
 pub fn cut_reasons(
     text: &[u32],
     pool: &[u32],
-    b: bool,
+    plant: Plant,
     pairs: &mut [u32],
     scratch: &mut [u32],
     mode: Mode,
@@ -50,12 +48,11 @@ pub fn cut_reasons(
     edges: &mut usize,
     detail: &mut usize,
 ) -> u32
-    ensures { PlantReasonsTold (plant_of b)
+    ensures { PlantReasonsTold plant
         (call text.now pool.now pairs.old scratch.old mode)
         (told_cut result count.new edges.new detail.new)
         pairs.new scratch.new }
 {
-    let plant = whose(b);
     let reasons = cut_reasons_in(text, pool, plant, pairs, scratch, mode);
     tell_cut(reasons, count, edges, detail)
 }

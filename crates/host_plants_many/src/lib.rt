@@ -3,13 +3,12 @@
 
 ghost use Rattle.newmm_many_answers.specs.Calls.{many_call};
 ghost use Rattle.host_telling.specs.Told.{told};
-ghost use Rattle.host_plants.specs.Calls.{plant_of};
 ghost use Rattle.host_plants_many.specs.Calls.{PlantManyTold, PlantManyReasonsTold};
 
-use host_plants::whose;
 use host_telling::tell;
 use newmm_plants_many::{cut_many_in, cut_reasons_many_in};
 use newmm_rules::Mode;
+use trie_plants::Plant;
 
 // Cuts many texts in a mode by the words of a plant, with one check of the pool. They stand joined in
 // texts, and end there at text_ends. Four cells of answers for each text: number, count, edges,
@@ -19,7 +18,7 @@ pub fn cut_many(
     texts: &[u32],
     text_ends: &[u32],
     pool: &[u32],
-    b: bool,
+    plant: Plant,
     answers: &mut [u32],
     out: &mut [u32],
     scratch: &mut [u32],
@@ -27,13 +26,12 @@ pub fn cut_many(
     count: &mut usize,
     detail: &mut usize,
 ) -> u32
-    ensures { PlantManyTold (plant_of b)
+    ensures { PlantManyTold plant
         (many_call texts.now text_ends.now pool.now
         answers.old out.old scratch.old mode)
         (told result count.new detail.new)
         answers.new out.new scratch.new }
 {
-    let plant = whose(b);
     let cuts = cut_many_in(texts, text_ends, pool, plant, answers, out, scratch, mode);
     tell(cuts, count, detail)
 }
@@ -46,7 +44,7 @@ pub fn cut_reasons_many(
     texts: &[u32],
     text_ends: &[u32],
     pool: &[u32],
-    b: bool,
+    plant: Plant,
     answers: &mut [u32],
     pairs: &mut [u32],
     scratch: &mut [u32],
@@ -54,13 +52,12 @@ pub fn cut_reasons_many(
     count: &mut usize,
     detail: &mut usize,
 ) -> u32
-    ensures { PlantManyReasonsTold (plant_of b)
+    ensures { PlantManyReasonsTold plant
         (many_call texts.now text_ends.now pool.now
         answers.old pairs.old scratch.old mode)
         (told result count.new detail.new)
         answers.new pairs.new scratch.new }
 {
-    let plant = whose(b);
     let reasons = cut_reasons_many_in(texts, text_ends, pool, plant, answers, pairs, scratch, mode);
     tell(reasons, count, detail)
 }

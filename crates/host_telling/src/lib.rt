@@ -5,6 +5,8 @@
 ghost use Rattle.std.specs.Prelude.{◌≡◌};
 ghost use Rattle.host_telling.specs.Told.{told, told_cut, tells, tells_cut};
 
+// Kept: (5) count, edges and detail are places that C lends one by one: a struct of references would
+// be made in each call and taken apart in the next.
 use newmm_rules::Ends;
 use refusal::Refusal;
 

@@ -6,6 +6,8 @@ ghost use Rattle.host_telling.specs.Told.{told};
 ghost use Rattle.host_words.specs.Calls.{FreshTold, AddTold, RemoveTold, held_answer, class_told};
 ghost use Rattle.host_words.specs.Calls.{ContainsTold, ContainsClassTold, PrefixesTold, WordCountTold};
 
+// Kept: (2) a call for a plant (host_plants, host_plants_images) differs in the library's function and
+// in what it promises; alike are one call and the telling, and a trait for both is longer than both.
 use host_telling::tell;
 use refusal::Refusal;
 use trie_char_read::{amount_of_words, contain};
