@@ -7,9 +7,10 @@
 use image_record::{Record, record_at};
 use refusal::Refusal;
 use sheet_bytes::front;
-use sheet_io::{Got, read_some, write_whole};
+use sheet_io::{Failure, read_some, write_whole};
+use std::fmt;
 use std::io::{Read, Write};
-use word_lines::write_line;
+use word_lines::{LineError, write_line};
 use word_list::read_image;
 
 // An image has fewer bytes.
@@ -21,81 +22,80 @@ const POOL: usize = 262144;
 // A word of 255 characters, a tab, five digits and a line feed.
 const LINE: usize = 1027;
 
+// Why the words are not listed.
+#[derive(Drop)]
+enum Stop {
+    Io(Failure),
+    TooLong,
+    Image(Refusal),
+}
+
+impl From<Failure> for Stop {
+    fn from(failure: Failure) -> Stop {
+        Stop::Io(failure)
+    }
+}
+
+impl fmt::Display for Stop {
+    fn fmt<W: fmt::Write>(&self, f: &mut fmt::Formatter<W>) -> fmt::Result {
+        match self {
+            Stop::Io(failure) => write!(f, "{failure}"),
+            Stop::TooLong => f.write_str("the image is too long"),
+            Stop::Image(refusal) => {
+                let error = LineError::Refused(*refusal);
+                write!(f, "{error}")
+            }
+        }
+    }
+}
+
 fn main(rt: HostRuntime) {
-    let mut image = [0u8; IMAGE];
+    if let Err(stop) = list_words(&mut rt.stdin(), &mut rt.stdout()) {
+        let _ = println!(rt.stderr(); "image_words: {stop}");
+    }
+}
+
+// Reads the image, and lists its words.
+fn list_words<R: Read, W: Write>(input: &mut R, output: &mut W) -> Result<(), Stop> {
+    let mut row = [0u8; IMAGE];
     let mut pool = [0u32; POOL];
-    let mut input = rt.stdin();
-    let mut output = rt.stdout();
-    let told = rt.stderr();
-    let got = read_all(&told, &mut input, &mut image);
-    let Got::Bytes(n) = got else {
-        return;
-    };
+    let n = read_all(input, &mut row)?;
     if IMAGE <= n {
-        let _ = println!(told; "image_words: the image is too long");
-        return;
+        return Err(Stop::TooLong);
     }
     trie_char::fresh(&mut pool);
-    let answer = read_image(&mut pool, front(&image, n));
-    match answer {
+    let image = front(&row, n);
+    match read_image(&mut pool, image) {
         Ok(_) => {
-            list(&told, &mut output, front(&image, n));
+            list(output, image)?;
+            Ok(())
         }
-        Err(r) => tell_refusal(&told, r),
+        Err(refusal) => Err(Stop::Image(refusal)),
     }
 }
 
 // Reads to the end of the input, or until the row is full.
-fn read_all<P: Print, R: Read>(told: &P, input: &mut R, image: &mut [u8]) -> Got {
+fn read_all<R: Read>(input: &mut R, image: &mut [u8]) -> Result<usize, Failure> {
     let mut n = 0;
     while n < image.len() {
-        let got = read_some(
-            told,
-            input,
-            &mut image[n..],
-            b"image_words: reading standard input",
-        );
-        let Got::Bytes(k) = got else {
-            return Got::Failed;
-        };
+        let k = read_some(input, &mut image[n..])?;
         if k == 0 {
-            return Got::Bytes(n);
-        }
-        if image.len() - n <= k {
-            return Got::Bytes(image.len());
+            return Ok(n);
         }
         n += k;
     }
-    Got::Bytes(n)
+    Ok(n)
 }
 
-// Writes the words of an image that is right; false where a write fails.
-fn list<P: Print, W: Write>(told: &P, output: &mut W, image: &[u8]) -> bool {
+// Writes the words of an image that is right.
+fn list<W: Write>(output: &mut W, image: &[u8]) -> Result<(), Failure> {
     let mut line = [0u8; LINE];
     let mut at = 0;
-    while at < image.len() {
-        let Some(found) = record_at(image, at) else {
-            return true;
-        };
-        let Record::Word { class, from, to } = found else {
-            return true;
-        };
+    // Kept: (3) a record says where the next begins.
+    while let Some(Record::Word { class, from, to }) = record_at(image, at) {
         let n = write_line(&image[from..to], class, &mut line);
-        if !write_whole(
-            told,
-            output,
-            front(&line, n),
-            b"image_words: writing standard output",
-        ) {
-            return false;
-        }
+        write_whole(output, front(&line, n))?;
         at = to;
     }
-    true
-}
-
-fn tell_refusal<P: Print>(told: &P, r: Refusal) {
-    let number = r.number();
-    let detail = r.detail();
-    let _ = println!(told; "image_words: refusal {number}, detail {detail}");
+    Ok(())
 }

@@ -7,8 +7,9 @@
 use figures_cells::Figures;
 use release_lines::count_line;
 use release_table::write_figures;
-use sheet_bytes::{front, keep, line_end};
-use sheet_io::{Got, read_some, write_whole};
+use sheet_bytes::front;
+use sheet_io::{Failure, Lines, read_lines, write_whole};
+use std::fmt;
 use std::io::{Read, Write};
 
 // The rows are as long as those of why_lines.
@@ -27,196 +28,79 @@ const SCRATCH: usize = 9335;
 // Sixteen lines, each of a name of at most 15 bytes, a space, at most 20 digits and a line feed.
 const LIST: usize = 592;
 
-// What became of the input: how many bytes of a line that goes on are kept, or it can't be counted.
-#[derive(Clone, Copy)]
-enum Line {
-    Kept(usize),
-    Failed,
+// Why no list is written.
+#[derive(Drop)]
+enum Stop {
+    Io(Failure),
+    FiguresFull,
+}
+
+impl From<Failure> for Stop {
+    fn from(failure: Failure) -> Stop {
+        Stop::Io(failure)
+    }
+}
+
+impl fmt::Display for Stop {
+    fn fmt<W: fmt::Write>(&self, f: &mut fmt::Formatter<W>) -> fmt::Result {
+        match self {
+            Stop::Io(failure) => write!(f, "{failure}"),
+            Stop::FiguresFull => f.write_str("the figures are full"),
+        }
+    }
+}
+
+// The figures so far, and the rows for counting.
+#[derive(Drop)]
+struct Counting {
+    figures: Figures,
+    pool: [u32; POOL],
+    scalars: [u32; TEXT],
+    positions: [u32; POSITIONS],
+    pairs: [u32; PAIRS],
+    scratch: [u32; SCRATCH],
+}
+
+impl Lines for Counting {
+    type Stop = Stop;
+
+    fn take_line(&mut self, line: &[u8]) -> Result<(), Stop> {
+        let Counting {
+            figures,
+            pool,
+            scalars,
+            positions,
+            pairs,
+            scratch,
+        } = self;
+        if count_line(line, figures, pool, scalars, positions, pairs, scratch) {
+            return Err(Stop::FiguresFull);
+        }
+        Ok(())
+    }
 }
 
 fn main(rt: HostRuntime) {
-    let mut line = [0u8; LINE];
-    let mut figures: Figures = [0u64; 16];
-    let mut pool = [0u32; POOL];
-    let mut scalars = [0u32; TEXT];
-    let mut positions = [0u32; POSITIONS];
-    let mut pairs = [0u32; PAIRS];
-    let mut scratch = [0u32; SCRATCH];
-    trie_char::fresh(&mut pool);
-    let mut input = rt.stdin();
-    let mut output = rt.stdout();
-    let told = rt.stderr();
-    let read = read_all(
-        &told,
-        &mut input,
-        &mut line,
-        &mut figures,
-        &mut pool,
-        &mut scalars,
-        &mut positions,
-        &mut pairs,
-        &mut scratch,
-    );
-    let Line::Kept(kept) = read else {
-        return;
+    if let Err(stop) = count_all(&mut rt.stdin(), &mut rt.stdout()) {
+        let _ = println!(rt.stderr(); "release_figures: {stop}");
+    }
+}
+
+// Counts the lines of all of the input, and writes the list.
+fn count_all<R: Read, W: Write>(input: &mut R, output: &mut W) -> Result<(), Stop> {
+    let mut row = [0u8; LINE];
+    let mut counting = Counting {
+        figures: [0; 16],
+        pool: [0; POOL],
+        scalars: [0; TEXT],
+        positions: [0; POSITIONS],
+        pairs: [0; PAIRS],
+        scratch: [0; SCRATCH],
     };
-    end_run(
-        &told,
-        &mut output,
-        &line,
-        kept,
-        &mut figures,
-        &mut pool,
-        &mut scalars,
-        &mut positions,
-        &mut pairs,
-        &mut scratch,
-    );
-}
-
-// Counts a last line without a line feed, and writes the list.
-fn end_run<P: Print, W: Write>(
-    told: &P,
-    output: &mut W,
-    line: &[u8; LINE],
-    kept: usize,
-    figures: &mut Figures,
-    pool: &mut [u32; POOL],
-    scalars: &mut [u32; TEXT],
-    positions: &mut [u32; POSITIONS],
-    pairs: &mut [u32; PAIRS],
-    scratch: &mut [u32; SCRATCH],
-) {
-    if count(
-        told,
-        front(line, kept),
-        figures,
-        pool,
-        scalars,
-        positions,
-        pairs,
-        scratch,
-    ) {
-        write_list(told, output, figures);
-    }
-}
-
-fn write_list<P: Print, W: Write>(told: &P, output: &mut W, figures: &Figures) {
+    trie_char::fresh(&mut counting.pool);
+    read_lines(input, &mut row, &mut counting)?;
     let mut out = [0u8; LIST];
-    let n = write_figures(figures, &mut out);
-    write_whole(
-        told,
-        output,
-        front(&out, n),
-        b"release_figures: writing standard output",
-    );
-}
-
-// Counts a line, and answers whether the figures had room for it.
-fn count<P: Print>(
-    told: &P,
-    line: &[u8],
-    figures: &mut Figures,
-    pool: &mut [u32; POOL],
-    scalars: &mut [u32; TEXT],
-    positions: &mut [u32; POSITIONS],
-    pairs: &mut [u32; PAIRS],
-    scratch: &mut [u32; SCRATCH],
-) -> bool {
-    if count_line(line, figures, pool, scalars, positions, pairs, scratch) {
-        let _ = println!(told; "release_figures: the figures are full");
-        return false;
-    }
-    true
-}
-
-// A proved loop has to end, and nothing says that the input does: it has more turns than any run
-// uses up.
-fn read_all<P: Print, R: Read>(
-    told: &P,
-    input: &mut R,
-    line: &mut [u8; LINE],
-    figures: &mut Figures,
-    pool: &mut [u32; POOL],
-    scalars: &mut [u32; TEXT],
-    positions: &mut [u32; POSITIONS],
-    pairs: &mut [u32; PAIRS],
-    scratch: &mut [u32; SCRATCH],
-) -> Line {
-    let mut buffer = [0u8; 65536];
-    let mut kept = 0;
-    let mut turns = u64::MAX;
-    while turns > 0 {
-        let got = read_some(
-            told,
-            input,
-            &mut buffer,
-            b"release_figures: reading standard input",
-        );
-        let Got::Bytes(n) = got else {
-            return Line::Failed;
-        };
-        if n == 0 {
-            return Line::Kept(kept);
-        }
-        let fed = feed_all(
-            told,
-            front(&buffer, n),
-            line,
-            kept,
-            figures,
-            pool,
-            scalars,
-            positions,
-            pairs,
-            scratch,
-        );
-        let Line::Kept(k) = fed else {
-            return Line::Failed;
-        };
-        kept = k;
-        turns -= 1;
-    }
-    Line::Kept(kept)
-}
-
-// Counts the lines that end in the bytes, the first of which starts with the `kept` bytes of
-// `line`.
-fn feed_all<P: Print>(
-    told: &P,
-    bytes: &[u8],
-    line: &mut [u8; LINE],
-    kept: usize,
-    figures: &mut Figures,
-    pool: &mut [u32; POOL],
-    scalars: &mut [u32; TEXT],
-    positions: &mut [u32; POSITIONS],
-    pairs: &mut [u32; PAIRS],
-    scratch: &mut [u32; SCRATCH],
-) -> Line {
-    let mut n = kept;
-    let mut at = 0;
-    while at < bytes.len() {
-        let part = &bytes[at..];
-        let end = line_end(part);
-        n = keep(line, n, &part[..end]);
-        if end == part.len() {
-            return Line::Kept(n);
-        }
-        if !count(
-            told,
-            front(line, n),
-            figures,
-            pool,
-            scalars,
-            positions,
-            pairs,
-            scratch,
-        ) {
-            return Line::Failed;
-        }
-        n = 0;
-        at += end + 1;
-    }
-    Line::Kept(n)
+    let n = write_figures(&counting.figures, &mut out);
+    write_whole(output, front(&out, n))?;
+    Ok(())
 }

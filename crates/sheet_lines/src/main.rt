@@ -25,18 +25,19 @@ struct Run<'a, W> {
 impl<'a, W: Write> Run<'a, W> {
     // Writes the reply of a last line without a line feed.
     fn end(&mut self) -> Result<(), Failure> {
-        let kept = self.kept;
-        let n = last(
-            &self.line,
+        let Run {
+            output,
+            line,
             kept,
-            &mut self.pool,
-            &mut self.scalars,
-            &mut self.positions,
-            &mut self.ends,
-            &mut self.scratch,
-            &mut self.out,
-        );
-        write_whole(self.output, front(&self.out, n))
+            pool,
+            scalars,
+            positions,
+            ends,
+            scratch,
+            out,
+        } = self;
+        let n = last(line, *kept, pool, scalars, positions, ends, scratch, out);
+        write_whole(output, front(out, n))
     }
 }
 
@@ -45,22 +46,24 @@ impl<'a, W: Write> Program for Run<'a, W> {
 
     // Writes the replies of the lines that end in the bytes.
     fn take(&mut self, bytes: &[u8]) -> Result<(), Failure> {
+        let Run {
+            output,
+            line,
+            kept,
+            pool,
+            scalars,
+            positions,
+            ends,
+            scratch,
+            out,
+        } = self;
         let mut rest = bytes;
         while !rest.is_empty() {
-            let kept = self.kept;
             let fed = step(
-                rest,
-                &mut self.line,
-                kept,
-                &mut self.pool,
-                &mut self.scalars,
-                &mut self.positions,
-                &mut self.ends,
-                &mut self.scratch,
-                &mut self.out,
+                rest, line, *kept, pool, scalars, positions, ends, scratch, out,
             );
-            self.kept = fed.kept;
-            write_whole(self.output, front(&self.out, fed.written))?;
+            *kept = fed.kept;
+            write_whole(output, front(out, fed.written))?;
             rest = &rest[fed.taken..];
         }
         Ok(())
@@ -68,13 +71,13 @@ impl<'a, W: Write> Program for Run<'a, W> {
 }
 
 fn main(rt: HostRuntime) {
-    if let Err(failure) = run(&mut rt.stdin(), &mut rt.stdout()) {
+    if let Err(failure) = answer_all(&mut rt.stdin(), &mut rt.stdout()) {
         let _ = println!(rt.stderr(); "sheet_lines: {failure}");
     }
 }
 
-// Reads all of the input, and writes the replies.
-fn run<R: Read, W: Write>(input: &mut R, output: &mut W) -> Result<(), Failure> {
+// Answers the lines of all of the input.
+fn answer_all<R: Read, W: Write>(input: &mut R, output: &mut W) -> Result<(), Failure> {
     let mut run = Run {
         output,
         line: [0; LINE],

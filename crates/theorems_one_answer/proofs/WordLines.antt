@@ -13,8 +13,7 @@ use Rattle.trie_pool.specs.Meaning.{Terms}
 use Rattle.utf8.specs.Decoding.{scalars_of, room_in}
 use Rattle.trie_char_answers.specs.Answers.{added}
 use Rattle.trie_char_answers.proofs.One.{one_after}
-use Rattle.word_lines.specs.Lines.{class_of, word_of, is_term, add_term, PoolBy}
-use Rattle.word_lines.specs.declared.Taken.{Taken}
+use Rattle.word_lines.specs.Lines.{Taken, class_of, word_of, is_term, add_term, PoolBy}
 use Rattle.theorems_one_answer.specs.OneAnswer.{OneAnswer}
 use Rattle.theorems_one_answer.proofs.Shapes.{answer, both}
 

@@ -4,114 +4,30 @@
 #![tactic(auto)]
 
 use sheet_bytes::front;
-use sheet_io::{Got, read_some, write_whole};
+use sheet_io::{Failure, Program, read_all, write_whole};
 use std::io::{Read, Write};
 use why_input::{LINE, PAIRS, POOL, POSITIONS, REPLY, SCRATCH, TEXT, last, step};
 
-// What became of the input: how many bytes of a line that goes on are kept, or a call failed.
-#[derive(Clone, Copy)]
-enum Line {
-    Kept(usize),
-    Failed,
-}
-
-fn main(rt: HostRuntime) {
-    let mut line = [0u8; LINE];
-    let mut pool = [0u32; POOL];
-    let mut scalars = [0u32; TEXT];
-    let mut positions = [0u32; POSITIONS];
-    let mut pairs = [0u32; PAIRS];
-    let mut scratch = [0u32; SCRATCH];
-    let mut out = [0u8; REPLY];
-    trie_char::fresh(&mut pool);
-    let mut input = rt.stdin();
-    let mut output = rt.stdout();
-    let told = rt.stderr();
-    let read = read_all(
-        &told,
-        &mut input,
-        &mut output,
-        &mut line,
-        &mut pool,
-        &mut scalars,
-        &mut positions,
-        &mut pairs,
-        &mut scratch,
-        &mut out,
-    );
-    let Line::Kept(kept) = read else {
-        return;
-    };
-    end_run(
-        &told,
-        &mut output,
-        &line,
-        kept,
-        &mut pool,
-        &mut scalars,
-        &mut positions,
-        &mut pairs,
-        &mut scratch,
-        &mut out,
-    );
-}
-
-// Writes the reply of a last line without a line feed.
-fn end_run<P: Print, W: Write>(
-    told: &P,
-    output: &mut W,
-    line: &[u8; LINE],
+// Kept: (2) beside `Run` of sheet_lines, since the rows and the calls on them differ.
+// The rows of a run: `kept` bytes of a line that goes on stand at the front of `line`.
+#[derive(Drop)]
+struct Run<'a, W> {
+    output: &'a mut W,
+    line: [u8; LINE],
     kept: usize,
-    pool: &mut [u32; POOL],
-    scalars: &mut [u32; TEXT],
-    positions: &mut [u32; POSITIONS],
-    pairs: &mut [u32; PAIRS],
-    scratch: &mut [u32; SCRATCH],
-    out: &mut [u8; REPLY],
-) {
-    let n = last(line, kept, pool, scalars, positions, pairs, scratch, out);
-    write_whole(
-        told,
-        output,
-        front(out, n),
-        b"why_lines: writing standard output",
-    );
+    pool: [u32; POOL],
+    scalars: [u32; TEXT],
+    positions: [u32; POSITIONS],
+    pairs: [u32; PAIRS],
+    scratch: [u32; SCRATCH],
+    out: [u8; REPLY],
 }
 
-// A proved loop has to end, and nothing says that the input does: it has more turns than any run
-// uses up.
-fn read_all<P: Print, R: Read, W: Write>(
-    told: &P,
-    input: &mut R,
-    output: &mut W,
-    line: &mut [u8; LINE],
-    pool: &mut [u32; POOL],
-    scalars: &mut [u32; TEXT],
-    positions: &mut [u32; POSITIONS],
-    pairs: &mut [u32; PAIRS],
-    scratch: &mut [u32; SCRATCH],
-    out: &mut [u8; REPLY],
-) -> Line {
-    let mut buffer = [0u8; 65536];
-    let mut kept = 0;
-    let mut turns = u64::MAX;
-    while turns > 0 {
-        let got = read_some(
-            told,
-            input,
-            &mut buffer,
-            b"why_lines: reading standard input",
-        );
-        let Got::Bytes(n) = got else {
-            return Line::Failed;
-        };
-        if n == 0 {
-            return Line::Kept(kept);
-        }
-        let fed = feed_all(
-            told,
+impl<'a, W: Write> Run<'a, W> {
+    // Writes the reply of a last line without a line feed.
+    fn end(&mut self) -> Result<(), Failure> {
+        let Run {
             output,
-            front(&buffer, n),
             line,
             kept,
             pool,
@@ -120,54 +36,61 @@ fn read_all<P: Print, R: Read, W: Write>(
             pairs,
             scratch,
             out,
-        );
-        let Line::Kept(k) = fed else {
-            return Line::Failed;
-        };
-        kept = k;
-        turns -= 1;
+        } = self;
+        let n = last(line, *kept, pool, scalars, positions, pairs, scratch, out);
+        write_whole(output, front(out, n))
     }
-    Line::Kept(kept)
 }
 
-// Feeds all of the bytes, and writes the replies of the lines that end in them.
-fn feed_all<P: Print, W: Write>(
-    told: &P,
-    output: &mut W,
-    bytes: &[u8],
-    line: &mut [u8; LINE],
-    kept: usize,
-    pool: &mut [u32; POOL],
-    scalars: &mut [u32; TEXT],
-    positions: &mut [u32; POSITIONS],
-    pairs: &mut [u32; PAIRS],
-    scratch: &mut [u32; SCRATCH],
-    out: &mut [u8; REPLY],
-) -> Line {
-    let mut n = kept;
-    let mut at = 0;
-    while at < bytes.len() {
-        let fed = step(
-            &bytes[at..],
+impl<'a, W: Write> Program for Run<'a, W> {
+    type Stop = Failure;
+
+    // Writes the replies of the lines that end in the bytes.
+    fn take(&mut self, bytes: &[u8]) -> Result<(), Failure> {
+        let Run {
+            output,
             line,
-            n,
+            kept,
             pool,
             scalars,
             positions,
             pairs,
             scratch,
             out,
-        );
-        if !write_whole(
-            told,
-            output,
-            front(out, fed.written),
-            b"why_lines: writing standard output",
-        ) {
-            return Line::Failed;
+        } = self;
+        let mut rest = bytes;
+        while !rest.is_empty() {
+            let fed = step(
+                rest, line, *kept, pool, scalars, positions, pairs, scratch, out,
+            );
+            *kept = fed.kept;
+            write_whole(output, front(out, fed.written))?;
+            rest = &rest[fed.taken..];
         }
-        n = fed.kept;
-        at += fed.taken;
+        Ok(())
     }
-    Line::Kept(n)
+}
+
+fn main(rt: HostRuntime) {
+    if let Err(failure) = answer_all(&mut rt.stdin(), &mut rt.stdout()) {
+        let _ = println!(rt.stderr(); "why_lines: {failure}");
+    }
+}
+
+// Answers the lines of all of the input.
+fn answer_all<R: Read, W: Write>(input: &mut R, output: &mut W) -> Result<(), Failure> {
+    let mut run = Run {
+        output,
+        line: [0; LINE],
+        kept: 0,
+        pool: [0; POOL],
+        scalars: [0; TEXT],
+        positions: [0; POSITIONS],
+        pairs: [0; PAIRS],
+        scratch: [0; SCRATCH],
+        out: [0; REPLY],
+    };
+    trie_char::fresh(&mut run.pool);
+    read_all(input, &mut run)?;
+    run.end()
 }

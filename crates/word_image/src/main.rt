@@ -5,10 +5,11 @@
 #![tactic(auto)]
 
 use refusal::Refusal;
-use sheet_bytes::{front, keep, line_end};
-use sheet_io::{Got, read_some, write_whole};
+use sheet_bytes::front;
+use sheet_io::{Failure, Lines, read_lines, write_whole};
+use std::fmt;
 use std::io::{Read, Write};
-use word_lines::{Taken, take_line};
+use word_lines::{LineError, take_line};
 use word_list_write::write_image;
 
 // A line has fewer bytes.
@@ -23,211 +24,92 @@ const POSITIONS: usize = 2049;
 
 const IMAGE: usize = 524288;
 
-// What became of the input: so many bytes of a line that goes on are kept, behind so many lines; or
-// it is refused.
-#[derive(Clone, Copy)]
-enum Line {
-    Kept(usize, u64),
-    Failed,
+// Why no image is written.
+#[derive(Drop)]
+enum Stop {
+    Io(Failure),
+    // The line of this number, from 1 on, has too many bytes.
+    TooLong(u64),
+    // The line of this number is refused.
+    Line(u64, LineError),
+    // Writing the image is refused.
+    Image(Refusal),
 }
 
-fn main(rt: HostRuntime) {
-    let mut line = [0u8; LINE];
-    let mut pool = [0u32; POOL];
-    let mut scalars = [0u32; TEXT];
-    let mut positions = [0u32; POSITIONS];
-    trie_char::fresh(&mut pool);
-    let mut input = rt.stdin();
-    let mut output = rt.stdout();
-    let told = rt.stderr();
-    let read = read_all(
-        &told,
-        &mut input,
-        &mut line,
-        &mut pool,
-        &mut scalars,
-        &mut positions,
-    );
-    let Line::Kept(kept, lines) = read else {
-        return;
-    };
-    end_run(
-        &told,
-        &mut output,
-        &line,
-        kept,
-        lines,
-        &mut pool,
-        &mut scalars,
-        &mut positions,
-    );
+impl From<Failure> for Stop {
+    fn from(failure: Failure) -> Stop {
+        Stop::Io(failure)
+    }
 }
 
-// Adds the word of a last line without a line feed, and writes the image.
-fn end_run<P: Print, W: Write>(
-    told: &P,
-    output: &mut W,
-    line: &[u8; LINE],
-    kept: usize,
+impl fmt::Display for Stop {
+    fn fmt<W: fmt::Write>(&self, f: &mut fmt::Formatter<W>) -> fmt::Result {
+        match self {
+            Stop::Io(failure) => write!(f, "{failure}"),
+            Stop::TooLong(line) => write!(f, "line {line}: too long"),
+            Stop::Line(line, error) => write!(f, "line {line}: {error}"),
+            Stop::Image(refusal) => {
+                let error = LineError::Refused(*refusal);
+                write!(f, "{error}")
+            }
+        }
+    }
+}
+
+// The words so far, the rows for one more, and how many lines were read.
+#[derive(Drop)]
+struct Adding {
+    pool: [u32; POOL],
+    scalars: [u32; TEXT],
+    positions: [u32; POSITIONS],
     lines: u64,
-    pool: &mut [u32; POOL],
-    scalars: &mut [u32; TEXT],
-    positions: &mut [u32; POSITIONS],
-) {
-    if take(told, front(line, kept), lines, pool, scalars, positions) {
-        write(told, output, pool);
-    }
 }
 
-fn write<P: Print, W: Write>(told: &P, output: &mut W, pool: &[u32; POOL]) {
-    let mut image = [0u8; IMAGE];
-    let answer = write_image(pool, &mut image);
-    match answer {
-        Ok(n) => {
-            write_whole(
-                told,
-                output,
-                front(&image, n),
-                b"word_image: writing standard output",
-            );
-        }
-        Err(r) => {
-            let _ = print!(told; "word_image: ");
-            tell_refusal(told, r);
-        }
-    }
-}
+impl Lines for Adding {
+    type Stop = Stop;
 
-// Adds the word of the line behind so many lines; false where it is refused, which is told.
-fn take<P: Print>(
-    told: &P,
-    line: &[u8],
-    lines: u64,
-    pool: &mut [u32; POOL],
-    scalars: &mut [u32; TEXT],
-    positions: &mut [u32; POSITIONS],
-) -> bool {
-    if LINE <= line.len() {
-        tell_line(told, lines);
-        let _ = println!(told; "too long");
-        return false;
-    }
-    let taken = take_line(line, pool, scalars, positions);
-    match taken {
-        Taken::NoClass => {
-            tell_line(told, lines);
-            let _ = println!(told; "no class behind the tab");
-            false
-        }
-        Taken::Answered(answer) => is_added(told, answer, lines),
-    }
-}
-
-fn is_added<P: Print>(told: &P, answer: Result<usize, Refusal>, lines: u64) -> bool {
-    match answer {
-        Ok(_) => true,
-        Err(r) => {
-            tell_line(told, lines);
-            tell_refusal(told, r);
-            false
-        }
-    }
-}
-
-// A proved loop has to end, and nothing says that the input does: it has more turns than any run
-// uses up.
-fn read_all<P: Print, R: Read>(
-    told: &P,
-    input: &mut R,
-    line: &mut [u8; LINE],
-    pool: &mut [u32; POOL],
-    scalars: &mut [u32; TEXT],
-    positions: &mut [u32; POSITIONS],
-) -> Line {
-    let mut buffer = [0u8; 65536];
-    let mut kept = 0;
-    let mut lines = 0;
-    let mut turns = u64::MAX;
-    while turns > 0 {
-        let got = read_some(
-            told,
-            input,
-            &mut buffer,
-            b"word_image: reading standard input",
-        );
-        let Got::Bytes(n) = got else {
-            return Line::Failed;
-        };
-        if n == 0 {
-            return Line::Kept(kept, lines);
-        }
-        let fed = feed_all(
-            told,
-            front(&buffer, n),
-            line,
-            kept,
-            lines,
+    // Adds the word of the next line.
+    fn take_line(&mut self, line: &[u8]) -> Result<(), Stop> {
+        let Adding {
             pool,
             scalars,
             positions,
-        );
-        let Line::Kept(k, l) = fed else {
-            return Line::Failed;
-        };
-        kept = k;
-        lines = l;
-        turns -= 1;
-    }
-    Line::Kept(kept, lines)
-}
-
-// Adds the words of the lines that end in the bytes, the first of which starts with the `kept`
-// bytes of `line` and stands behind `before` lines.
-fn feed_all<P: Print>(
-    told: &P,
-    bytes: &[u8],
-    line: &mut [u8; LINE],
-    kept: usize,
-    before: u64,
-    pool: &mut [u32; POOL],
-    scalars: &mut [u32; TEXT],
-    positions: &mut [u32; POSITIONS],
-) -> Line {
-    let mut n = kept;
-    let mut lines = before;
-    let mut at = 0;
-    while at < bytes.len() {
-        let part = &bytes[at..];
-        let end = line_end(part);
-        n = keep(line, n, &part[..end]);
-        if end == part.len() {
-            return Line::Kept(n, lines);
+            lines,
+        } = self;
+        *lines = lines.saturating_add(1);
+        if LINE <= line.len() {
+            return Err(Stop::TooLong(*lines));
         }
-        if !take(told, front(line, n), lines, pool, scalars, positions) {
-            return Line::Failed;
+        match take_line(line, pool, scalars, positions) {
+            Ok(_) => Ok(()),
+            Err(error) => Err(Stop::Line(*lines, error)),
         }
-        n = 0;
-        lines = one_more(lines);
-        at += end + 1;
     }
-    Line::Kept(n, lines)
 }
 
-fn one_more(lines: u64) -> u64 {
-    if lines == u64::MAX {
-        return lines;
+fn main(rt: HostRuntime) {
+    if let Err(stop) = make_image(&mut rt.stdin(), &mut rt.stdout()) {
+        let _ = println!(rt.stderr(); "word_image: {stop}");
     }
-    lines + 1
 }
 
-// `word_image: line `, its number from 1 on, and `: `
-fn tell_line<P: Print>(told: &P, before: u64) {
-    let line = one_more(before);
-    let _ = print!(told; "word_image: line {line}: ");
-}
-
-fn tell_refusal<P: Print>(told: &P, r: Refusal) {
-    let number = r.number();
-    let detail = r.detail();
-    let _ = println!(told; "refusal {number}, detail {detail}");
+// Adds the words of all of the input, and writes the image.
+fn make_image<R: Read, W: Write>(input: &mut R, output: &mut W) -> Result<(), Stop> {
+    let mut row = [0u8; LINE];
+    let mut adding = Adding {
+        pool: [0; POOL],
+        scalars: [0; TEXT],
+        positions: [0; POSITIONS],
+        lines: 0,
+    };
+    trie_char::fresh(&mut adding.pool);
+    read_lines(input, &mut row, &mut adding)?;
+    let mut image = [0u8; IMAGE];
+    match write_image(&adding.pool, &mut image) {
+        Ok(n) => {
+            write_whole(output, front(&image, n))?;
+            Ok(())
+        }
+        Err(refusal) => Err(Stop::Image(refusal)),
+    }
 }

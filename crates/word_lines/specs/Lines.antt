@@ -1,5 +1,5 @@
 -- The lines of a word list: what a line says, what adding it answers, and the line of a word.
-use Rattle.std.specs.Prelude.{ℕ, suc, ◌+◌, ◌*◌, ◌-◌, ◌≡◌, Bool, true, false, cond, not, ◌&&◌, List, [], ◌∷◌, ◌++◌, eqb, leb, ltb, length, take, drop, Result}
+use Rattle.std.specs.Prelude.{ℕ, suc, ◌+◌, ◌*◌, ◌-◌, ◌≡◌, Bool, true, false, cond, not, ◌&&◌, List, [], ◌∷◌, ◌++◌, eqb, leb, ltb, length, take, drop, Result, Ok, Err}
 use Rattle.refusal.specs.declared.Refusal.{Refusal}
 use Rattle.lists.specs.Scans.{leading, within}
 use Rattle.refusal.specs.Answers.{output}
@@ -10,8 +10,8 @@ use Rattle.trie_char_answers.specs.Answers.{add_answer}
 use Rattle.trie_char_answers.specs.Changes.{After}
 use Rattle.sheet_texts.specs.Texts.{decimal}
 use Rattle.sheet_replies.specs.Replies.{next}
-use Rattle.word_lines.specs.declared.Taken.{Taken}
-use Rattle.word_lines.specs.declared.Taken.TheVariants.{NoClass, Answered}
+use Rattle.word_lines.specs.declared.LineError.{LineError}
+use Rattle.word_lines.specs.declared.LineError.TheVariants.{NoClass, Refused}
 
 -- where the first tab stands, or the length where there is none
 abbrev pub tab_in : List ℕ → ℕ
@@ -52,10 +52,17 @@ is_term line = leb (class_of line) max_class
 abbrev pub add_term : List ℕ → ℕ → List ℕ → Room → Result ℕ Refusal
 add_term word class pool room = next (decoded word room) (add_answer (scalars_of word) class pool)
 
--- What became of a line.
+-- What became of a line: what adding its word answers, or no class stands behind its tab.
+abbrev pub Taken : Type 0
+Taken = Result ℕ LineError
+
+abbrev pub answered : Result ℕ Refusal → Taken
+answered (Ok n) = Ok n
+answered (Err r) = Err (Refused r)
+
 abbrev pub taken_by : Bool → Result ℕ Refusal → Taken
-taken_by true a = Answered a
-taken_by false a = NoClass
+taken_by true a = answered a
+taken_by false a = Err NoClass
 
 abbrev pub taken : List ℕ → List ℕ → Room → Taken
 taken line pool room = taken_by (is_term line) (add_term (word_of line) (class_of line) pool room)

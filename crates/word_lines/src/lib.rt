@@ -14,34 +14,36 @@ ghost use Rattle.word_lines.specs.Lines.{tab_in, with_digit, number_in, class_be
 ghost use Rattle.word_lines.specs.Lines.{add_term, taken, PoolBy, row_by, term_line};
 
 use refusal::Refusal;
-use sheet_bytes::{front, keep};
+use sheet_bytes::{count_before, front, keep};
 use sheet_texts::keep_number;
+use std::fmt;
 use trie_char::add_class;
 
-// What became of a line: no class stands behind its tab, or what adding its word answers.
-#[derive(Clone, Copy)]
-pub enum Taken {
+// Why a line's word is not added.
+#[derive(Clone, Copy, Debug, PartialEq, Eq)]
+pub enum LineError {
+    // Something else than a class stands behind the tab.
     NoClass,
-    Answered(Answer),
+    // The dictionary refuses the word.
+    Refused(Refusal),
+}
+
+impl fmt::Display for LineError {
+    fn fmt<W: fmt::Write>(&self, f: &mut fmt::Formatter<W>) -> fmt::Result {
+        match self {
+            LineError::NoClass => f.write_str("no class behind the tab"),
+            LineError::Refused(r) => {
+                let number = r.number();
+                let detail = r.detail();
+                write!(f, "refusal {number}, detail {detail}")
+            }
+        }
+    }
 }
 
 const MAX_CLASS: usize = 65535;
 
 const NO_CLASS: usize = 65536;
-
-// Where the first tab stands, or the length where there is none.
-fn tab_at(line: &[u8]) -> usize
-    ensures { result ≡ tab_in line.now }
-{
-    let mut i = 0;
-    while i < line.len() {
-        if line[i] == b'\t' {
-            return i;
-        }
-        i += 1;
-    }
-    i
-}
 
 // A class with one digit more; NO_CLASS where it is none.
 fn with_digit(n: usize, b: u8) -> usize
@@ -71,10 +73,8 @@ fn number_in(text: &[u8]) -> usize
         return NO_CLASS;
     }
     let mut n = 0;
-    let mut i = 0;
-    while i < text.len() {
-        n = with_digit(n, text[i]);
-        i += 1;
+    for b in text {
+        n = with_digit(n, *b);
     }
     n
 }
@@ -116,7 +116,12 @@ fn add_term(
 // Adds the word of a line with its class, 0 where there is no tab, and leaves the word's scalars
 // and their positions at the front of their rows. A line without a class behind its tab changes
 // nothing.
-pub fn take_line(line: &[u8], pool: &mut [u32], scalars: &mut [u32], positions: &mut [u32]) -> Taken
+pub fn take_line(
+    line: &[u8],
+    pool: &mut [u32],
+    scalars: &mut [u32],
+    positions: &mut [u32],
+) -> Result<usize, LineError>
     ensures value { result ≡ taken line.now pool.old
         (room_in scalars.old positions.old) }
     ensures pool_by { PoolBy (is_term line.now)
@@ -131,12 +136,15 @@ pub fn take_line(line: &[u8], pool: &mut [u32], scalars: &mut [u32], positions: 
         (decoded (word_of line.now) (room_in scalars.old positions.old))
         (positions_of (word_of line.now)) positions.old }
 {
-    let tab = tab_at(line);
+    let tab = count_before(line, b'\t');
     let class = class_behind(line, tab);
     if MAX_CLASS < class {
-        return Taken::NoClass;
+        return Err(LineError::NoClass);
     }
-    Taken::Answered(add_term(front(line, tab), class as u16, pool, scalars, positions))
+    match add_term(front(line, tab), class as u16, pool, scalars, positions) {
+        Ok(n) => Ok(n),
+        Err(r) => Err(LineError::Refused(r)),
+    }
 }
 
 // Writes the line of a word with its class to the front of `out`, as far as there is room. Answers
