@@ -1,2 +1,3 @@
 pub mod Reasons
 pub mod Why
+pub mod Numbers
