@@ -1,1 +1,2 @@
 pub mod Skipping
+pub mod Trying

@@ -1,8 +1,8 @@
 // The non-dictionary rule of plain cutting.
 #![tactic(auto)]
 
-ghost use Rattle.std.specs.Prelude.{◌≡◌, ◌<◌, length};
-ghost use Rattle.newmm_rules.specs.NonDictionary.{is_short, skip_end, token_end};
+ghost use Rattle.std.specs.Prelude.{◌≡◌};
+ghost use Rattle.newmm_rules.specs.NonDictionary.{is_short, starts_word, stops_at, skip_end, token_end};
 ghost use Rattle.newmm_word_step.specs.inner.Walks.{given_by};
 ghost use Rattle.newmm_word_step.specs.inner.Places.{Place};
 
@@ -14,65 +14,56 @@ use tcc_match::is_consonant;
 pub fn is_short(word: &[u32]) -> bool
     ensures { result ≡ is_short word.now }
 {
-    if 2 < word.len() {
-        return false;
-    }
-    let mut i = 0;
-    while i < word.len() {
-        if !is_consonant(word[i]) {
-            return false;
-        }
-        i += 1;
-    }
-    true
+    word.len() <= 2 && word.iter().all(|x| is_consonant(*x))
 }
 
-// The first cluster end behind b at which the search for a token's end stops, or the text's end.
-// It is left at once, out of both walks: over places, and over word lengths.
+// Whether a word starts at p at which the search for a token's end stops.
+pub fn starts_word(text: &[u32], pool: &[u32], flags: &[u32], p: usize) -> bool
+    requires { Place text.now pool.now flags.now p }
+    ensures { result ≡ starts_word (given_by text.now pool.now) p }
+{
+    let limit = word_limit(text.len(), p);
+    let mut node = 0;
+    for e in p..limit {
+        match word_step(text, pool, flags, e, node) {
+            Step::Nothing => return false,
+            Step::Part(r) => node = r,
+            Step::Word(r) => {
+                node = r;
+                if !is_short(&text[p..e + 1]) {
+                    return true;
+                }
+            }
+        }
+    }
+    false
+}
+
+// Whether the search for a token's end stops at p.
+fn stops_at(text: &[u32], pool: &[u32], flags: &[u32], p: usize) -> bool
+    requires { Place text.now pool.now flags.now p }
+    ensures { result ≡ stops_at (given_by text.now pool.now) p }
+{
+    if flags[p] == 0 {
+        return false;
+    }
+    if starts_non_thai(&text[p..]) {
+        return true;
+    }
+    starts_word(text, pool, flags, p)
+}
+
+// The first place behind b at which the search for a token's end stops, or the text's end.
 fn skip_end(text: &[u32], pool: &[u32], flags: &[u32], b: usize) -> usize
     requires { Place text.now pool.now flags.now b }
     ensures { result ≡ skip_end (given_by text.now pool.now) b }
 {
-    let mut p = b + 1;
-    'places: loop {
-        if text.len() <= p {
-            break 'places text.len();
-        }
-        if flags[p] == 0 {
-            p += 1;
-            continue 'places;
-        }
-        if starts_non_thai(&text[p..]) {
-            break 'places p;
-        }
-        let limit = word_limit(text.len(), p);
-        let mut e = p;
-        let mut node = 0;
-        'lengths: loop {
-            if limit <= e {
-                p += 1;
-                continue 'places;
-            }
-            let step = word_step(text, pool, flags, e, node);
-            match step {
-                Step::Nothing => {
-                    p += 1;
-                    continue 'places;
-                }
-                Step::Part(r) => {
-                    node = r;
-                    e += 1;
-                }
-                Step::Word(r) => {
-                    node = r;
-                    e += 1;
-                    if !is_short(&text[p..e]) {
-                        break 'places p;
-                    }
-                }
-            }
+    for p in b + 1..text.len() {
+        if stops_at(text, pool, flags, p) {
+            return p;
         }
     }
+    text.len()
 }
 
 // The end of the token at b, where no word starts.

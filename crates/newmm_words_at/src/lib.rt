@@ -9,7 +9,7 @@ use newmm_word_step::{Step, word_limit, word_step};
 
 // Of the words that start at a place and end at a cluster end: one ends where the token does; they
 // end elsewhere; there is none.
-#[derive(Clone, Copy)]
+#[derive(Clone, Copy, Debug, PartialEq, Eq)]
 pub enum Found {
     Here,
     Elsewhere,
@@ -22,23 +22,15 @@ pub fn words_at(text: &[u32], pool: &[u32], flags: &[u32], b: usize, e: usize) -
     ensures { FoundIs result (given_by text.now pool.now) b e }
 {
     let limit = word_limit(text.len(), b);
-    let mut p = b;
     let mut node = 0;
     let mut found = Found::Nowhere;
-    while p < limit {
-        let step = word_step(text, pool, flags, p, node);
-        match step {
-            Step::Nothing => {
-                return found;
-            }
-            Step::Part(r) => {
-                node = r;
-                p += 1;
-            }
+    for p in b..limit {
+        match word_step(text, pool, flags, p, node) {
+            Step::Nothing => return found,
+            Step::Part(r) => node = r,
             Step::Word(r) => {
                 node = r;
-                p += 1;
-                if p == e {
+                if p + 1 == e {
                     return Found::Here;
                 }
                 found = Found::Elsewhere;

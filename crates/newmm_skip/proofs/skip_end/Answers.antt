@@ -1,103 +1,17 @@
-use Prim.Native.Nat.{◌-◌}
 use native.Mathlib.Omega.{arith}
-use mathlib.Core.Path.{refl}
+use mathlib.Core.Path.{sym, ◌∙◌}
 use Rattle.newmm_word_step.specs.inner.Walks.{given_by}
-use Rattle.newmm_word_step.proofs.Steps.{flags_size}
-use Rattle.newmm_skip.proofs.Skipping.{skip_first, skip_all, on_plain, here_non_thai, inner_first, inner_end, inner_none, inner_part, inner_short, inner_word, asks}
+use Rattle.newmm_skip.proofs.Skipping.{skip_first, skip_all, skip_here, skip_on}
 use Rattle.newmm_skip.proofs.skip_end.Goals as goal
 
-pub places-init : goal.places-init
-places-init c = skip_first (given_by c.args.text.now c.args.pool.now) _ c.requires.inside
+pub loop-p-init : goal.loop-p-init
+loop-p-init c = skip_first (given_by c.args.text.now c.args.pool.now) _ c.requires.inside
 
-pub bounds-flags-p : goal.bounds-flags-p
-bounds-flags-p c =
-    let s = flags_size c.args.text.now c.requires.flags_are in
-    omega (arith, s, c.if-text-p.false)
+pub returns-then-stops_at : goal.returns-then-stops_at
+returns-then-stops_at c = skip_here c.loop-p.invariant c.loop-p-test.true (sym c.stops_at.ensures ∙ c.if-stops_at.true)
 
-pub places-smaller-then-flags-p-eq0 : goal.places-smaller-then-flags-p-eq0
-places-smaller-then-flags-p-eq0 c = let h = c.if-text-p.false in omega arith
+pub loop-p-preserved : goal.loop-p-preserved
+loop-p-preserved c = skip_on c.loop-p.invariant c.loop-p-test.true (sym c.stops_at.ensures ∙ c.if-stops_at.false)
 
-pub places-preserved-then-flags-p-eq0 : goal.places-preserved-then-flags-p-eq0
-places-preserved-then-flags-p-eq0 c = on_plain c.args.pool.now c.places.invariant c.if-text-p.false _ c.requires.flags_are c.if-flags-p-eq0.true
-
-pub lengths-init : goal.lengths-init
-lengths-init c = (
-  inner_first c.args.pool.now c.places.invariant c.if-text-p.false _ c.requires.flags_are c.if-flags-p-eq0.false
-      c.starts_non_thai.ensures c.if-starts_non_thai.false c.requires.root_is c.word_limit-limit.ensures,
-  refl,
-)
-
-pub overflow_add-p-then-limit-e : goal.overflow_add-p-then-limit-e
-overflow_add-p-then-limit-e c = let h = c.lengths.invariant.0.inside in omega arith
-
-pub places-smaller-then-limit-e : goal.places-smaller-then-limit-e
-places-smaller-then-limit-e c = let h = c.lengths.invariant.0.inside in let q = c.lengths.invariant.1 in omega arith
-
-pub places-preserved-then-limit-e : goal.places-preserved-then-limit-e
-places-preserved-then-limit-e c = inner_end c.lengths.invariant.0 c.if-limit-e.true
-
-pub word_step-step-requires : goal.word_step-step-requires
-word_step-step-requires c = asks c.lengths.invariant.0 _ c.requires.flags_are c.if-limit-e.false
-
-pub overflow_add-p-in-Nothing : goal.overflow_add-p-in-Nothing
-overflow_add-p-in-Nothing c = let h = c.lengths.invariant.0.inside in omega arith
-
-pub places-smaller : goal.places-smaller
-places-smaller c =
-    let h = c.lengths.invariant.0.inside in
-    let q = c.lengths.invariant.1 in
-    omega arith
-
-pub places-preserved : goal.places-preserved
-places-preserved c = inner_none c.lengths.invariant.0 _ c.word_step-step.ensures c.in-Nothing.is
-
-pub lengths-smaller-in-Part : goal.lengths-smaller-in-Part
-lengths-smaller-in-Part c = let h = c.if-limit-e.false in omega arith
-
-pub lengths-preserved-in-Part : goal.lengths-preserved-in-Part
-lengths-preserved-in-Part c = (
-  inner_part c.lengths.invariant.0 _ c.word_step-step.ensures c.if-limit-e.false
-      c.in-Part.is,
-  c.lengths.invariant.1,
-)
-
-pub offset_bounds-text-p-in-Word : goal.offset_bounds-text-p-in-Word
-offset_bounds-text-p-in-Word c =
-    let h = c.lengths.invariant.0.trying in
-    omega (arith, h.far, h.walked.order, c.if-limit-e.false)
-
-pub slice_bounds-is_short-count : goal.slice_bounds-is_short-count
-slice_bounds-is_short-count c = let h = c.lengths.invariant.0.trying in omega (arith, h.walked.order)
-
-pub slice_bounds-is_short-start : goal.slice_bounds-is_short-start
-slice_bounds-is_short-start c =
-    let h = c.lengths.invariant.0.trying in
-    omega (arith, h.far, h.walked.order, c.if-limit-e.false)
-
-pub slice_bounds-is_short-end : goal.slice_bounds-is_short-end
-slice_bounds-is_short-end c =
-    let h = c.lengths.invariant.0.trying in
-    omega (arith, h.far, h.walked.order, c.if-limit-e.false)
-
-pub lengths-smaller : goal.lengths-smaller
-lengths-smaller c = let h = c.if-limit-e.false in omega arith
-
-pub lengths-preserved : goal.lengths-preserved
-lengths-preserved c = (
-  inner_short c.lengths.invariant.0 _ c.word_step-step.ensures c.if-limit-e.false c.in-Word.is
-      c.is_short.ensures c.if-not-is_short.false,
-  c.lengths.invariant.1,
-)
-
-pub returns-then-text-p : goal.returns-then-text-p
-returns-then-text-p c = skip_all c.places.invariant c.if-text-p.true
-
-pub returns-then-starts_non_thai : goal.returns-then-starts_non_thai
-returns-then-starts_non_thai c =
-    here_non_thai c.args.pool.now c.places.invariant c.if-text-p.false _ c.requires.flags_are c.if-flags-p-eq0.false
-    c.starts_non_thai.ensures c.if-starts_non_thai.true
-
-pub returns-then-not-is_short : goal.returns-then-not-is_short
-returns-then-not-is_short c =
-    inner_word c.lengths.invariant.0 _ c.word_step-step.ensures c.if-limit-e.false c.in-Word.is
-    c.is_short.ensures c.if-not-is_short.true
+pub returns : goal.returns
+returns c = skip_all c.loop-p.invariant (let t = c.loop-p-test.false in omega arith)

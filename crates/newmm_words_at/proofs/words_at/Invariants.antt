@@ -1,9 +1,5 @@
-use Prim.Native.Nat.{◌-◌}
 use Rattle.newmm_words_at.proofs.Finding.{Finding}
 use Rattle.newmm_words_at.proofs.words_at.Given as goal
 
 abbrev pub invariant-loop-p : goal.invariant-loop-p
 invariant-loop-p l = Finding l.text l.pool l.b l.limit l.e l.p l.node l.found
-
-abbrev pub decreases-loop-p : goal.decreases-loop-p
-decreases-loop-p l = l.limit - l.p

@@ -1,9 +1,0 @@
-use Prim.Native.Nat.{◌-◌}
-use Rattle.newmm_skip.proofs.Skipping.{Trying}
-use Rattle.newmm_reason_at.proofs.starts_word.Given as goal
-
-abbrev pub invariant-loop-e : goal.invariant-loop-e
-invariant-loop-e l = Trying l.text l.pool l.p l.limit l.e l.node
-
-abbrev pub decreases-loop-e : goal.decreases-loop-e
-decreases-loop-e l = l.limit - l.e
