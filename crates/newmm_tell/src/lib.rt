@@ -35,7 +35,7 @@ fn tell(part: &[u32], pool: &[u32], row: &mut [u32], k: usize, start: usize)
     while i < k {
         let e = wide(row[i]);
         let reason = reason_at(part, pool, &row[flags..flags_end], b, e);
-        row[i] = REASONS * narrow(start + e) + reason;
+        row[i] = REASONS * narrow(start + e) + reason.number();
         b = e;
         i += 1;
     }

@@ -9,7 +9,9 @@ use trie_child::find_child;
 use trie_pool::MAX_WORD;
 use trie_search::ends_word;
 
-#[derive(Clone, Copy)]
+// What a step finds.
+// Kept: (1) three outcomes, so an Option of an enum of two is no plainer.
+#[derive(Clone, Copy, Debug, PartialEq, Eq)]
 pub enum Step {
     Nothing,
     Word(usize),
@@ -22,19 +24,16 @@ pub fn word_step(text: &[u32], pool: &[u32], flags: &[u32], e: usize, node: usiz
     requires { Asks text.now pool.now flags.now e node }
     ensures { Steps text.now pool.now e node result }
 {
-    let kid = find_child(pool, node, text[e]);
-    match kid {
-        None => Step::Nothing,
-        Some(r) => {
-            if !ends_word(pool, r) {
-                return Step::Part(r);
-            }
-            if flags[e + 1] == 0 {
-                return Step::Part(r);
-            }
-            Step::Word(r)
-        }
+    let Some(r) = find_child(pool, node, text[e]) else {
+        return Step::Nothing;
+    };
+    if !ends_word(pool, r) {
+        return Step::Part(r);
     }
+    if flags[e + 1] == 0 {
+        return Step::Part(r);
+    }
+    Step::Word(r)
 }
 
 // How far a word from b can reach: as many characters as a word may have, within a text of n.
@@ -42,8 +41,5 @@ pub fn word_limit(n: usize, b: usize) -> usize
     requires { b ≤ n }
     ensures { result ≡ b + min max_word (n - b) }
 {
-    if n - b < MAX_WORD {
-        return n;
-    }
-    b + MAX_WORD
+    b + MAX_WORD.min(n - b)
 }

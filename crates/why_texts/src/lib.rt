@@ -7,7 +7,7 @@ ghost use Rattle.sheet_texts.specs.Texts.{written, amount};
 ghost use Rattle.why_texts.specs.Texts.{why, bytes_in, token_line, token_lines, tokens_in, cut_lines, why_text};
 
 use cells::wide;
-use newmm_reason_rules::{DICTIONARY_WORD, NON_THAI_RUN, TO_NON_THAI, TO_WORD};
+use newmm_reason_rules::Reason;
 use sheet_bytes::{front, keep};
 use sheet_texts::{Reply, keep_number, write_reply};
 
@@ -39,21 +39,20 @@ fn keep_why(out: &mut [u8], used: usize, end: usize, reason: u32) -> usize
     ensures value { result ≡ length (kept out.old used (why end reason)) }
     ensures out_after { out.new ≡ laid (kept out.old used (why end reason)) out.old }
 {
-    if reason == DICTIONARY_WORD {
-        return keep(out, used, b"word");
+    match Reason::from_number(reason) {
+        Some(Reason::DictionaryWord) => keep(out, used, b"word"),
+        Some(Reason::NonThaiRun) => keep(out, used, b"run of letters, digits or blanks"),
+        Some(Reason::ToWord) => {
+            let n = keep(out, used, b"no word here: skipped to the word at ");
+            keep_number(out, n, end)
+        }
+        Some(Reason::ToNonThai) => {
+            let n = keep(out, used, b"no word here: skipped to the run at ");
+            keep_number(out, n, end)
+        }
+        Some(Reason::ToEnd) => keep(out, used, b"no word here: skipped to the end"),
+        None => keep(out, used, b"no word here: skipped to the end"),
     }
-    if reason == NON_THAI_RUN {
-        return keep(out, used, b"run of letters, digits or blanks");
-    }
-    if reason == TO_WORD {
-        let n = keep(out, used, b"no word here: skipped to the word at ");
-        return keep_number(out, n, end);
-    }
-    if reason == TO_NON_THAI {
-        let n = keep(out, used, b"no word here: skipped to the run at ");
-        return keep_number(out, n, end);
-    }
-    keep(out, used, b"no word here: skipped to the end")
 }
 
 // Adds a token's line.
