@@ -12,7 +12,7 @@ ghost use Rattle.newmm_one_cut.specs.inner.Strips.{Fresh};
 ghost use Rattle.newmm_segment.specs.inner.Written.{Ready, Written, FirstTold};
 ghost use Rattle.newmm_tell.specs.inner.Telling.{CutPart};
 
-use cells::{clear_from, narrow, wide};
+use cells::clear_from;
 use newmm_bfs::{CLUSTER_ENDS, EDGE_ENDS, STRIPS};
 use newmm_one_cut::cut_marked;
 use newmm_reason_at::reason_at;
@@ -31,13 +31,11 @@ fn tell(part: &[u32], pool: &[u32], row: &mut [u32], k: usize, start: usize)
     let flags = CLUSTER_ENDS * m;
     let flags_end = EDGE_ENDS * m;
     let mut b = 0;
-    let mut i = 0;
-    while i < k {
-        let e = wide(row[i]);
+    for i in 0..k {
+        let e = row[i] as usize;
         let reason = reason_at(part, pool, &row[flags..flags_end], b, e);
-        row[i] = REASONS * narrow(start + e) + reason.number();
+        row[i] = REASONS * (start + e) as u32 + reason.number();
         b = e;
-        i += 1;
     }
 }
 
