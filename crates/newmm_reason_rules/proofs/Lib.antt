@@ -1,3 +1,4 @@
 pub mod Firsts
 pub mod Reasons
 pub mod Why
+pub mod Numbers
