@@ -69,7 +69,7 @@ pub fn first_from(map: &[u64], from: usize) -> Option<usize>
 }
 
 fn ones_of(bits: u64) -> usize
-    ensures { result ≡ ones bits }
+    ensures { (result ≡ ones bits) × (result ≤ 64) }
 {
     bits.count_ones() as usize
 }

@@ -18,7 +18,12 @@ use trie_plants_check::check_plant;
 use trie_pool::NODE;
 
 // Refusals 2, 3, 4 and 5, by the number of scratch cells; accepted with the text's length.
-pub fn check_plant_cut(text: &[u32], pool: &[u32], plant: Plant, cells: usize) -> Result<usize, Refusal>
+pub fn check_plant_cut(
+    text: &[u32],
+    pool: &[u32],
+    plant: Plant,
+    cells: usize,
+) -> Result<usize, Refusal>
     ensures { result ≡ answer (first_causes text.now (plant_meaning plant pool.now) cells)
         (length text.now) }
 {
@@ -44,13 +49,8 @@ pub fn cut_in(
         (call text.now pool.now out.old scratch.old mode)
         result out.new scratch.new }
 {
-    let checked = check_plant_cut(text, pool, plant, scratch.len());
-    match checked {
-        Err(r) => Err(r),
-        Ok(_) => {
-            let cells = NODE * capacity(pool.len());
-            let a = half_at(plant);
-            cut_checked(text, &pool[a..cells], out, scratch, mode)
-        }
-    }
+    check_plant_cut(text, pool, plant, scratch.len())?;
+    let cells = NODE * capacity(pool.len());
+    let a = half_at(plant);
+    cut_checked(text, &pool[a..cells], out, scratch, mode)
 }

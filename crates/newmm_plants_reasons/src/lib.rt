@@ -7,10 +7,8 @@ ghost use Rattle.newmm_answers.specs.Calls.{call};
 ghost use Rattle.newmm_reasons_answers.specs.inner.Cells.{Tells};
 ghost use Rattle.newmm_plants_reasons.specs.Calls.{PlantReasons};
 
-use cells::clear_first;
-use newmm_many_answers::ends_told;
 use newmm_plants::check_plant_cut;
-use newmm_reasons::put_pairs;
+use newmm_reasons::take_pairs;
 use newmm_rules::{Ends, Mode};
 use newmm_told::tell_checked;
 use refusal::Refusal;
@@ -32,15 +30,10 @@ fn tell_in(
     ensures { Tells text.now (plant_meaning plant pool.now) scratch.old room mode
         result scratch.new }
 {
-    let checked = check_plant_cut(text, pool, plant, scratch.len());
-    match checked {
-        Err(r) => Err(r),
-        Ok(_) => {
-            let cells = NODE * capacity(pool.len());
-            let a = half_at(plant);
-            tell_checked(text, &pool[a..cells], scratch, room, mode)
-        }
-    }
+    check_plant_cut(text, pool, plant, scratch.len())?;
+    let cells = NODE * capacity(pool.len());
+    let a = half_at(plant);
+    tell_checked(text, &pool[a..cells], scratch, room, mode)
 }
 
 // Cuts a text by a plant's words, in a mode: for each token two cells of the output, its end and
@@ -59,8 +52,6 @@ pub fn cut_reasons_in(
         result out.new scratch.new }
 {
     let told = tell_in(text, pool, plant, scratch, out.len() / 2, mode);
-    let k = ends_told(told);
-    put_pairs(scratch, out, k);
-    clear_first(scratch, k);
+    take_pairs(told, scratch, out);
     told
 }

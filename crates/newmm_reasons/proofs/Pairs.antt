@@ -42,38 +42,41 @@ reason_at (c ∷ l) (suc i) h =
     let z : 2 * suc i + 1 ≡ suc (suc (2 * i + 1)) = omega arith in
     ap (λ (j : ℕ). get_or (unpacked (c ∷ l)) j 0) z ∙ reason_at l i (omega arith)
 
--- i pairs of k stand in the row
-pub record Putting (cells old row : List ℕ) (k i : ℕ) : Type 0 where
-  pub enough : k ≤ length cells
-  pub filled : Filled (unpacked (take k cells)) old row (2 * k) (2 * i)
+-- i pairs stand in the row
+pub record Putting (cells old row : List ℕ) (i : ℕ) : Type 0 where
+  pub filled : Filled (unpacked cells) old row (2 * length cells) (2 * i)
 
-module _ (cells old : List ℕ) (k : ℕ) (enough : k ≤ length cells) (fits : 2 * k ≤ length old) where
-  pub putting_none : Putting cells old old k 0
-  putting_none = record { enough = enough; filled = filled_none (unpacked (take k cells)) old (2 * k) (omega (arith, unpacked_long (take k cells), length-take-le k cells enough)) fits }
+module _ (cells old : List ℕ) (fits : 2 * length cells ≤ length old) where
+  pub putting_none : Putting cells old old 0
+  putting_none = record { filled = filled_none (unpacked cells) old (2 * length cells) (omega (arith, unpacked_long cells)) fits }
 
-module _ {cells old row : List ℕ} {k i : ℕ} (p : Putting cells old row k i) where
+module _ {cells old row : List ℕ} {i : ℕ} (p : Putting cells old row i) where
   pub row_long : length row ≡ length old
   row_long = long p.filled
 
-  pub pair_inside : i < k → 2 * i + 1 < length row
+  pub pair_inside : i < length cells → 2 * i + 1 < length row
   pair_inside h = omega (arith, row_long, p.filled.fits)
 
-  pub next_inside : (x : ℕ) → i < k → 2 * i + 1 < length (set row (2 * i) x)
+  pub next_inside : (x : ℕ) → i < length cells → 2 * i + 1 < length (set row (2 * i) x)
   next_inside x h = omega (arith, pair_inside h, length-set row (2 * i) x)
 
-  pub putting_more : {c x y : ℕ} → i < k → c ≡ get_or cells i 0 → x ≡ c / 8 → y ≡ c % 8 → Putting cells old (set (set row (2 * i) x) (2 * i + 1) y) k (i + 1)
+  pub putting_more : {c x y : ℕ} → i < length cells → c ≡ get_or cells i 0 → x ≡ c / 8 → y ≡ c % 8 → Putting cells old (set (set row (2 * i) x) (2 * i + 1) y) (i + 1)
   putting_more {c} {x} {y} h e a b =
-      let n = length-take-le k cells p.enough in
-      let at : c ≡ get_or (take k cells) i 0 = e ∙ sym (get_or-take k cells i 0 h) in
-      let one = filled_more p.filled x (omega arith) (a ∙ ap (λ (v : ℕ). v / 8) at ∙ sym (end_at (take k cells) i (omega arith))) in
-      let two = filled_more one y (omega arith) (b ∙ ap (λ (v : ℕ). v % 8) at ∙ sym (reason_at (take k cells) i (omega arith))) in
-      record { enough = p.enough; filled = record { upto = omega arith; enough = two.enough; fits = two.fits; is = two.is ∙ ap (λ (j : ℕ). take j (unpacked (take k cells)) ++ drop j old) (let z : 2 * i + 1 + 1 ≡ 2 * (i + 1) = omega arith in z) } }
+      let one = filled_more p.filled x (omega arith) (a ∙ ap (λ (v : ℕ). v / 8) e ∙ sym (end_at cells i h)) in
+      let two = filled_more one y (omega arith) (b ∙ ap (λ (v : ℕ). v % 8) e ∙ sym (reason_at cells i h)) in
+      record { filled = record { upto = omega arith; enough = two.enough; fits = two.fits; is = two.is ∙ ap (λ (j : ℕ). take j (unpacked cells) ++ drop j old) (let z : 2 * i + 1 + 1 ≡ 2 * (i + 1) = omega arith in z) } }
 
-  pub putting_all : k ≤ i → row ≡ unpacked (take k cells) ++ drop (2 * k) old
+  pub putting_all : length cells ≤ i → row ≡ unpacked cells ++ drop (2 * length cells) old
   putting_all h =
-      let l : 2 * k ≡ length (unpacked (take k cells)) = omega (arith, unpacked_long (take k cells), length-take-le k cells p.enough) in
+      let l : 2 * length cells ≡ length (unpacked cells) = omega (arith, unpacked_long cells) in
       filled_all p.filled (omega arith)
-      ∙ ap (λ (x : List ℕ). x ++ drop (2 * k) old) (ap (λ (j : ℕ). take j (unpacked (take k cells))) l ∙ take-length (unpacked (take k cells)))
+      ∙ ap (λ (x : List ℕ). x ++ drop (2 * length cells) old) (ap (λ (j : ℕ). take j (unpacked cells)) l ∙ take-length (unpacked cells))
+
+-- ---- the cells that are lent
+
+pub put_first : (scratch out : List ℕ) (k : ℕ) → k ≤ length scratch → {row : List ℕ} → row ≡ unpacked (take k scratch) ++ drop (2 * length (take k scratch)) out
+    → row ≡ unpacked (take k scratch) ++ drop (2 * k) out
+put_first scratch out k h is = is ∙ ap (λ (j : ℕ). unpacked (take k scratch) ++ drop (2 * j) out) (length-take-le k scratch h)
 
 -- ---- the output
 

@@ -5,11 +5,11 @@ ghost use Rattle.std.specs.Prelude.{◌≡◌, ◌++◌, ◌≤◌, length, repl
 ghost use Rattle.newmm_records.specs.Calls.{records_call, Records};
 ghost use Rattle.newmm_records.specs.inner.Cells.{records as records_in};
 
-use refusal::Refusal;
 use newmm_many_answers::ends_told;
 use newmm_reasons_answers::REASONS;
 use newmm_rules::{Ends, Mode};
 use newmm_told::tell;
+use refusal::Refusal;
 
 // A token's end and its reason. Two cells without padding.
 #[repr(C)]
@@ -25,15 +25,13 @@ fn fill(records: &mut [Record], told: &mut [u32], n: usize)
     ensures { (records.new ≡ records_in told.old n ++ drop n records.old)
         × (told.new ≡ replicate n 0 ++ drop n told.old) }
 {
-    let mut i = 0;
-    while i < n {
+    for i in 0..n {
         let c = told[i];
         records[i] = Record {
             end: c / REASONS,
             reason: c % REASONS,
         };
         told[i] = 0;
-        i += 1;
     }
 }
 
@@ -51,8 +49,7 @@ pub fn cut_records(
         (records_call text.now pool.now records.old scratch.old mode)
         result records.new scratch.new }
 {
-    let room = records.len();
-    let told = tell(text, pool, scratch, room, mode);
+    let told = tell(text, pool, scratch, records.len(), mode);
     let k = ends_told(told);
     fill(records, scratch, k);
     told

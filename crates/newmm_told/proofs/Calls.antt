@@ -31,12 +31,13 @@ leaves : (mode : Mode) (text : List ℕ) (m : Option Words) (scratch : List ℕ)
 leaves mode text m scratch room e = ap (λ (a : Result ℕ Refusal). output a (cells_of (told_of mode (held m) text)) (scratch_after text m scratch)) e
 
 -- refusals 2 to 5
-pub early_tells : (mode : Mode) (text : List ℕ) (m : Option Words) (scratch : List ℕ) (room : ℕ) {a : Result ℕ Refusal} → a ≡ answer (first_causes text m (length scratch)) (length text) → {r : Refusal} → a ≡ Err r
-    → Tells text m scratch room mode (Err r) scratch
-early_tells mode text m scratch room is no' = (
-  refused_told mode text m scratch is no' room,
-  scratch_kept mode text m scratch is no' ∙ sym (leaves mode text m scratch room (refused_all mode text m scratch is no' room)),
-)
+pub early_tells : (mode : Mode) (text : List ℕ) (m : Option Words) (scratch : List ℕ) (room : ℕ) {r : Refusal} → Err r ≡ answer (first_causes text m (length scratch)) (length text) → {told : Result Ends Refusal} → told ≡ Err r
+    → Tells text m scratch room mode told scratch
+early_tells mode text m scratch room {r} is e =
+    let no' : ◌≡◌ {A = Result ℕ Refusal} (Err r) (Err r) = refl in (
+      e ∙ refused_told mode text m scratch is no' room,
+      scratch_kept mode text m scratch is no' ∙ sym (leaves mode text m scratch room (refused_all mode text m scratch is no' room)),
+    )
 
 -- refusal 6, and an accepted call
 module _ {mode : Mode} {text view row : List ℕ} (scratch : List ℕ) (room : ℕ) {r : Ends} (z : Ended text_cells mode text view row (length scratch) r) where

@@ -33,7 +33,10 @@ pub fn tell_ready(
         clear_first(scratch, n);
         return Err(Refusal::OutputTooShort(n));
     }
-    Ok(Ends { ends: n, edges: r.edges })
+    Ok(Ends {
+        ends: n,
+        edges: r.edges,
+    })
 }
 
 // The same, whatever scratch holds.
@@ -48,24 +51,24 @@ pub fn tell_checked(
     ensures { Tells text.now (in_view view.now) scratch.old room mode
         result scratch.new }
 {
-    let all = scratch.len();
-    clear_first(scratch, all);
+    scratch.fill(0);
     tell_ready(text, view, scratch, room, mode)
 }
 
 // Tells a text by the words of a pool, in a mode, for a row with room for so many records. What is
 // told stands at the front of scratch then, one cell a token; a refused call leaves scratch as a
 // refused cut does.
-pub fn tell(text: &[u32], pool: &[u32], scratch: &mut [u32], room: usize, mode: Mode) -> Result<Ends, Refusal>
+pub fn tell(
+    text: &[u32],
+    pool: &[u32],
+    scratch: &mut [u32],
+    room: usize,
+    mode: Mode,
+) -> Result<Ends, Refusal>
     ensures { Tells text.now (meaning pool.now) scratch.old room mode
         result scratch.new }
 {
-    let checked = check_cut(text, pool, scratch.len());
-    match checked {
-        Err(r) => Err(r),
-        Ok(_) => {
-            let cells = NODE * capacity(pool.len());
-            tell_checked(text, &pool[..cells], scratch, room, mode)
-        }
-    }
+    check_cut(text, pool, scratch.len())?;
+    let cells = NODE * capacity(pool.len());
+    tell_checked(text, &pool[..cells], scratch, room, mode)
 }

@@ -15,9 +15,9 @@ pub loop-bits-preserved : goal.loop-bits-preserved
 loop-bits-preserved c =
     let whole : length (take (c.args.position / 64) c.args.map.now) ≡ c.args.position / 64 = length-take-le _ _ (omega arith) in
     counted_more (λ i h. (c.type_inv.map i).fits) c.loop-bits.invariant (omega arith)
-    (c.ones_of-count.ensures ∙ ap ones (get_or-take (c.args.position / 64) c.args.map.now c.loop-bits.bits-index 0 (omega arith)))
+    (c.ones_of-count.ensures.0 ∙ ap ones (get_or-take (c.args.position / 64) c.args.map.now c.loop-bits.bits-index 0 (omega arith)))
 
 pub returns : goal.returns
 returns c =
     let whole : length (take (c.args.position / 64) c.args.map.now) ≡ c.args.position / 64 = length-take-le _ _ (omega arith) in
-    counted_last (λ i h. (c.type_inv.map i).fits) c.loop-bits.invariant c.args.position c.requires.0 (omega arith) c.ones_of.ensures
+    counted_last (λ i h. (c.type_inv.map i).fits) c.loop-bits.invariant c.args.position c.requires.0 (omega arith) c.ones_of.ensures.0

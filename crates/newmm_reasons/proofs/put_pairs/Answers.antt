@@ -1,14 +1,10 @@
-use Prim.Native.Nat.{◌-◌}
 use native.Mathlib.Omega.{arith}
 use mathlib.Core.Path.{refl}
 use Rattle.newmm_reasons.proofs.Pairs.{putting_none, row_long, pair_inside, next_inside, putting_more, putting_all}
 use Rattle.newmm_reasons.proofs.put_pairs.Goals as goal
 
 pub loop-i-init : goal.loop-i-init
-loop-i-init c = putting_none _ _ _ c.requires.0 c.requires.1
-
-pub bounds-cells-i : goal.bounds-cells-i
-bounds-cells-i c = let h = c.loop-i-test.true in omega (arith, c.requires.0)
+loop-i-init c = putting_none _ _ c.requires
 
 pub bounds-out-i : goal.bounds-out-i
 bounds-out-i c = omega (arith, pair_inside c.loop-i.invariant c.loop-i-test.true)
@@ -16,14 +12,8 @@ bounds-out-i c = omega (arith, pair_inside c.loop-i.invariant c.loop-i-test.true
 pub bounds-out-i-in-loop-i : goal.bounds-out-i-in-loop-i
 bounds-out-i-in-loop-i c = next_inside c.loop-i.invariant _ c.loop-i-test.true
 
-pub loop-i-smaller : goal.loop-i-smaller
-loop-i-smaller c = let h = c.loop-i-test.true in omega arith
-
 pub loop-i-preserved : goal.loop-i-preserved
 loop-i-preserved c = putting_more c.loop-i.invariant c.loop-i-test.true refl refl refl
-
-pub shape_of-out : goal.shape_of-out
-shape_of-out c = row_long c.loop-i.invariant
 
 pub returns : goal.returns
 returns c = putting_all c.loop-i.invariant c.loop-i-test.false

@@ -1,13 +1,17 @@
-use Rattle.newmm.proofs.Calls.{cleared_all, still_sees, now_blank}
+use native.Mathlib.Omega.{arith}
+use mathlib.Core.Path.{◌≡◌}
+use lib.ListN.{length, replicate}
+use Rattle.std.proofs.lemmas.Grind.{common_steps}
+use Rattle.newmm.proofs.Calls.{still_sees, now_blank}
 use Rattle.newmm_told.proofs.Calls.{cleared_tells}
 use Rattle.newmm_told.proofs.tell_checked.Goals as goal
 
 pub tell_ready-requires : goal.tell_ready-requires
 tell_ready-requires c =
-    let e = cleared_all c.args.scratch.now c.clear_first.ensures in
+    let e : c.fill.new.self ≡ replicate (length c.args.scratch.now) 0 = grind (arith, common_steps) in
     (still_sees c.args.scratch.now e c.requires, now_blank c.args.scratch.now e)
 
 pub returns : goal.returns
 returns c =
-    cleared_tells c.args.scratch.now (cleared_all c.args.scratch.now c.clear_first.ensures)
-    c.requires c.args.room c.args.mode c.tell_ready.ensures
+    let e : c.fill.new.self ≡ replicate (length c.args.scratch.now) 0 = grind (arith, common_steps) in
+    cleared_tells c.args.scratch.now e c.requires c.args.room c.args.mode c.tell_ready.ensures
