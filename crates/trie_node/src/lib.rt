@@ -6,7 +6,6 @@ ghost use Rattle.refusal.specs.Limits.{max_nodes};
 ghost use Rattle.trie_pool.specs.Cells.{node_cells};
 ghost use Rattle.trie_node.specs.inner.Checks.{Decides, Legal, Inner, Stands};
 
-use cells::{narrow, wide};
 use char_string_scalars::is_scalar;
 use char_string_white_space::is_trimmed;
 use trie_pool::{COUNT, FIRST, MARK, MAX_MARK, NODE};
@@ -15,13 +14,7 @@ use trie_pool::{COUNT, FIRST, MARK, MAX_MARK, NODE};
 fn is_thai(x: u32) -> bool
     ensures { Decides result ((0xE01 ≤ x) × (x ≤ 0xE5B)) }
 {
-    if x < 0xE01 {
-        return false;
-    }
-    if 0xE5B < x {
-        return false;
-    }
-    true
+    matches!(x, 0xE01..=0xE5B)
 }
 
 // Whether a node that is not the root may have this scalar beside this mark.
@@ -47,13 +40,10 @@ fn inner_ok(scalar: u32, count: u32, mark: u32) -> bool
     if !scalar_ok(scalar, mark) {
         return false;
     }
-    if wide(count) + wide(mark) == 0 {
+    if count == 0 && mark == 0 {
         return false;
     }
-    if MAX_MARK < mark {
-        return false;
-    }
-    true
+    mark <= MAX_MARK
 }
 
 // Whether node i, which is not the root, may stand where it does, if its children start at s.
@@ -62,7 +52,7 @@ pub fn node_ok(p: &[u32], i: usize, s: usize) -> bool
     ensures { Decides result (Stands p.now i s) }
 {
     let a = NODE * i;
-    if p[a + FIRST] != narrow(s) {
+    if p[a + FIRST] != s as u32 {
         return false;
     }
     inner_ok(p[a], p[a + COUNT], p[a + MARK])

@@ -10,7 +10,7 @@ use Rattle.trie_pool.proofs.Shape.{count_is}
 use Rattle.trie_node.specs.inner.Checks.{Decides, Stands}
 use Rattle.trie_nodes.specs.declared.Walk.{Walk}
 use Rattle.trie_nodes.specs.inner.Falls.{none, fall, first}
-use Rattle.trie_nodes.specs.inner.Walking.{Aside, Nodes, PlainNodes, Walking, Next, At, Parents, Leaves}
+use Rattle.trie_nodes.specs.inner.Walking.{Aside, Nodes, PlainNodes, AllNodes, Walking, Next, At, Parents, Leaves}
 use Rattle.trie_nodes.proofs.Cells.{first_none}
 use Rattle.trie_nodes.proofs.Walks.{walking_none, walking_more, wrong_far, done}
 
@@ -19,9 +19,6 @@ use Rattle.trie_nodes.proofs.Walks.{walking_none, walking_more, wrong_far, done}
 pub root_first : {p : List ℕ} {n : ℕ} → Nodes p n → get_or p 1 0 ≡ 1
 unfolding first_at
 root_first h = h.shaped.start
-
-pub root_of : {p : List ℕ} {n : ℕ} → PlainNodes p n → (get_or p 1 0 ≡ 1) × Aside p 0
-root_of h = (root_first h.nodes, h.aside 0 h.nodes.shaped.some)
 
 -- k children
 pub walking_first : (p : List ℕ) (n k b : ℕ) → k ≡ get_or p 2 0 → 0 < n → b ≤ 1 → (k < n → scalar_at p 0 < none → b ≡ first (scalar_at p) 1 k) → Walking p n 1 (1 + k) 0 b
@@ -66,16 +63,28 @@ module _ {p : List ℕ} {n i s : ℕ} {W : Type 0} where
 pub ended : {p : List ℕ} {n i s f b : ℕ} → Walking p n i s f b → s ≡ n → i ≡ n → 0 < n → n ≤ 1048576 → get_or p 0 0 ≡ n → get_or p 1 0 ≡ 1 → Decides (eqb f b) (Nodes p n)
 ended {p} {n} {i} {s} {f} {b} v h e some small used root = done p n (subst (λ (t : ℕ). Walking p n t s f b) e v) h some small used root
 
--- second halves that are 0
-module _ {p : List ℕ} {n : ℕ} {w : Walk} where
-  pub zeros_in : At p n w → w.i ≡ n → PlainNodes p n → (w.fifth ≡ 0) × (w.sixth ≡ 0) × (w.seventh ≡ 0) × (w.eighth ≡ 0)
-  zeros_in v e h = v.1.all (λ j l. h.aside j (omega arith))
+-- ---- both halves, or one alone
 
-  pub finish : Leaves p n w.i w.s (At p n w) → w.i ≡ n → 0 < n → n ≤ 1048576 → get_or p 0 0 ≡ n → get_or p 1 0 ≡ 1 → (w.fifth ≡ 0) × (w.sixth ≡ 0) × (w.seventh ≡ 0) × (w.eighth ≡ 0)
-      → Decides (eqb w.falls w.starts) (PlainNodes p n)
+pub plain_nodes : {p : List ℕ} {n : ℕ} → AllNodes 8 p n → PlainNodes p n
+plain_nodes h = record { nodes = h.nodes; aside = h.aside refl }
+
+pub all_plain : {p : List ℕ} {n : ℕ} → PlainNodes p n → AllNodes 8 p n
+all_plain h = record { nodes = h.nodes; aside = λ e. h.aside }
+
+pub root_of : {cells : ℕ} {p : List ℕ} {n : ℕ} → AllNodes cells p n → (get_or p 1 0 ≡ 1) × (cells ≡ 8 → Aside p 0)
+root_of h = (root_first h.nodes, λ e. h.aside e 0 h.nodes.shaped.some)
+
+module _ {cells : ℕ} {p : List ℕ} {n : ℕ} {w : Walk} where
+  -- second halves that are 0
+  pub zeros_in : At cells p n w → w.i ≡ n → cells ≡ 8 → AllNodes cells p n → (w.fifth ≡ 0) × (w.sixth ≡ 0) × (w.seventh ≡ 0) × (w.eighth ≡ 0)
+  zeros_in v e all h = (v.1 all).all (λ j l. h.aside all j (omega arith))
+
+  pub finish : Leaves p n w.i w.s (At cells p n w) → w.i ≡ n → 0 < n → n ≤ 1048576 → get_or p 0 0 ≡ n → get_or p 1 0 ≡ 1
+      → (cells ≡ 8 → (w.fifth ≡ 0) × (w.sixth ≡ 0) × (w.seventh ≡ 0) × (w.eighth ≡ 0))
+      → Decides (eqb w.falls w.starts) (AllNodes cells p n)
   finish h e some small used root z =
       let d = ended h.walk.0 h.here e some small used root in
       record {
-        yes' = λ y. record { nodes = d.yes' y; aside = λ j l. h.walk.1.none z.0 z.1 z.2 z.3 j (omega arith) };
+        yes' = λ y. record { nodes = d.yes' y; aside = λ all j l. let q = z all in (h.walk.1 all).none q.0 q.1 q.2 q.3 j (omega arith) };
         no' = λ y q. d.no' y q.nodes;
       }

@@ -70,3 +70,15 @@ none_of a b c d = record {
       (or_left a b w, or_right a b w, or_right (bit_or a b) c x, or_right (bit_or (bit_or a b) c) d z);
   no' = λ y h. eqb-false (bit_or (bit_or (bit_or a b) c) d) 0 y (or_both (bit_or (bit_or a b) c) d (or_both (bit_or a b) c (or_both a b h.0 h.1) h.2) h.3);
 }
+
+-- the root: its start, and its second half
+pub root_both : (p : List ℕ) (P : Type 0) → P → get_or p 1 0 ≡ 1
+    → Decides (eqb (bit_or (bit_or (bit_or (get_or p 4 0) (get_or p 5 0)) (get_or p 6 0)) (get_or p 7 0)) 0) ((get_or p 1 0 ≡ 1) × (P → Aside p 0))
+root_both p P h root =
+    let d = none_of (get_or p 4 0) (get_or p 5 0) (get_or p 6 0) (get_or p 7 0) in
+    record {
+      yes' = λ y. let q = d.yes' y in (root, λ z. aside_join p 0 q.0 q.1 q.2 q.3);
+      no' = λ y q.
+          let a = q.1 h in
+          d.no' y (a.zeros 4 (omega arith) (omega arith), a.zeros 5 (omega arith) (omega arith), a.zeros 6 (omega arith) (omega arith), a.zeros 7 (omega arith) (omega arith));
+    }

@@ -1,5 +1,6 @@
-// Whether the nodes of a plain pool stand in level order, each as it may, and the scalars of the
-// children of each rise. Two walks see to all of that, without a branch on a node's children: they
+// Whether the nodes of a dictionary stand in level order, each as it may, and the scalars of the
+// children of each rise: of one in a half, or of a plain pool, whose second halves are seen to by
+// the same walks. Two walks see to all of that, without a branch on a node's children: they
 // count the nodes that fall, that is, whose scalar isn't above that of the node before, and the
 // first children that fall. If these are as many, no other node falls.
 #![tactic(auto)]
@@ -9,9 +10,8 @@ ghost use Rattle.refusal.specs.Limits.{max_nodes};
 ghost use Rattle.trie_pool.specs.Cells.{node_cells, scalar_at, used};
 ghost use Rattle.trie_node.specs.inner.Checks.{Decides};
 ghost use Rattle.trie_nodes.specs.inner.Falls.{none, fall_to, or_none, fall, first};
-ghost use Rattle.trie_nodes.specs.inner.Walking.{Aside, PlainNodes, At, Parents, Leaves};
+ghost use Rattle.trie_nodes.specs.inner.Walking.{Aside, AllNodes, At, Parents, Leaves};
 
-use cells::wide;
 use trie_node::node_ok;
 use trie_pool::{COUNT, FIRST, HALF, NODE};
 
@@ -36,22 +36,11 @@ pub struct Walk {
     pub eighth: u32,
 }
 
-// A cell as a number.
-pub fn number(x: u32) -> usize
-    ensures value { result ≡ x }
-    ensures upper_bound { result ≤ 0xFFFFFFFF }
-{
-    wide(x)
-}
-
 // 1 if x isn't above y, else 0.
 fn falls_to(y: u32, x: u32) -> usize
     ensures { result ≡ fall_to y x }
 {
-    if x <= y {
-        return 1;
-    }
-    0
+    usize::from(x <= y)
 }
 
 // The scalar x of a first child, or NONE where there are no children.
@@ -98,123 +87,79 @@ pub fn fall_at(p: &[u32], i: usize) -> usize
 
 // The walk up to the last node with children, if the root is right. All before i is right, if s is
 // n at the end: it stops where a node is wrong.
-fn parents(p: &[u32], n: usize) -> Walk
-    requires { (0 < n) × (n ≤ max_nodes) × (node_cells * n ≤ length p.now) × (Aside p.now 0) }
-    ensures { Parents p.now n result.s (At p.now n result) }
+fn parents<const CELLS: usize>(p: &[u32], n: usize) -> Walk
+    requires small { (0 < n) × (n ≤ max_nodes) }
+    requires room { node_cells * n ≤ length p.now + 4 }
+    requires both { CELLS ≡ node_cells → node_cells * n ≤ length p.now }
+    requires root { CELLS ≡ node_cells → Aside p.now 0 }
+    ensures { Parents p.now n result.s (At CELLS p.now n result) }
 {
-    let count = number(p[COUNT]);
-    let mut i: usize = 1;
-    let mut s = 1 + count;
-    let mut falls: usize = 0;
-    let mut starts = root_falls(p, n, count);
-    let mut fifth: u32 = 0;
-    let mut sixth: u32 = 0;
-    let mut seventh: u32 = 0;
-    let mut eighth: u32 = 0;
-    while s < n {
-        if s <= i {
-            return Walk {
-                i,
-                s,
-                falls,
-                starts,
-                fifth,
-                sixth,
-                seventh,
-                eighth,
-            };
+    let count = p[COUNT] as usize;
+    let mut w = Walk {
+        i: 1,
+        s: 1 + count,
+        falls: 0,
+        starts: root_falls(p, n, count),
+        fifth: 0,
+        sixth: 0,
+        seventh: 0,
+        eighth: 0,
+    };
+    // Kept: (3) two places move, i by one and s by a count, and the walk stops where a node is wrong.
+    while w.s < n {
+        if w.s <= w.i {
+            return w;
         }
-        if !node_ok(p, i, s) {
-            return Walk {
-                i,
-                s,
-                falls,
-                starts,
-                fifth,
-                sixth,
-                seventh,
-                eighth,
-            };
+        if !node_ok(p, w.i, w.s) {
+            return w;
         }
-        let k = number(p[NODE * i + COUNT]);
-        falls += fall_at(p, i);
-        starts += start_falls(p, s, k);
-        let b = NODE * i + HALF;
-        fifth = fifth | p[b];
-        sixth = sixth | p[b + 1];
-        seventh = seventh | p[b + 2];
-        eighth = eighth | p[b + 3];
-        s += k;
-        i += 1;
+        let k = p[NODE * w.i + COUNT] as usize;
+        w.falls += fall_at(p, w.i);
+        w.starts += start_falls(p, w.s, k);
+        let b = NODE * w.i + HALF;
+        w.s += k;
+        w.i += 1;
+        if CELLS != NODE {
+            continue;
+        }
+        w.fifth |= p[b];
+        w.sixth |= p[b + 1];
+        w.seventh |= p[b + 2];
+        w.eighth |= p[b + 3];
     }
-    Walk {
-        i,
-        s,
-        falls,
-        starts,
-        fifth,
-        sixth,
-        seventh,
-        eighth,
-    }
+    w
 }
 
 // The rest of the walk, over nodes without children. All is right if i is n at the end.
-fn leaves(p: &[u32], n: usize, from: Walk) -> Walk
-    requires { (n ≤ max_nodes) × (node_cells * n ≤ length p.now) × (At p.now n from) × (from.s ≡ n) }
-    ensures { Leaves p.now n result.i result.s (At p.now n result) }
+fn leaves<const CELLS: usize>(p: &[u32], n: usize, from: Walk) -> Walk
+    requires small { n ≤ max_nodes }
+    requires room { node_cells * n ≤ length p.now + 4 }
+    requires both { CELLS ≡ node_cells → node_cells * n ≤ length p.now }
+    requires at { At CELLS p.now n from }
+    requires through { from.s ≡ n }
+    ensures { Leaves p.now n result.i result.s (At CELLS p.now n result) }
 {
-    let s = from.s;
-    let starts = from.starts;
-    let mut i = from.i;
-    let mut falls = from.falls;
-    let mut fifth = from.fifth;
-    let mut sixth = from.sixth;
-    let mut seventh = from.seventh;
-    let mut eighth = from.eighth;
-    while i < n {
-        if !node_ok(p, i, n) {
-            return Walk {
-                i,
-                s,
-                falls,
-                starts,
-                fifth,
-                sixth,
-                seventh,
-                eighth,
-            };
+    let mut w = from;
+    // Kept: (3) the place where the walk stops is a field of what it returns.
+    while w.i < n {
+        if !node_ok(p, w.i, n) {
+            return w;
         }
-        if p[NODE * i + COUNT] != 0 {
-            return Walk {
-                i,
-                s,
-                falls,
-                starts,
-                fifth,
-                sixth,
-                seventh,
-                eighth,
-            };
+        if p[NODE * w.i + COUNT] != 0 {
+            return w;
         }
-        falls += fall_at(p, i);
-        let b = NODE * i + HALF;
-        fifth = fifth | p[b];
-        sixth = sixth | p[b + 1];
-        seventh = seventh | p[b + 2];
-        eighth = eighth | p[b + 3];
-        i += 1;
+        w.falls += fall_at(p, w.i);
+        let b = NODE * w.i + HALF;
+        w.i += 1;
+        if CELLS != NODE {
+            continue;
+        }
+        w.fifth |= p[b];
+        w.sixth |= p[b + 1];
+        w.seventh |= p[b + 2];
+        w.eighth |= p[b + 3];
     }
-    Walk {
-        i,
-        s,
-        falls,
-        starts,
-        fifth,
-        sixth,
-        seventh,
-        eighth,
-    }
+    w
 }
 
 // Whether the second halves were all 0.
@@ -224,48 +169,47 @@ fn none_aside(w: Walk) -> bool
     w.fifth | w.sixth | w.seventh | w.eighth == 0
 }
 
-// Whether the root's children start at node 1 and its second half is 0.
-fn root_ok(p: &[u32]) -> bool
-    requires { node_cells ≤ length p.now }
-    ensures { Decides result ((get_or p.now 1 0 ≡ 1) × Aside p.now 0) }
+// Whether the root's children start at node 1 and, where both halves are looked at, its second half
+// is 0.
+fn root_ok<const CELLS: usize>(p: &[u32]) -> bool
+    requires room { 4 ≤ length p.now }
+    requires both { CELLS ≡ node_cells → node_cells ≤ length p.now }
+    ensures { Decides result ((get_or p.now 1 0 ≡ 1) × (CELLS ≡ node_cells → Aside p.now 0)) }
 {
     if p[FIRST] != 1 {
         return false;
     }
-    if p[HALF] != 0 {
-        return false;
+    if CELLS != NODE {
+        return true;
     }
-    if p[HALF + 1] != 0 {
-        return false;
-    }
-    if p[HALF + 2] != 0 {
-        return false;
-    }
-    if p[HALF + 3] != 0 {
-        return false;
-    }
-    true
+    p[HALF] | p[HALF + 1] | p[HALF + 2] | p[HALF + 3] == 0
 }
 
 // Whether all that is asked of single nodes holds of each of n, and each but the root is a child of
-// one.
-pub fn nodes_ok(p: &[u32], n: usize) -> bool
-    requires { (0 < n) × (n ≤ max_nodes) × (node_cells * n ≤ length p.now) × (used p.now ≡ n) }
-    ensures { Decides result (PlainNodes p.now n) }
+// one. CELLS is how many cells of a node are looked at: HALF, or NODE, and then the second half of
+// each is to be 0.
+pub fn nodes_ok<const CELLS: usize>(p: &[u32], n: usize) -> bool
+    requires small { (0 < n) × (n ≤ max_nodes) }
+    requires room { node_cells * n ≤ length p.now + 4 }
+    requires both { CELLS ≡ node_cells → node_cells * n ≤ length p.now }
+    requires used { used p.now ≡ n }
+    ensures { Decides result (AllNodes CELLS p.now n) }
 {
-    if !root_ok(p) {
+    if !root_ok::<CELLS>(p) {
         return false;
     }
-    let u = parents(p, n);
+    let u = parents::<CELLS>(p, n);
     if u.s != n {
         return false;
     }
-    let v = leaves(p, n, u);
+    let v = leaves::<CELLS>(p, n, u);
     if v.i != n {
         return false;
     }
-    if !none_aside(v) {
-        return false;
+    if CELLS == NODE {
+        if !none_aside(v) {
+            return false;
+        }
     }
     v.falls == v.starts
 }

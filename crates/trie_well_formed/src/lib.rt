@@ -11,7 +11,6 @@ ghost use Rattle.trie_pool.specs.Levels.{level_end};
 ghost use Rattle.trie_pool.specs.Rules.{well_formed};
 ghost use Rattle.trie_node.specs.inner.Checks.{Decides};
 
-use cells::wide;
 use char_string_white_space::is_trimmed;
 use trie_nodes::nodes_ok;
 use trie_pool::{COUNT, FIRST, IN_USE, MARK, MAX_NODES, MAX_WORD, NODE};
@@ -21,12 +20,10 @@ pub fn starts_ok(p: &[u32], k: usize) -> bool
     requires { node_cells * k < length p.now }
     ensures { Decides result ((i : ℕ) → 0 < i → i ≤ k → is_trimmed (scalar_at p.now i) ≡ false) }
 {
-    let mut i: usize = 1;
-    while i <= k {
+    for i in 1..k + 1 {
         if is_trimmed(p[NODE * i]) {
             return false;
         }
-        i += 1;
     }
     true
 }
@@ -37,13 +34,11 @@ pub fn shallow(p: &[u32], n: usize) -> bool
     ensures { Decides result (level_end p.now n max_word ≡ n) }
 {
     let mut e: usize = 1;
-    let mut d: usize = 0;
-    while d < MAX_WORD {
+    for _level in 0..MAX_WORD {
         if n <= e {
             return true;
         }
-        e = wide(p[NODE * e + FIRST]);
-        d += 1;
+        e = p[NODE * e + FIRST] as usize;
     }
     n <= e
 }
@@ -53,10 +48,8 @@ pub fn blank(p: &[u32], k: usize) -> bool
     ensures { Decides result ((i : ℕ) → k ≤ i → get_or p.now i 0 ≡ 0) }
 {
     let mut all: u32 = 0;
-    let mut i = k;
-    while i < p.len() {
-        all = all | p[i];
-        i += 1;
+    for i in k..p.len() {
+        all |= p[i];
     }
     all == 0
 }
@@ -69,7 +62,7 @@ pub fn well_formed(p: &[u32]) -> bool
     if p.len() < NODE {
         return false;
     }
-    let n = wide(p[IN_USE]);
+    let n = p[IN_USE] as usize;
     if n == 0 {
         return false;
     }
@@ -85,10 +78,10 @@ pub fn well_formed(p: &[u32]) -> bool
     if !blank(p, NODE * n) {
         return false;
     }
-    if !nodes_ok(p, n) {
+    if !nodes_ok::<NODE>(p, n) {
         return false;
     }
-    if !starts_ok(p, wide(p[COUNT])) {
+    if !starts_ok(p, p[COUNT] as usize) {
         return false;
     }
     if !shallow(p, n) {

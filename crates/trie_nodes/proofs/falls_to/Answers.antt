@@ -1,8 +1,14 @@
-use Rattle.trie_nodes.proofs.Cells.{falls_yes, falls_no}
+use mathlib.Core.Path.{◌≡◌, refl, ◌∙◌}
+use mathlib.Core.Bool.{Bool, true, false, cond}
+use Prim.Native.Nat.{ℕ}
+use mir.Val.{bool_byte}
+use Rattle.trie_nodes.specs.inner.Falls.{fall_to}
 use Rattle.trie_nodes.proofs.falls_to.Goals as goal
 
-pub returns-then-x-y : goal.returns-then-x-y
-returns-then-x-y c = falls_yes _ _ c.if-x-y.true
+as_number : (b : Bool) → bool_byte b ≡ cond b 1 0
+as_number true = refl
+as_number false = refl
 
 pub returns : goal.returns
-returns c = falls_no _ _ c.if-x-y.false
+unfolding fall_to
+returns c = c.from.ensures ∙ as_number _

@@ -28,6 +28,11 @@ pub record PlainNodes (p : List ℕ) (n : ℕ) : Type 0 where
   pub nodes : Nodes p n
   pub aside : (i : ℕ) → i < n → Aside p i
 
+-- what is asked of the nodes of a half and, with all eight cells, of those of a plain pool
+pub record AllNodes (cells : ℕ) (p : List ℕ) (n : ℕ) : Type 0 where
+  pub nodes : Nodes p n
+  pub aside : cells ≡ 8 → (i : ℕ) → i < n → Aside p i
+
 -- no scalar of n nodes is none
 abbrev pub Low : List ℕ → ℕ → Type 0
 Low p n = (j : ℕ) → j < n → scalar_at p j < none
@@ -49,11 +54,11 @@ pub record Beside (p : List ℕ) (i a b c d : ℕ) : Type 0 where
   pub none : a ≡ 0 → b ≡ 0 → c ≡ 0 → d ≡ 0 → (j : ℕ) → j < i → Aside p j
   pub all : ((j : ℕ) → j < i → Aside p j) → (a ≡ 0) × (b ≡ 0) × (c ≡ 0) × (d ≡ 0)
 
--- where the walk stands
-abbrev pub At : List ℕ → ℕ → Walk → Type 0
-At p n w =
+-- where the walk stands; it sees to the second halves if it looks at all eight cells
+abbrev pub At : (cells : ℕ) → List ℕ → ℕ → Walk → Type 0
+At cells p n w =
     (Walking p n w.i w.s w.falls w.starts)
-    × (Beside p w.i w.fifth w.sixth w.seventh w.eighth)
+    × (cells ≡ 8 → Beside p w.i w.fifth w.sixth w.seventh w.eighth)
 
 -- the next node is right: it has k children, and `b` says if the first of them falls
 pub record Next (p : List ℕ) (n i s k b : ℕ) : Type 0 where

@@ -7,6 +7,3 @@ use Rattle.trie_well_formed.proofs.starts_ok.Given as goal
 
 abbrev pub invariant-loop-i : goal.invariant-loop-i
 invariant-loop-i l = (0 < l.i) × ((j : ℕ) → 0 < j → j < l.i → is_trimmed (scalar_at l.p j) ≡ false)
-
-abbrev pub decreases-loop-i : goal.decreases-loop-i
-decreases-loop-i l = l.k + 1 - l.i

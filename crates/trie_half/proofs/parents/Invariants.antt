@@ -1,9 +1,0 @@
-use Prim.Native.Nat.{◌-◌}
-use Rattle.trie_nodes.specs.inner.Walking.{Walking}
-use Rattle.trie_half.proofs.parents.Given as goal
-
-abbrev pub invariant-loop-s : goal.invariant-loop-s
-invariant-loop-s l = Walking l.p l.n l.i l.s l.falls l.starts
-
-abbrev pub decreases-loop-s : goal.decreases-loop-s
-decreases-loop-s l = l.n - l.i

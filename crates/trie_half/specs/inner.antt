@@ -1,2 +1,0 @@
--- Words of inner contracts. No public contract needs them.
-pub mod Walked
