@@ -1,10 +1,10 @@
 -- A row that is filled from the left with what another list has. Assumes nothing.
-use Prim.Native.Nat.{ℕ, zero, suc, ◌+◌, ◌≤◌, ◌<◌}
+use Prim.Native.Nat.{ℕ, suc, ◌+◌, ◌≤◌, ◌<◌}
 use native.Mathlib.Omega.{arith}
-use mathlib.Core.Path.{◌≡◌, refl, sym, ◌∙◌, ap}
+use mathlib.Core.Path.{◌≡◌, refl, ◌∙◌, ap}
 use mathlib.Core.List.{List, [], ◌∷◌, ◌++◌, map}
-use lib.ListN.{length, get_or, set, take, drop, length-set, length-append, length-drop}
-use lib.Seq.{length-take-le, take-nil, get_or-drop, get_or-append-add}
+use lib.ListN.{length, get_or, set, take, drop, length-append, length-drop}
+use lib.Seq.{length-take-le, get_or-drop, get_or-append-add}
 use Rattle.lists.proofs.Rows.{store}
 
 -- i cells of the row are those of src, the others are as they were
@@ -49,16 +49,6 @@ module _ {src old row : List ℕ} {k i : ℕ} (f : Filled src old row k i) where
 
 -- ---- the rows that are written
 
-pub map_take : (f : ℕ → ℕ) (k : ℕ) (l : List ℕ) → take k (map f l) ≡ map f (take k l)
-map_take f zero l = refl
-map_take f (suc k) [] = refl
-map_take f (suc k) (x ∷ l) = ap (λ (t : List ℕ). f x ∷ t) (map_take f k l)
-
 pub map_long : (f : ℕ → ℕ) (l : List ℕ) → length (map f l) ≡ length l
 map_long f [] = refl
 map_long f (x ∷ l) = ap suc (map_long f l)
-
-pub map_at : (f : ℕ → ℕ) (l : List ℕ) (i : ℕ) → i < length l → get_or (map f l) i 0 ≡ f (get_or l i 0)
-map_at f [] i h = absurd (omega arith)
-map_at f (x ∷ l) zero h = refl
-map_at f (x ∷ l) (suc i) h = map_at f l i (omega arith)

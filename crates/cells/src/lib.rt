@@ -28,11 +28,8 @@ pub fn shift(row: &mut [u32], k: usize, by: usize)
     ensures { row.new
         ≡ map (λ (e : ℕ). by + e) (take k row.old) ++ drop k row.old }
 {
-    let mut i = 0;
-    while i < k {
-        let e = wide(row[i]);
-        row[i] = narrow(by + e);
-        i += 1;
+    for cell in row[..k].iter_mut() {
+        *cell = (by + *cell as usize) as u32;
     }
 }
 
@@ -41,11 +38,7 @@ pub fn clear_from(row: &mut [u32], k: usize)
     requires { k ≤ length row.old }
     ensures { row.new ≡ take k row.old ++ replicate (length row.old - k) 0 }
 {
-    let mut i = k;
-    while i < row.len() {
-        row[i] = 0;
-        i += 1;
-    }
+    row[k..].fill(0);
 }
 
 // Sets the first k cells to 0.
@@ -53,7 +46,7 @@ pub fn clear_first(row: &mut [u32], k: usize)
     requires { k ≤ length row.old }
     ensures { row.new ≡ replicate k 0 ++ drop k row.old }
 {
-    clear_from(&mut row[..k], 0);
+    row[..k].fill(0);
 }
 
 // Copies the first k cells of one row to the front of another, which keeps its other cells.
@@ -61,9 +54,5 @@ pub fn copy(from: &[u32], to: &mut [u32], k: usize)
     requires { (k ≤ length from.now) × (k ≤ length to.old) }
     ensures { to.new ≡ take k from.now ++ drop k to.old }
 {
-    let mut i = 0;
-    while i < k {
-        to[i] = from[i];
-        i += 1;
-    }
+    to[..k].copy_from_slice(&from[..k]);
 }
