@@ -1,6 +1,6 @@
 -- 01, "Program": what a line asks, the reply to it, and what becomes of the rows that are lent.
 use Rattle.std.specs.Prelude.{ℕ, ◌≡◌, cond, List, eqb, ltb, length, get_or, drop, Result, Ok, Err}
-use Rattle.newmm_rules.specs.declared.Ends.{Ends}
+use Rattle.newmm_rules.specs.declared.Ends.{Ends as CutEnds}
 use Rattle.refusal.specs.declared.Refusal.{Refusal}
 use Rattle.refusal.specs.Answers.{answer, output}
 use Rattle.utf8.specs.Decoding.{scalars_of, Room, room_in, decoded}
@@ -54,7 +54,7 @@ abbrev pub ended : Result ℕ Refusal → Reply
 ended (Ok n) = Ends n
 ended (Err r) = Refused r
 
-abbrev pub ended_by : Result Ends Refusal → Reply
+abbrev pub ended_by : Result CutEnds Refusal → Reply
 ended_by (Ok told) = Ends told.ends
 ended_by (Err r) = Refused r
 

@@ -35,26 +35,16 @@ pub enum Asked {
 pub fn asks(line: &[u8]) -> Asked
     ensures { result ≡ asked_of line.now }
 {
-    if line.len() == 0 {
+    if line.is_empty() || MAX_LINE < line.len() {
         return Asked::Nothing;
     }
-    if MAX_LINE < line.len() {
-        return Asked::Nothing;
+    match line[0] {
+        b'+' => Asked::Add,
+        b'-' => Asked::Remove,
+        b'=' => Asked::Cut(Mode::Plain),
+        b'~' => Asked::Cut(Mode::Safe),
+        _ => Asked::Nothing,
     }
-    let op = line[0];
-    if op == b'+' {
-        return Asked::Add;
-    }
-    if op == b'-' {
-        return Asked::Remove;
-    }
-    if op == b'=' {
-        return Asked::Cut(Mode::Plain);
-    }
-    if op == b'~' {
-        return Asked::Cut(Mode::Safe);
-    }
-    Asked::Nothing
 }
 
 fn reported(answer: Result<usize, Refusal>) -> Reply

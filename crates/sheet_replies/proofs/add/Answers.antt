@@ -15,14 +15,14 @@ slice_bounds-add-end-in-Ok c =
     lent_size c.args.text.now c.args.scalars.now c.args.positions.now (c.decode-decoded.ensures.value, (c.decode-decoded.ensures.out_after, c.decode-decoded.ensures.positions_after))
     c.in-Ok.is
 
-pub returns-in-Refused : goal.returns-in-Refused
-returns-in-Refused c =
+pub returns-in-Err : goal.returns-in-Err
+returns-in-Err c =
     let both = decoded_are
     c.args.text.now c.args.scalars.now c.args.positions.now (c.decode-decoded.ensures.value, (c.decode-decoded.ensures.out_after, c.decode-decoded.ensures.positions_after)) in record {
       value = reported_stop c.args.text.now c.args.scalars.now c.args.positions.now (c.decode-decoded.ensures.value, (c.decode-decoded.ensures.out_after, c.decode-decoded.ensures.positions_after))
-          c.in-Refused.is (add_answer (scalars_of c.args.text.now) 0 c.args.pool.now);
+          c.in-Err.is (add_answer (scalars_of c.args.text.now) 0 c.args.pool.now);
       after = pool_stop c.args.text.now c.args.scalars.now c.args.positions.now (c.decode-decoded.ensures.value, (c.decode-decoded.ensures.out_after, c.decode-decoded.ensures.positions_after))
-          c.in-Refused.is (add_answer (scalars_of c.args.text.now) 0 c.args.pool.now)
+          c.in-Err.is (add_answer (scalars_of c.args.text.now) 0 c.args.pool.now)
           c.args.pool.now (added (scalars_of c.args.text.now) 0 c.args.pool.now);
       scalars_after = both.0;
       positions_after = both.1;
