@@ -309,3 +309,14 @@ going_done {p₀} {next₀} {w} {l} {mark} {p} {next} {d} g all end p' e = recor
 
 pub going_end : {p₀ next₀ w : List ℕ} {l mark : ℕ} {p next : List ℕ} {d : ℕ} → Going p₀ next₀ w l mark p next d → length w ≤ d → End p next d → Put p₀ next₀ w l mark (set p (8 * (row next d - 1) + 3) mark) next
 going_end {p₀} {next₀} {w} {l} {mark} {p} {next} {d} g all end = going_done g all end (set p (8 * (row next d - 1) + 3) mark) refl
+
+-- the same at the word's end
+module _ {p₀ next₀ w : List ℕ} {l mark : ℕ} {p next : List ℕ} {d : ℕ} (g : Going p₀ next₀ w l mark p next d) (all : length w ≤ d) (h : Puts p₀ next₀ w l mark) where
+  here : d ≡ length w
+  here = omega (arith, g.high)
+
+  pub end_here : End p next (length w)
+  end_here = subst (λ (z : ℕ). End p next z) here (end_of g all h)
+
+  pub put_here : Put p₀ next₀ w l mark (set p (8 * (row next (length w) - 1) + 3) mark) next
+  put_here = subst (λ (z : ℕ). Put p₀ next₀ w l mark (set p (8 * (row next z - 1) + 3) mark) next) here (going_end g all (end_of g all h))

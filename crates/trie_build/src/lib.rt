@@ -4,7 +4,6 @@
 ghost use Rattle.std.specs.Prelude.{◌≡◌, ◌+◌, ◌-◌, set};
 ghost use Rattle.trie_build.specs.inner.Appending.{row, Spot, leaf_cells, one_more, Puts, Put};
 
-use cells::narrow;
 use trie_pool::{COUNT, FIRST, MARK, NODE};
 
 // One character more: a leaf at the first free node of level d + 1, under the last node of level d.
@@ -19,9 +18,8 @@ fn put_leaf(p: &mut [u32], next: &mut [usize; 257], x: u32, d: usize)
     let b = next[d] - 1;
     let r = next[d + 1];
     p[NODE * r] = x;
-    p[NODE * r + FIRST] = narrow(next[d + 2]);
-    let count = p[NODE * b + COUNT];
-    p[NODE * b + COUNT] = count + 1;
+    p[NODE * r + FIRST] = next[d + 2] as u32;
+    p[NODE * b + COUNT] += 1;
     next[d + 1] = r + 1;
 }
 
@@ -33,11 +31,9 @@ pub fn append(p: &mut [u32], next: &mut [usize; 257], word: &[u32], l: usize, ma
     ensures { Put p.old next.old word.now l mark
         p.new next.new }
 {
-    let mut d = l;
-    while d < word.len() {
+    for d in l..word.len() {
         put_leaf(p, next, word[d], d);
-        d += 1;
     }
-    let end = next[d] - 1;
+    let end = next[word.len()] - 1;
     p[NODE * end + MARK] = mark;
 }

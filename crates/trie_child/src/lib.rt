@@ -1,22 +1,12 @@
 // The search for a child of a node.
 #![tactic(auto)]
 
-ghost use Rattle.std.specs.Prelude.{◌≡◌, min};
+ghost use Rattle.std.specs.Prelude.{◌≡◌};
 ghost use Rattle.trie_pool.specs.Words.{child};
 ghost use Rattle.trie_pool.specs.inner.Sound.{Readable};
 ghost use Rattle.trie_child.specs.inner.Search.{Between, Sought, to_place};
 
-use cells::wide;
 use trie_pool::{COUNT, FIRST, NODE};
-
-fn least(a: usize, b: usize) -> usize
-    ensures { result ≡ min a b }
-{
-    if a < b {
-        return a;
-    }
-    b
-}
 
 // How many children a search walks past at most.
 const MAX_WALK: usize = 8;
@@ -29,6 +19,7 @@ fn halved(p: &[u32], b: usize, x: u32, below: usize, above: usize) -> usize
 {
     let mut low = below;
     let mut high = above;
+    // Kept: (3) a search by halving in cells that stand eight apart: no library method has it.
     while low + 1 < high {
         let middle = low + (high - low) / 2;
         if p[NODE * middle] < x {
@@ -48,8 +39,8 @@ pub fn seek(p: &[u32], b: usize, x: u32) -> usize
     requires { Readable p.now b }
     ensures { Sought p.now b x result }
 {
-    let first = wide(p[NODE * b + FIRST]);
-    let count = wide(p[NODE * b + COUNT]);
+    let first = p[NODE * b + FIRST] as usize;
+    let count = p[NODE * b + COUNT] as usize;
     if count == 0 {
         return first;
     }
@@ -61,14 +52,15 @@ pub fn seek(p: &[u32], b: usize, x: u32) -> usize
     if p[NODE * last] < x {
         return last + 1;
     }
-    let far = wide(x - lowest);
-    let mut k = first + least(far, count - 1);
+    let far = (x - lowest) as usize;
+    let mut k = first + far.min(count - 1);
     if first + MAX_WALK < k {
         let nearest = k - MAX_WALK;
         if x < p[NODE * nearest] {
             return halved(p, b, x, first, nearest);
         }
     }
+    // Kept: (3) the walk down ends where its test says, and k is its answer.
     while x < p[NODE * k] {
         k -= 1;
     }
@@ -83,8 +75,8 @@ pub fn find_child(p: &[u32], b: usize, x: u32) -> Option<usize>
     requires { Readable p.now b }
     ensures { to_place result ≡ child p.now b x }
 {
-    let first = wide(p[NODE * b + FIRST]);
-    let count = wide(p[NODE * b + COUNT]);
+    let first = p[NODE * b + FIRST] as usize;
+    let count = p[NODE * b + COUNT] as usize;
     if count == 0 {
         return None;
     }

@@ -29,13 +29,12 @@ fn copy_half(p: &mut [u32], source: usize, target: usize)
 }
 
 // Moves the halves of the nodes from `low` to `high` one node on.
+// Kept: (2) shift goes down and unshift up, since each would overwrite what it has yet to read.
 pub fn shift(p: &mut [u32], low: usize, high: usize)
     requires { (low ≤ high) × (node_cells * high + 4 ≤ length p.old) }
     ensures { Shifted p.old p.new low high }
 {
-    let mut k = high;
-    while low < k {
-        k -= 1;
+    for k in (low..high).rev() {
         copy_half(p, NODE * k, NODE * k + NODE);
     }
 }
@@ -45,9 +44,7 @@ pub fn unshift(p: &mut [u32], low: usize, high: usize)
     requires { (low ≤ high) × (node_cells * high + 4 ≤ length p.old) }
     ensures { Unshifted p.old p.new low high }
 {
-    let mut k = low;
-    while k < high {
+    for k in low..high {
         copy_half(p, NODE * k + NODE, NODE * k);
-        k += 1;
     }
 }

@@ -3,7 +3,6 @@ ghost use Rattle.trie_leaf.specs.inner.Moving.{Lowers, Lowered};
 ghost use Rattle.trie_leaf.specs.inner.Plucking.{Plucks, Plucked};
 
 use crate::moves::{put_half, unshift};
-use cells::narrow;
 use trie_pool::{COUNT, FIRST, IN_USE, NODE};
 
 // Takes one from the first child of each node from `low` to `high`.
@@ -11,11 +10,8 @@ fn lower(p: &mut [u32], low: usize, high: usize)
     requires { Lowers p.old low high }
     ensures { Lowered p.old p.new low high }
 {
-    let mut i = low;
-    while i < high {
-        let c = NODE * i + FIRST;
-        p[c] = p[c] - 1;
-        i += 1;
+    for i in low..high {
+        p[NODE * i + FIRST] -= 1;
     }
 }
 
@@ -27,7 +23,6 @@ pub fn pluck(p: &mut [u32], m: usize, b: usize, j: usize)
     unshift(p, j, m);
     put_half(p, NODE * m, 0, 0, 0, 0);
     lower(p, b + 1, m);
-    let c = NODE * b + COUNT;
-    p[c] = p[c] - 1;
-    p[IN_USE] = narrow(m);
+    p[NODE * b + COUNT] -= 1;
+    p[IN_USE] = m as u32;
 }

@@ -3,19 +3,16 @@ ghost use Rattle.trie_leaf.specs.inner.Moving.{Bumps, Bumped};
 ghost use Rattle.trie_leaf.specs.inner.Planting.{Plants, Planted};
 
 use crate::moves::{put_half, shift};
-use cells::narrow;
 use trie_pool::{COUNT, FIRST, IN_USE, NODE};
 
 // Adds one to the first child of each node from `low` to `high`.
+// Kept: (2) bump and lower differ in + and -, and a step as a parameter would be longer than both.
 fn bump(p: &mut [u32], low: usize, high: usize)
     requires { Bumps p.old low high }
     ensures { Bumped p.old p.new low high }
 {
-    let mut i = low;
-    while i < high {
-        let c = NODE * i + FIRST;
-        p[c] = p[c] + 1;
-        i += 1;
+    for i in low..high {
+        p[NODE * i + FIRST] += 1;
     }
 }
 
@@ -30,7 +27,6 @@ pub fn plant(p: &mut [u32], n: usize, b: usize, j: usize, x: u32)
     shift(p, j, n);
     put_half(p, a, x, f, 0, 0);
     bump(p, b + 1, n + 1);
-    let c = NODE * b + COUNT;
-    p[c] = p[c] + 1;
-    p[IN_USE] = narrow(n + 1);
+    p[NODE * b + COUNT] += 1;
+    p[IN_USE] = (n + 1) as u32;
 }

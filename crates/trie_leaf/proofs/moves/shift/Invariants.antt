@@ -3,6 +3,3 @@ use Rattle.trie_leaf.proofs.moves.shift.Given as goal
 
 abbrev pub invariant-loop-k : goal.invariant-loop-k
 invariant-loop-k l = Shifting l.initial.p l.p l.low l.high l.k
-
-abbrev pub decreases-loop-k : goal.decreases-loop-k
-decreases-loop-k l = l.k

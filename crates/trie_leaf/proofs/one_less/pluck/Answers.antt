@@ -30,9 +30,6 @@ shape_of-p c = simp length-set (c.lower.auto.p ∙ c.put_half.auto.p ∙ c.unshi
 
 pub returns : goal.returns
 returns c =
-    subst (λ (z : ℕ). Plucked c.args.p.now
-    (set (set c.lower.new.p (8 * c.args.b + 2) (get_or c.lower.new.p (8 * c.args.b + 2) 0 - 1)) 0
-    z) c.args.m c.args.b c.args.j) (sym c.narrow.ensures)
-    (plucked c.args.p.now _ _ _ _ _ _ c.requires
+    plucked c.args.p.now _ _ _ _ _ _ c.requires
     (c.lower.auto.p ∙ c.put_half.auto.p ∙ c.unshift.auto.p) c.unshift.ensures
-    c.put_half.ensures c.lower.ensures)
+    c.put_half.ensures c.lower.ensures

@@ -43,8 +43,8 @@ bump-requires c =
     bumps c.args.p.now _ _ _ _ _ _ _ c.requires (c.put_half.auto.p ∙ c.shift.auto.p)
     c.shift.ensures c.put_half.ensures refl
 
-pub overflow_add-p : goal.overflow_add-p
-overflow_add-p c =
+pub overflow_add-p-2 : goal.overflow_add-p-2
+overflow_add-p-2 c =
     omega (
       arith,
       count_small c.args.p.now _ _ _ _ _ _ _ _ c.requires
@@ -62,9 +62,6 @@ shape_of-p c = simp length-set (c.bump.auto.p ∙ c.put_half.auto.p ∙ c.shift.
 
 pub returns : goal.returns
 returns c =
-    subst (λ (z : ℕ). Planted c.args.p.now
-    (set (set c.bump.new.p (8 * c.args.b + 2) (get_or c.bump.new.p (8 * c.args.b + 2) 0 + 1)) 0 z)
-    c.args.n c.args.b c.args.j c.args.x) (sym c.narrow.ensures)
-    (planted c.args.p.now _ _ _ _ _ _ _ _ c.requires
+    planted c.args.p.now _ _ _ _ _ _ _ _ c.requires
     (c.bump.auto.p ∙ c.put_half.auto.p ∙ c.shift.auto.p) c.shift.ensures c.put_half.ensures
-    c.bump.ensures refl)
+    c.bump.ensures refl
