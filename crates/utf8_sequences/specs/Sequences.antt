@@ -18,12 +18,9 @@ abbrev pub lead_in : List (List Range) → ℕ → ℕ
 lead_in [] b = 0
 lead_in (row ∷ rows) b = cond (opens row b) (packed row) (lead_in rows b)
 
+-- The decoder uses a table of 256 entries, one for each first byte: this one.
 unfoldable pub lead_of : ℕ → ℕ
 lead_of b = lead_in table37 b
-
--- The decoder uses a table of 256 entries, one for each first byte.
-pub record Leads (table : List ℕ) : Type 0 where
-  pub rule : (b : ℕ) → b < 256 → get_or table b 0 ≡ lead_of b
 
 -- the bytes start with a sequence of the row
 abbrev pub starts : List Range → List ℕ → Bool

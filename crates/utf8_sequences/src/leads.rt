@@ -1,10 +1,11 @@
 // The decoder's table: an entry for each first byte.
 ghost use Rattle.std.specs.Prelude.{◌≡◌};
-ghost use Rattle.utf8_sequences.specs.Sequences.{lead_of, Leads};
+ghost use Rattle.utf8_sequences.specs.Sequences.{lead_of};
 
 // The length of the sequence that the byte starts (0 for none), and the range of its second byte, a
 // byte each.
-const LEAD: [u32; 256] = [
+// Kept: (1) one number and no struct of three, since `lead_of` is that number and one read takes it.
+static LEADS: [u32; 256] = [
     0x010000, 0x010000, 0x010000, 0x010000, 0x010000, 0x010000, 0x010000, 0x010000, 0x010000,
     0x010000, 0x010000, 0x010000, 0x010000, 0x010000, 0x010000, 0x010000, 0x010000, 0x010000,
     0x010000, 0x010000, 0x010000, 0x010000, 0x010000, 0x010000, 0x010000, 0x010000, 0x010000,
@@ -36,17 +37,9 @@ const LEAD: [u32; 256] = [
     0x000000, 0x000000, 0x000000, 0x000000,
 ];
 
-// The table. A constant is made anew wherever it stands, so a pass over bytes takes it once and
-// lends it.
-pub fn lead_table() -> [u32; 256]
-    ensures { Leads result }
-{
-    LEAD
-}
-
-pub fn lead(table: &[u32; 256], b: u8) -> u32
-    requires { Leads table.now }
+// The entry of a first byte.
+pub fn lead(b: u8) -> u32
     ensures { result ≡ lead_of b }
 {
-    table[b as usize]
+    LEADS[b as usize]
 }

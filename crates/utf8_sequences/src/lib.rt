@@ -5,11 +5,10 @@ mod leads;
 
 ghost use Rattle.std.specs.Prelude.{◌≡◌, true, ◌+◌, ◌<◌, length, get_or, drop};
 ghost use Rattle.lists.specs.Scans.{within};
-ghost use Rattle.utf8_sequences.specs.Sequences.{Leads, size_of};
+ghost use Rattle.utf8_sequences.specs.Sequences.{size_of};
 ghost use Rattle.utf8_sequences.specs.inner.Pieces.{piece_of, FourBytes};
 
 use leads::lead;
-pub use leads::lead_table;
 
 // The scalar at a place, and the number of bytes of its sequence.
 #[derive(Clone, Copy)]
@@ -18,28 +17,18 @@ pub struct Piece {
     pub size: usize,
 }
 
-fn wide(b: u8) -> u32
-    ensures { result ≡ b }
-{
-    b as u32
-}
-
 fn is_trail(b: u8) -> bool
     ensures { result ≡ within 0x80 0xBF b }
 {
-    if b < 0x80 {
-        return false;
-    }
-    b <= 0xBF
+    0x80 <= b && b <= 0xBF
 }
 
 // The length of the well-formed sequence at a place, 0 where there is none.
-fn size_at(table: &[u32; 256], s: &[u8], at: usize) -> usize
-    requires leads { Leads table.now }
-    requires at_in_bounds { at < length s.now }
+fn size_at(s: &[u8], at: usize) -> usize
+    requires { at < length s.now }
     ensures { result ≡ size_of (drop at s.now) }
 {
-    let e = lead(table, s[at]);
+    let e = lead(s[at]);
     let size = (e / 65536) as usize;
     if s.len() - at < size {
         return 0;
@@ -47,7 +36,7 @@ fn size_at(table: &[u32; 256], s: &[u8], at: usize) -> usize
     if size < 2 {
         return size;
     }
-    let b = wide(s[at + 1]);
+    let b = u32::from(s[at + 1]);
     if b < e / 256 % 256 {
         return 0;
     }
@@ -74,13 +63,7 @@ pub fn thai_at(s: &[u8], at: usize) -> bool
     requires { at + 2 < length s.now }
     ensures { result ≡ true → 3 ≡ size_of (drop at s.now) }
 {
-    if wide(s[at]) != 0xE0 {
-        return false;
-    }
-    if wide(s[at + 1]) / 2 != 0x5C {
-        return false;
-    }
-    is_trail(s[at + 2])
+    s[at] == 0xE0 && s[at + 1] / 2 == 0x5C && is_trail(s[at + 2])
 }
 
 fn byte(b: u8) -> u32
@@ -119,7 +102,7 @@ fn quick_size(s: &[u8], at: usize) -> usize
     requires { at < length s.now }
     ensures { 0 < result → result ≡ size_of (drop at s.now) }
 {
-    if wide(s[at]) < 0x80 {
+    if s[at] < 0x80 {
         return 1;
     }
     if s.len() - at < 3 {
@@ -132,16 +115,15 @@ fn quick_size(s: &[u8], at: usize) -> usize
 }
 
 // The same as `size_at`, which is asked only where the quick way doesn't tell.
-pub fn next_size(table: &[u32; 256], s: &[u8], at: usize) -> usize
-    requires leads { Leads table.now }
-    requires at_in_bounds { at < length s.now }
+pub fn next_size(s: &[u8], at: usize) -> usize
+    requires { at < length s.now }
     ensures { result ≡ size_of (drop at s.now) }
 {
     let quick = quick_size(s, at);
     if 0 < quick {
         return quick;
     }
-    size_at(table, s, at)
+    size_at(s, at)
 }
 
 // What the marks of two bytes that are no first ones, 0x80 in each, add to their scalar.
@@ -153,8 +135,8 @@ pub fn piece_of_e0(s: &[u8], at: usize) -> Piece
     requires at_value { get_or s.now at 0 ≡ 0xE0 }
     ensures { result ≡ piece_of (drop at s.now) }
 {
-    let b = wide(s[at + 1]);
-    let c = wide(s[at + 2]);
+    let b = u32::from(s[at + 1]);
+    let c = u32::from(s[at + 2]);
     Piece {
         scalar: b * 64 + c - TRAIL_BITS,
         size: 3,
@@ -166,25 +148,25 @@ pub fn piece_at(s: &[u8], at: usize) -> Piece
     requires { 0 < size_of (drop at s.now) }
     ensures { result ≡ piece_of (drop at s.now) }
 {
-    let a = wide(s[at]);
+    let a = u32::from(s[at]);
     if a < 0x80 {
         return Piece { scalar: a, size: 1 };
     }
-    let b = wide(s[at + 1]) % 64;
+    let b = u32::from(s[at + 1]) % 64;
     if a < 0xE0 {
         return Piece {
             scalar: a % 32 * 64 + b,
             size: 2,
         };
     }
-    let c = wide(s[at + 2]) % 64;
+    let c = u32::from(s[at + 2]) % 64;
     if a < 0xF0 {
         return Piece {
             scalar: a % 16 * 4096 + b * 64 + c,
             size: 3,
         };
     }
-    let d = wide(s[at + 3]) % 64;
+    let d = u32::from(s[at + 3]) % 64;
     Piece {
         scalar: a % 8 * 262144 + b * 4096 + c * 64 + d,
         size: 4,

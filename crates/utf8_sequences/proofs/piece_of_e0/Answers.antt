@@ -21,21 +21,21 @@ bounds-s-at-2 c = room_e0 c.args.s.now c.args.at c.requires.nonzero c.requires.a
 
 pub overflow_mul-result : goal.overflow_mul-result
 overflow_mul-result c =
-    let w = after_e0 c.args.s.now c.args.at c.requires.nonzero c.requires.at_value _ c.wide-b.ensures _
-    c.wide-c.ensures in
+    let w = after_e0 c.args.s.now c.args.at c.requires.nonzero c.requires.at_value _ c.from-b.ensures _
+    c.from-c.ensures in
     omega (arith, w.most)
 
 pub overflow_add-result : goal.overflow_add-result
 overflow_add-result c =
-    let w = after_e0 c.args.s.now c.args.at c.requires.nonzero c.requires.at_value _ c.wide-b.ensures _
-    c.wide-c.ensures in
+    let w = after_e0 c.args.s.now c.args.at c.requires.nonzero c.requires.at_value _ c.from-b.ensures _
+    c.from-c.ensures in
     omega (arith, w.most, w.most')
 
 pub overflow_sub-result : goal.overflow_sub-result
 overflow_sub-result c =
-    let w = after_e0 c.args.s.now c.args.at c.requires.nonzero c.requires.at_value _ c.wide-b.ensures _
-    c.wide-c.ensures in
+    let w = after_e0 c.args.s.now c.args.at c.requires.nonzero c.requires.at_value _ c.from-b.ensures _
+    c.from-c.ensures in
     omega (arith, w.least, w.least')
 
 pub returns : goal.returns
-returns c = is_e0 c.args.s.now c.args.at c.requires.nonzero c.requires.at_value _ c.wide-b.ensures _ c.wide-c.ensures
+returns c = is_e0 c.args.s.now c.args.at c.requires.nonzero c.requires.at_value _ c.from-b.ensures _ c.from-c.ensures

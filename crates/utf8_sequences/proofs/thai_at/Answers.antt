@@ -1,21 +1,15 @@
-use mathlib.Core.Path.{sym, ◌∙◌}
+use mathlib.Core.Path.{refl, sym, ◌∙◌}
 use native.Mathlib.Omega.{arith}
-use Rattle.utf8_sequences.proofs.Quick.{thai_at, untold}
+use borrow.Author.Tests.{eqb-true}
+use Rattle.utf8_sequences.proofs.Quick.{thai_at}
+use Rattle.utf8_sequences.proofs.thai_at.Goals.{then-s-at, else-s-at}
 use Rattle.utf8_sequences.proofs.thai_at.Goals as goal
 
-pub returns-then-wide-ne224 : goal.returns-then-wide-ne224
-returns-then-wide-ne224 c = untold
-
-pub returns-then-wide-ne92 : goal.returns-then-wide-ne92
-returns-then-wide-ne92 c = untold
-
-pub overflow_add-at-2 : goal.overflow_add-at-2
-overflow_add-at-2 c = omega (arith, c.requires)
-
-pub bounds-s-at-3 : goal.bounds-s-at-3
-bounds-s-at-3 c = omega (arith, c.requires)
-
-pub returns : goal.returns
-returns c =
-    λ h. thai_at c.args.s.now c.args.at _ _ c.wide.ensures c.wide-2.ensures
-    (omega (arith, c.requires)) c.if-wide-ne224.false c.if-wide-ne92.false (sym c.is_trail.ensures ∙ h)
+pub returns-then-s-at-eq92 : goal.returns-then-s-at-eq92
+returns-then-s-at-eq92 c =
+    elim c.if-s-at.branch [
+      then-s-at w ↦
+        λ h. thai_at c.args.s.now c.args.at _ _ refl refl (omega (arith, c.requires)) w.if-s-at.true
+        (eqb-true _ _ (sym w.value-is ∙ c.if-s-at-eq92.true)) (sym c.is_trail.ensures ∙ h)
+    | else-s-at w ↦ absurd (w.if-s-at.false (eqb-true _ _ (sym w.value-is ∙ c.if-s-at-eq92.true)))
+    ]
