@@ -1,4 +1,5 @@
 -- How a run over bytes goes on after a sequence. Assumes nothing.
+use Rattle.std.specs.Prelude.{Ok, Err}
 use Prim.Native.Nat.{ℕ, zero, suc, ◌+◌, ◌-◌, ◌≤◌, ◌<◌}
 use native.Mathlib.Omega.{arith}
 use native.Mathlib.Numerals.{add-one}
@@ -9,15 +10,14 @@ use lib.ListN.{length, get_or, set, take, drop, length-drop, length-set}
 use lib.Seq.{drop-drop, drop-cons, take-length}
 use lib.Dec.{eqb}
 use borrow.Author.Tests.{eqb-true, eqb-false, eq-eqb, ne_eqb}
-use Rattle.lists.proofs.Parts.{tail_drop}
 use Rattle.lists.proofs.Rows.{store}
 use Rattle.utf8_sequences.specs.declared.Piece.{Piece}
-use Rattle.utf8.specs.declared.Counted.{Counted}
+use Rattle.refusal.specs.declared.Refusal.TheVariants.{IllFormed}
 use Rattle.utf8_sequences.specs.Utf8.{scalar_of}
 use Rattle.utf8_sequences.specs.Sequences.{size_of}
 use Rattle.utf8.specs.Decoding.{Run, run, run_all, scalars_of, more, stop}
 use Rattle.utf8_sequences.specs.inner.Pieces.{piece_of}
-use Rattle.utf8.specs.inner.Passes.{counted_of, Read}
+use Rattle.utf8.specs.inner.Passes.{counted, Read}
 use Rattle.utf8_sequences.proofs.Quick.{ascii_at}
 use Rattle.utf8_sequences.proofs.Sizes.{size_inside}
 
@@ -108,37 +108,31 @@ pub read_ascii : {s : List ℕ} {at n : ℕ} → Read s at n → at < length s �
 read_ascii {s} {at} h i a = read_more 1 h (ascii_at s at (get_or s at 0) refl i a) (omega arith)
 
 -- the run stops here
-read_stop : {s : List ℕ} {at n : ℕ} (w : Bool) → Read s at n → run_all (drop at s) ≡ stop w → ◌≡◌ {A = Counted} (record { scalars = n; taken = at; whole = w }) (counted_of (run_all s))
+record Stopped (s : List ℕ) (at n : ℕ) (w : Bool) : Type 0 where
+  number : n ≡ length (scalars_of s)
+  bytes : at ≡ (run_all s).taken
+  all : (run_all s).whole ≡ w
+
+read_stop : {s : List ℕ} {at n : ℕ} (w : Bool) → Read s at n → run_all (drop at s) ≡ stop w → Stopped s at n w
 read_stop {s} {at} {n} w h r =
-    let x : n ≡ length (scalars_of s) = omega (arith, h.number, ap (λ (q : Run). length q.scalars) r) in
-    let y : at ≡ (run_all s).taken = omega (arith, h.bytes, ap (λ (q : Run). q.taken) r) in
-    let z : w ≡ (run_all s).whole = sym (h.all ∙ ap (λ (q : Run). q.whole) r) in
-    λ i. record { scalars = x i; taken = y i; whole = z i }
+    record {
+      number = omega (arith, h.number, ap (λ (q : Run). length q.scalars) r);
+      bytes = omega (arith, h.bytes, ap (λ (q : Run). q.taken) r);
+      all = h.all ∙ ap (λ (q : Run). q.whole) r;
+    }
 
-pub read_broken : {s : List ℕ} {at n : ℕ} → Read s at n → at < length s → size_of (drop at s) ≡ 0 → ◌≡◌ {A = Counted} (record { scalars = n; taken = at; whole = false }) (counted_of (run_all s))
-read_broken {s} {at} h i e = read_stop false h (run_broken (drop at s) (simp length-drop (omega arith)) e)
+pub read_broken : {s : List ℕ} {at n : ℕ} → Read s at n → at < length s → size_of (drop at s) ≡ 0 → Err (IllFormed at) ≡ counted (run_all s)
+read_broken {s} {at} h i e =
+    let t = read_stop false h (run_broken (drop at s) (simp length-drop (omega arith)) e) in
+    ap (λ (k : ℕ). Err (IllFormed k)) t.bytes ∙ sym (ap (λ (b : Bool). cond b (Ok (length (scalars_of s))) (Err (IllFormed (run_all s).taken))) t.all)
 
-pub read_done : {s : List ℕ} {at n : ℕ} → Read s at n → length s ≤ at → ◌≡◌ {A = Counted} (record { scalars = n; taken = at; whole = true }) (counted_of (run_all s))
-read_done {s} {at} h i = read_stop true h (run_empty (drop at s) (simp length-drop (omega arith)))
+read_end : {s : List ℕ} {at n : ℕ} → Read s at n → length s ≤ at → Stopped s at n true
+read_end {s} {at} h i = read_stop true h (run_empty (drop at s) (simp length-drop (omega arith)))
 
--- the rest is counted by itself
-module _ {s : List ℕ} {at n : ℕ} {c : Counted} (h : Read s at n) (e : c ≡ counted_of (run_all (take (length s - at) (drop at s)))) where
-  rest_is : c ≡ counted_of (run_all (drop at s))
-  rest_is = e ∙ ap (λ (l : List ℕ). counted_of (run_all l)) (tail_drop s at)
-
-  number_is : n + c.scalars ≡ length (scalars_of s)
-  number_is = omega (arith, h.number, ap (λ (q : Counted). q.scalars) rest_is)
-
-  bytes_are : at + c.taken ≡ (run_all s).taken
-  bytes_are = omega (arith, h.bytes, ap (λ (q : Counted). q.taken) rest_is)
-
-  pub rest_bounds : (n + c.scalars ≤ length s) × (at + c.taken ≤ length s)
-  rest_bounds = let z = run_bounds (length s) s in (omega (arith, number_is, z.0), omega (arith, bytes_are, z.1))
-
-  pub read_rest : ◌≡◌ {A = Counted} (record { scalars = n + c.scalars; taken = at + c.taken; whole = c.whole }) (counted_of (run_all s))
-  read_rest =
-      let z : c.whole ≡ (run_all s).whole = ap (λ (q : Counted). q.whole) rest_is ∙ sym h.all in
-      λ i. record { scalars = number_is i; taken = bytes_are i; whole = z i }
+pub read_done : {s : List ℕ} {at n : ℕ} → Read s at n → length s ≤ at → Ok n ≡ counted (run_all s)
+read_done {s} {at} h i =
+    let t = read_end h i in
+    ap Ok t.number ∙ sym (ap (λ (b : Bool). cond b (Ok (length (scalars_of s))) (Err (IllFormed (run_all s).taken))) t.all)
 
 -- the first n scalars are written
 pub record Filled (s out₀ out : List ℕ) (at n : ℕ) : Type 0 where
@@ -200,5 +194,5 @@ filled_open {s} {out₀} {out} {at} w h i = filled_room (piece_of (drop at s)) h
 -- all is written where the run is at its end
 pub filled_done : {s out₀ out : List ℕ} {at n : ℕ} → Filled s out₀ out at n → length s ≤ at → out ≡ scalars_of s ++ drop (length (scalars_of s)) out₀
 filled_done {s} {out₀} {out} {at} {n} h i =
-    let t : length (scalars_of s) ≡ n = sym (ap (λ (q : Counted). q.scalars) (read_done h.read i)) in
+    let t : length (scalars_of s) ≡ n = sym (read_end h.read i).number in
     h.written ∙ rw (← t, take-length)

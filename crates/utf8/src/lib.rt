@@ -6,20 +6,10 @@ ghost use Rattle.std.specs.Prelude.{◌≡◌, true, ◌<◌, ◌≤◌, length,
 ghost use Rattle.refusal.specs.Answers.{output};
 ghost use Rattle.utf8.specs.Decoding.{run_all, scalars_of, room_in, decoded};
 ghost use Rattle.utf8.specs.Positions.{positions_of, end_in_bytes};
-ghost use Rattle.utf8.specs.inner.Passes.{counted_of, Read};
+ghost use Rattle.utf8.specs.inner.Passes.{counted, Read};
 
-use cells::narrow;
 use refusal::{MAX_SCALARS, Refusal};
-use utf8_sequences::{lead_table, next_size, piece_at, piece_of_e0, thai_at, thai_of_four};
-
-// What the first pass finds: how many scalars the longest well-formed prefix has, its length in
-// bytes, and whether it is all.
-#[derive(Clone, Copy)]
-pub struct Counted {
-    pub scalars: usize,
-    pub taken: usize,
-    pub whole: bool,
-}
+use utf8_sequences::{next_size, piece_at, piece_of_e0, thai_at, thai_of_four};
 
 // How far the first pass has come: a place, and how many scalars stand before it.
 #[derive(Clone, Copy)]
@@ -33,13 +23,7 @@ fn over_one_thai(s: &[u8], from: usize, before: usize) -> Reached
     requires { Read s.now from before }
     ensures { Read s.now result.at result.scalars × (from ≤ result.at) }
 {
-    if s.len() - from < 3 {
-        return Reached {
-            at: from,
-            scalars: before,
-        };
-    }
-    if !thai_at(s, from) {
+    if s.len() - from < 3 || !thai_at(s, from) {
         return Reached {
             at: from,
             scalars: before,
@@ -63,6 +47,7 @@ fn over_thai(s: &[u8], from: usize, before: usize) -> Reached
         return over_one_thai(s, from, before);
     }
     let end = s.len() - 3;
+    // Kept: (3) as in count_by_table.
     while at < end {
         if !thai_of_four(s, at) {
             return Reached { at, scalars: n };
@@ -73,66 +58,46 @@ fn over_thai(s: &[u8], from: usize, before: usize) -> Reached
     over_one_thai(s, at, n)
 }
 
-// The first pass, with the table.
-fn count_by_table(s: &[u8]) -> Counted
-    ensures { result ≡ counted_of (run_all s.now) }
+// The first pass from a place on, with the table.
+fn count_by_table(s: &[u8], from: usize, before: usize) -> Result<usize, Refusal>
+    requires { Read s.now from before }
+    ensures { result ≡ counted (run_all s.now) }
 {
-    let table = lead_table();
-    let mut at = 0;
-    let mut n = 0;
+    let mut at = from;
+    let mut n = before;
+    // Kept: (3) a sequence tells where the next one starts, so no iterator gives the places.
     while at < s.len() {
-        let size = next_size(&table, s, at);
+        let size = next_size(s, at);
         if size == 0 {
-            return Counted {
-                scalars: n,
-                taken: at,
-                whole: false,
-            };
+            return Err(Refusal::IllFormed(at));
         }
         let r = over_thai(s, at + size, n + 1);
         at = r.at;
         n = r.scalars;
     }
-    Counted {
-        scalars: n,
-        taken: at,
-        whole: true,
-    }
+    Ok(n)
 }
 
-// The first pass. The table is made only where a byte asks for it.
-fn count(s: &[u8]) -> Counted
-    ensures { result ≡ counted_of (run_all s.now) }
+// The first pass: how many scalars the bytes are. Refusal 1. The table is asked only from a byte on
+// that is neither ASCII nor Thai.
+fn count(s: &[u8]) -> Result<usize, Refusal>
+    ensures { result ≡ counted (run_all s.now) }
 {
     let mut at = 0;
     let mut n = 0;
+    // Kept: (3) as in count_by_table.
     while at < s.len() {
         let r = over_thai(s, at, n);
-        let here = r.at;
-        let before = r.scalars;
-        if s.len() <= here {
-            return Counted {
-                scalars: before,
-                taken: here,
-                whole: true,
-            };
+        if s.len() <= r.at {
+            return Ok(r.scalars);
         }
-        if 0x80 <= s[here] {
-            let rest = count_by_table(&s[here..]);
-            return Counted {
-                scalars: before + rest.scalars,
-                taken: here + rest.taken,
-                whole: rest.whole,
-            };
+        if 0x80 <= s[r.at] {
+            return count_by_table(s, r.at, r.scalars);
         }
-        at = here + 1;
-        n = before + 1;
+        at = r.at + 1;
+        n = r.scalars + 1;
     }
-    Counted {
-        scalars: n,
-        taken: at,
-        whole: true,
-    }
+    Ok(n)
 }
 
 // The second pass, over well-formed bytes of a text that is not too long, into room that is enough.
@@ -148,8 +113,9 @@ fn fill(s: &[u8], out: &mut [u32], positions: &mut [u32])
 {
     let mut at = 0;
     let mut n = 0;
+    // Kept: (3) as in count_by_table.
     while at < s.len() {
-        positions[n] = narrow(at);
+        positions[n] = at as u32;
         if s[at] == 0xE0 {
             let q = piece_of_e0(s, at);
             out[n] = q.scalar;
@@ -162,7 +128,7 @@ fn fill(s: &[u8], out: &mut [u32], positions: &mut [u32])
         at += p.size;
         n += 1;
     }
-    positions[n] = narrow(s.len());
+    positions[n] = s.len() as u32;
 }
 
 // Writes the scalars of the bytes to the front of `out`, the byte position of each and of the end
@@ -172,22 +138,19 @@ pub fn decode(bytes: &[u8], out: &mut [u32], positions: &mut [u32]) -> Result<us
     ensures out_after { out.new ≡ output result (scalars_of bytes.now) out.old }
     ensures positions_after { positions.new ≡ output result (positions_of bytes.now) positions.old }
 {
-    let c = count(bytes);
-    if !c.whole {
-        return Err(Refusal::IllFormed(c.taken));
+    let scalars = count(bytes)?;
+    if MAX_SCALARS < scalars {
+        return Err(Refusal::TooManyScalars(scalars));
     }
-    if MAX_SCALARS < c.scalars {
-        return Err(Refusal::TooManyScalars(c.scalars));
+    if out.len() < scalars {
+        return Err(Refusal::OutputTooShort(scalars));
     }
-    if out.len() < c.scalars {
-        return Err(Refusal::OutputTooShort(c.scalars));
-    }
-    let places = c.scalars + 1;
+    let places = scalars + 1;
     if positions.len() < places {
         return Err(Refusal::OutputTooShort(places));
     }
     fill(bytes, out, positions);
-    Ok(c.scalars)
+    Ok(scalars)
 }
 
 // An end of a text of n characters in bytes: the cell of its position row at that end. An end over

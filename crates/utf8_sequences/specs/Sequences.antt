@@ -1,5 +1,5 @@
 -- 01, "Bytes to scalars": the decoder's table, and the sequence that bytes start with.
-use Rattle.std.specs.Prelude.{ℕ, ◌+◌, ◌*◌, ◌<◌, ◌≡◌, Bool, true, false, cond, ◌&&◌, List, [], ◌∷◌, length, get_or}
+use Rattle.std.specs.Prelude.{ℕ, ◌+◌, ◌*◌, Bool, true, false, cond, ◌&&◌, List, [], ◌∷◌, length}
 use Rattle.lists.specs.Scans.{within}
 use Rattle.utf8_sequences.specs.Utf8.{Range, table37}
 

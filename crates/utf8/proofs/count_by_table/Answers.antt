@@ -1,11 +1,10 @@
-use Prim.Native.Nat.{◌-◌}
 use native.Mathlib.Omega.{arith}
 use mathlib.Core.Path.{sym, ◌∙◌}
-use Rattle.utf8.proofs.Runs.{read_none, read_inside, read_more, read_broken, read_done}
+use Rattle.utf8.proofs.Runs.{read_inside, read_more, read_broken, read_done}
 use Rattle.utf8.proofs.count_by_table.Goals as goal
 
 pub loop-at-init : goal.loop-at-init
-loop-at-init c = read_none _
+loop-at-init c = c.requires
 
 pub returns-then-size-eq0 : goal.returns-then-size-eq0
 returns-then-size-eq0 c = read_broken c.loop-at.invariant c.loop-at-test.true (sym c.next_size-size.ensures ∙ c.if-size-eq0.true)

@@ -1,4 +1,5 @@
-use Prim.Native.Nat.{◌-◌, ◌<◌}
+use mathlib.Core.Path.{refl}
+use Prim.Native.Nat.{◌<◌}
 use native.Mathlib.Omega.{arith}
 use lib.ListN.{length, length-set}
 use Rattle.utf8.proofs.Runs.{filled_none, filled_next, size_is, filled_inside, filled_more, filled_open, filled_done}
@@ -9,8 +10,8 @@ use Rattle.utf8.proofs.fill.Goals as goal
 pub loop-at-init : goal.loop-at-init
 loop-at-init c = (filled_none _ _, placed_none _ _)
 
-pub narrow-requires : goal.narrow-requires
-narrow-requires c =
+pub overflow_cast-positions : goal.overflow_cast-positions
+overflow_cast-positions c =
     let z = filled_open c.requires.s_value c.loop-at.invariant.0 c.loop-at-test.true in
     omega (arith, c.requires.s_len_bound, c.loop-at.invariant.1.near)
 
@@ -63,7 +64,7 @@ loop-at-preserved-then-s-at c =
     let z = filled_open c.requires.s_value c.loop-at.invariant.0 c.loop-at-test.true in (
       filled_more _ c.loop-at.invariant.0 i c.piece_of_e0-q.ensures c.requires.s_in_bounds,
       placed_more
-          c.loop-at.invariant.1 _ _ c.narrow.ensures (size_is _ c.loop-at.invariant.0 i c.piece_of_e0-q.ensures)
+          c.loop-at.invariant.1 _ _ refl (size_is _ c.loop-at.invariant.0 i c.piece_of_e0-q.ensures)
           (filled_inside _ c.loop-at.invariant.0 i c.piece_of_e0-q.ensures).0 (omega (arith, c.requires.s_in_bounds_2)),
     )
 
@@ -105,12 +106,12 @@ loop-at-preserved c =
     let z = filled_open c.requires.s_value c.loop-at.invariant.0 c.loop-at-test.true in (
       filled_more _ c.loop-at.invariant.0 i c.piece_at-p.ensures c.requires.s_in_bounds,
       placed_more
-          c.loop-at.invariant.1 _ _ c.narrow.ensures (size_is _ c.loop-at.invariant.0 i c.piece_at-p.ensures)
+          c.loop-at.invariant.1 _ _ refl (size_is _ c.loop-at.invariant.0 i c.piece_at-p.ensures)
           (filled_inside _ c.loop-at.invariant.0 i c.piece_at-p.ensures).0 (omega (arith, c.requires.s_in_bounds_2)),
     )
 
-pub narrow-requires-2 : goal.narrow-requires-2
-narrow-requires-2 c =
+pub overflow_cast-positions-2 : goal.overflow_cast-positions-2
+overflow_cast-positions-2 c =
     omega (
       arith,
       c.requires.s_len_bound,
@@ -139,6 +140,6 @@ returns c =
     record {
       out_after = filled_done c.loop-at.invariant.0 c.loop-at-test.false;
       positions_after = placed_last c.loop-at.invariant.1 _
-          c.narrow-2.ensures c.loop-at.invariant.0.read.inside c.loop-at-test.false
+          refl c.loop-at.invariant.0.read.inside c.loop-at-test.false
           (omega (arith, c.requires.s_in_bounds_2, c.loop-at.invariant.0.read.number));
     }

@@ -1,4 +1,3 @@
-use Prim.Native.Nat.{◌-◌}
 use native.Mathlib.Omega.{arith}
 use Rattle.utf8.proofs.Runs.{read_more}
 use Rattle.utf8.proofs.over_thai.Goals as goal

@@ -1,10 +1,12 @@
 -- What the decoder's first pass tells the second, and what it knows on its way.
-use Rattle.std.specs.Prelude.{ℕ, ◌+◌, ◌≤◌, ◌≡◌, List, length, drop}
-use Rattle.utf8.specs.declared.Counted.{Counted}
+use Rattle.std.specs.Prelude.{ℕ, ◌+◌, ◌≤◌, ◌≡◌, List, length, drop, cond, Result, Ok, Err}
+use Rattle.refusal.specs.declared.Refusal.{Refusal}
+use Rattle.refusal.specs.declared.Refusal.TheVariants.{IllFormed}
 use Rattle.utf8.specs.Decoding.{Run, run_all, scalars_of}
 
-abbrev pub counted_of : Run → Counted
-counted_of r = record { scalars = length r.scalars; taken = r.taken; whole = r.whole }
+-- how many scalars there are, or how many bytes the longest well-formed prefix has
+abbrev pub counted : Run → Result ℕ Refusal
+counted r = cond r.whole (Ok (length r.scalars)) (Err (IllFormed r.taken))
 
 -- n scalars stand in the first `at` bytes, and the run goes on from there
 pub record Read (s : List ℕ) (at n : ℕ) : Type 0 where
