@@ -1,2 +1,3 @@
 pub mod Clearing
 pub mod Building
+pub mod Replacing

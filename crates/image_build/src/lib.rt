@@ -6,11 +6,13 @@ ghost use Rattle.std.specs.Prelude.{◌≡◌, ◌+◌};
 ghost use Rattle.trie_pool.specs.Cells.{used};
 ghost use Rattle.trie_leaf.specs.inner.Planting.{Beside};
 ghost use Rattle.image_place.specs.inner.Placing.{Placed};
-ghost use Rattle.image_build.specs.inner.Building.{Clears, Cleared, Builds};
+ghost use Rattle.image_build.specs.inner.Building.{Clears, Cleared, Builds, Roomy, Replaced};
+ghost use Rattle.word_list_answers.specs.Answers.{replace_answer};
 
 use image_place::place;
-use image_read::Surveyed;
+use image_read::{Surveyed, survey};
 use image_starts::starts;
+use refusal::Refusal;
 use trie_pool::{COUNT, HALF, IN_USE, NODE};
 
 // Sets the cells of the first n nodes to 0, but not the root's.
@@ -38,4 +40,20 @@ pub fn build(p: &mut [u32], image: &[u8], found: &Surveyed)
     p[IN_USE] = (1 + found.nodes) as u32;
     p[COUNT] = 0;
     place(p, image, &mut next);
+}
+
+// Replaces the words of a dictionary that may have `room` nodes, and their classes, by those of an
+// image; accepted with their number. Refusals 9, 8.
+pub fn replace(p: &mut [u32], image: &[u8], room: usize) -> Result<usize, Refusal>
+    requires { Roomy p.old room }
+    ensures value { result ≡ replace_answer image.now room }
+    ensures after { Replaced result image.now p.old p.new room }
+{
+    let found = survey(image).map_err(Refusal::BadImage)?;
+    let n = 1 + found.nodes;
+    if room < n {
+        return Err(Refusal::TooFewNodes(n - room));
+    }
+    build(p, image, &found);
+    Ok(found.words)
 }

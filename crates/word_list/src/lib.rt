@@ -5,8 +5,7 @@ ghost use Rattle.std.specs.Prelude.{◌≡◌};
 ghost use Rattle.trie_char_answers.specs.Changes.{After};
 ghost use Rattle.word_list_answers.specs.Answers.{read_answer, image_terms};
 
-use image_build::build;
-use image_read::survey;
+use image_build::replace;
 use refusal::Refusal;
 use trie_check::{capacity, is_dictionary};
 use trie_pool::NODE;
@@ -20,12 +19,6 @@ pub fn read_image(pool: &mut [u32], image: &[u8]) -> Result<usize, Refusal>
     if !is_dictionary(pool) {
         return Err(Refusal::NotADictionary);
     }
-    let found = survey(image).map_err(Refusal::BadImage)?;
     let room = capacity(pool.len());
-    let n = 1 + found.nodes;
-    if room < n {
-        return Err(Refusal::TooFewNodes(n - room));
-    }
-    build(&mut pool[..NODE * room], image, &found);
-    Ok(found.words)
+    replace(&mut pool[..NODE * room], image, room)
 }

@@ -36,10 +36,18 @@ nodes_of image = suc (charge (list_of image))
 abbrev pub image_cause : List ℕ → Cause
 image_cause image = record { refusal = BadImage (broken_at (read_of image)); holds = is_broken (read_of image) }
 
--- 8, counted for a pool emptied first; the nodes missing.
+-- 8, counted for a dictionary emptied first that may have so many nodes; the nodes missing.
+abbrev pub nodes_cause : List ℕ → ℕ → Cause
+nodes_cause image room = record { refusal = TooFewNodes (nodes_of image - room); holds = ltb room (nodes_of image) }
+
+-- Order 9, then 8, of a dictionary that may have so many nodes. It is accepted with the number of
+-- words.
+abbrev pub replace_answer : List ℕ → ℕ → Result ℕ Refusal
+replace_answer image room = answer (image_cause image ∷ nodes_cause image room ∷ []) (length (list_of image))
+
+-- 8, of a pool: its root counts.
 abbrev pub room_cause : List ℕ → List ℕ → Cause
-room_cause image pool =
-    record { refusal = TooFewNodes (nodes_of image - capacity pool); holds = ltb (capacity pool) (nodes_of image) }
+room_cause image pool = nodes_cause image (capacity pool)
 
 -- Order 4, 9, then 8.
 abbrev pub image_causes : List ℕ → List ℕ → List Cause

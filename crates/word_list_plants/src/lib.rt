@@ -6,8 +6,7 @@ ghost use Rattle.trie_plants_answers.specs.Changes.{PlantAfter};
 ghost use Rattle.word_list_answers.specs.Answers.{image_terms};
 ghost use Rattle.word_list_plants.specs.Answers.{plant_read_answer};
 
-use image_build::build;
-use image_read::survey;
+use image_build::replace;
 use refusal::Refusal;
 use trie_check::capacity;
 use trie_plants::{Plant, half_at};
@@ -23,15 +22,9 @@ pub fn read_image_in(pool: &mut [u32], plant: Plant, image: &[u8]) -> Result<usi
     if !is_plants(pool) {
         return Err(Refusal::NotADictionary);
     }
-    let found = survey(image).map_err(Refusal::BadImage)?;
     let a = half_at(plant);
     // The limit and one, for the root.
     let room = pool[a + MARK] as usize;
-    let n = 1 + found.nodes;
-    if room < n {
-        return Err(Refusal::TooFewNodes(n - room));
-    }
     let cells = NODE * capacity(pool.len());
-    build(&mut pool[a..cells], image, &found);
-    Ok(found.words)
+    replace(&mut pool[a..cells], image, room)
 }

@@ -1,12 +1,16 @@
 -- What making a dictionary that of an image asks, and what emptying it leaves.
-use Rattle.std.specs.Prelude.{ℕ, suc, ◌+◌, ◌*◌, ◌≤◌, ◌<◌, ◌≡◌, List, [], length, get_or}
+use Rattle.std.specs.Prelude.{ℕ, suc, ◌+◌, ◌*◌, ◌≤◌, ◌<◌, ◌≡◌, List, [], length, get_or, Result, Ok, Err}
+use Rattle.refusal.specs.declared.Refusal.{Refusal}
 use Rattle.refusal.specs.Limits.{max_nodes}
 use Rattle.trie_pool.specs.Cells.{used}
 use Rattle.trie_pool.specs.inner.Sound.{Sound}
+use Rattle.trie_leaf.specs.inner.Planting.{Beside}
 use Rattle.image_rules.specs.Records.{Term}
 use Rattle.image_rules.specs.Lists.{charge}
 use Rattle.image_rules.specs.Reading.{list, read_of}
 use Rattle.image_rules.specs.inner.News.{news_from}
+use Rattle.image_place.specs.inner.Placing.{Holds}
+use Rattle.word_list_answers.specs.Answers.{list_of}
 
 -- there are n nodes
 pub record Clears (p : List ℕ) (n : ℕ) : Type 0 where
@@ -28,3 +32,20 @@ pub record Builds (image p levels : List ℕ) (n : ℕ) : Type 0 where
   pub number : n ≡ suc (charge terms)
   pub fits : 8 * n ≤ length p + 4
   pub small : n ≤ max_nodes
+
+-- a dictionary that may have so many nodes, which are all there
+pub record Roomy (p : List ℕ) (room : ℕ) : Type 0 where
+  pub sound : Sound p (used p) 0
+  pub fits : 8 * room ≤ length p + 4
+  pub small : room ≤ max_nodes
+
+-- It has the words of the image, in no more nodes, and what is beside it is as it was.
+pub record Replaces (image p p' : List ℕ) (room : ℕ) : Type 0 where
+  pub holds : Holds p' (used p') (list_of image)
+  pub beside : Beside p p'
+  pub within : used p' ≤ room
+
+-- A refusal changes nothing.
+abbrev pub Replaced : Result ℕ Refusal → List ℕ → List ℕ → List ℕ → ℕ → Type 0
+Replaced (Ok words) image p p' room = Replaces image p p' room
+Replaced (Err r) image p p' room = p' ≡ p
