@@ -18,7 +18,7 @@ use Rattle.newmm_reasons_answers.specs.Told.{told_of}
 use Rattle.newmm_reasons_answers.specs.Answers.{pairs, pair_room, pairs_after}
 use Rattle.newmm.proofs.Calls.{refused_all, refused_told, scratch_kept, early_cuts, still_sees, scratch_zero, now_blank, cleared_cuts}
 use Rattle.newmm_many_answers.specs.declared.Wanted.{Wanted}
-use Rattle.newmm_many_answers.specs.declared.Wanted.TheVariants.{Ends, Pairs}
+use Rattle.newmm_many_answers.specs.declared.Wanted.TheVariants as wants
 use Rattle.newmm_many_answers.specs.Singles.{singly}
 use Rattle.newmm_many_answers.specs.inner.Singles.{SingleIs}
 
@@ -27,8 +27,8 @@ use Rattle.newmm_many_answers.specs.inner.Singles.{SingleIs}
 pub early_single : (wanted : Wanted) (mode : Mode) (text : List ℕ) (m : Option Words) (out scratch : List ℕ) {a : Result ℕ Refusal}
     → a ≡ answer (first_causes text m (length scratch)) (length text) → {r : Refusal} → a ≡ Err r
     → SingleIs (singly wanted mode m text out scratch) (Err r) out scratch
-early_single Ends mode text m out scratch is no' = early_cuts mode text m scratch is out no'
-early_single Pairs mode text m out scratch is no' = (
+early_single wants.Ends mode text m out scratch is no' = early_cuts mode text m scratch is out no'
+early_single wants.Pairs mode text m out scratch is no' = (
   refused_told mode text m scratch is no' (pair_room out),
   (
     sym (ap (λ (x : Result ℕ Refusal). output x (pairs (told_of mode (held m) text)) out) (refused_all mode text m scratch is no' (pair_room out))),
@@ -40,8 +40,8 @@ early_single Pairs mode text m out scratch is no' = (
 
 -- scratch is left as by a cut
 scratch_left : (wanted : Wanted) (mode : Mode) (m : Option Words) (text out scratch : List ℕ) → (singly wanted mode m text out scratch).scratch ≡ scratch_after text m scratch
-scratch_left Ends mode m text out scratch = refl
-scratch_left Pairs mode m text out scratch = refl
+scratch_left wants.Ends mode m text out scratch = refl
+scratch_left wants.Pairs mode m text out scratch = refl
 
 module _ (wanted : Wanted) (mode : Mode) (text : List ℕ) {view : List ℕ} (out : List ℕ) where
   -- so it is all 0
@@ -59,8 +59,8 @@ module _ (wanted : Wanted) (mode : Mode) (text : List ℕ) {view : List ℕ} (ou
 pub cleared_single : (wanted : Wanted) (mode : Mode) {text view : List ℕ} (out scratch : List ℕ) {row : List ℕ} → row ≡ replicate {A = ℕ} (length scratch) 0
     → Sees text view (length scratch) → {r : Result Ends Refusal} {out' row' : List ℕ}
     → SingleIs (singly wanted mode (in_view view) text out row) r out' row' → SingleIs (singly wanted mode (in_view view) text out scratch) r out' row'
-cleared_single Ends mode {text} {view} out scratch {row} e p {r} {out'} {row'} c = cleared_cuts scratch e p out mode c
-cleared_single Pairs mode {text} {view} out scratch {row} e p {r} {out'} {row'} c =
+cleared_single wants.Ends mode {text} {view} out scratch {row} e p {r} {out'} {row'} c = cleared_cuts scratch e p out mode c
+cleared_single wants.Pairs mode {text} {view} out scratch {row} e p {r} {out'} {row'} c =
     let l : length row ≡ length scratch = ap length e ∙ length-replicate {A = ℕ} (length scratch) 0 in (
       c.0 ∙ ap (λ (k : ℕ). cut_answer mode text (in_view view) k (pair_room out)) l,
       (

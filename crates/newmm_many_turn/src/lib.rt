@@ -1,47 +1,42 @@
-// One of many texts: what a single call would answer and leave, by a view of a pool of which it is
-// known whether it can be read.
+// One of many texts: what a single call would answer and leave, by a view of a pool, if it can be
+// read.
 #![tactic(auto)]
 
-ghost use Rattle.std.specs.Prelude.{◌≡◌, true, length, replicate};
+ghost use Rattle.std.specs.Prelude.{◌≡◌, true, length, replicate, Some, Ok, Err, IfSome, IfOk, IfErr};
 ghost use Rattle.refusal.specs.Answers.{answer};
 ghost use Rattle.trie_pool.specs.inner.Sound.{Readable};
 ghost use Rattle.newmm_answers.specs.Answers.{first_causes};
 ghost use Rattle.newmm_answers.specs.inner.Passing.{in_view, Sees, Blank};
 ghost use Rattle.newmm_many_answers.specs.Singles.{reasons_singly, singly};
 ghost use Rattle.newmm_many_answers.specs.inner.Singles.{SingleIs};
-ghost use Rattle.newmm_many_turn.specs.inner.Knowing.{known_as, seen_as};
+ghost use Rattle.newmm_many_turn.specs.inner.Knowing.{seen_in};
 
-use cells::clear_first;
 use char_string_scalars::check_text;
 use newmm::cut_ready;
 use newmm_answers::scratch_for;
-use newmm_many_answers::{Wanted, ends_told};
-use newmm_reasons::put_pairs;
+use newmm_many_answers::Wanted;
+use newmm_reasons::take_pairs;
 use newmm_rules::{Ends, Mode};
 use newmm_told::tell_ready;
 use refusal::Refusal;
 
-// A text's answer, and whether scratch is known to be all 0 behind it.
-#[derive(Clone, Copy)]
-pub struct Turn {
-    pub told: Result<Ends, Refusal>,
-    pub blank: bool,
-}
-
-// Refusals 2, 3, 4 and 5 of a text, by whether the pool is a dictionary and by the number of
-// scratch cells; accepted with the text's length.
-fn check_known(text: &[u32], known: bool, cells: usize) -> Result<usize, Refusal>
-    ensures { result ≡ answer (first_causes text.now (known_as known) cells) (length text.now) }
+// Refusals 2, 3, 4 and 5 of a text, by the view of a pool, if it is a dictionary, and by the number
+// of scratch cells; accepted with the view.
+fn check_seen<'a>(text: &[u32], view: Option<&'a [u32]>, cells: usize) -> Result<&'a [u32], Refusal>
+    ensures refused { IfErr result (λ r. Err r
+        ≡ answer (first_causes text.now (seen_in view.entry) cells) (length text.now)) }
+    ensures seen { IfOk result (λ v. (view.entry ≡ Some v) × (Ok (length text.now)
+        ≡ answer (first_causes text.now (seen_in view.entry) cells) (length text.now))) }
 {
     let n = check_text(text)?;
-    if !known {
+    let Some(seen) = view else {
         return Err(Refusal::NotADictionary);
-    }
+    };
     let needed = scratch_for(n);
     if cells < needed {
         return Err(Refusal::ScratchTooShort(needed));
     }
-    Ok(n)
+    Ok(seen)
 }
 
 // Sets all cells to 0, which takes no step where they are known to be so.
@@ -49,11 +44,9 @@ fn blank_all(row: &mut [u32], blank: bool)
     requires { blank ≡ true → Blank row.old }
     ensures { row.new ≡ replicate (length row.old) 0 }
 {
-    if blank {
-        return;
+    if !blank {
+        row.fill(0);
     }
-    let all = row.len();
-    clear_first(row, all);
 }
 
 // The pairs of a text that none of the refusals 2 to 5 is due to. Scratch is all 0, and comes back
@@ -71,9 +64,7 @@ fn pairs_ready(
         result out.new scratch.new }
 {
     let told = tell_ready(text, view, scratch, out.len() / 2, mode);
-    let k = ends_told(told);
-    put_pairs(scratch, out, k);
-    clear_first(scratch, k);
+    take_pairs(told, scratch, out);
     told
 }
 
@@ -97,34 +88,26 @@ fn answer_ready(
     }
 }
 
-// Answers a text as the single call does. `known` says whether the view can be read, `blank`
-// whether scratch is known to be all 0.
+// Answers a text as the single call does, by a view, if it can be read. `blank` says whether
+// scratch is known to be all 0.
 pub fn answer_next(
     text: &[u32],
-    view: &[u32],
+    view: Option<&[u32]>,
     out: &mut [u32],
     scratch: &mut [u32],
+    blank: &mut bool,
     mode: Mode,
     wanted: Wanted,
-    known: bool,
-    blank: bool,
-) -> Turn
-    requires { (known ≡ true → Readable view.now 0) × (blank ≡ true → Blank scratch.old) }
-    ensures single_is { SingleIs (singly wanted mode (seen_as known view.now)
+) -> Result<Ends, Refusal>
+    requires view { IfSome view (λ v. Readable v.now 0) }
+    requires blank { blank.old ≡ true → Blank scratch.old }
+    ensures single_is { SingleIs (singly wanted mode (seen_in view.entry)
         text.now out.old scratch.old)
-        result.told out.new scratch.new }
-    ensures blank { result.blank ≡ true → Blank scratch.new }
+        result out.new scratch.new }
+    ensures blank { blank.new ≡ true → Blank scratch.new }
 {
-    let checked = check_known(text, known, scratch.len());
-    match checked {
-        Err(r) => Turn {
-            told: Err(r),
-            blank,
-        },
-        Ok(_) => {
-            blank_all(scratch, blank);
-            let told = answer_ready(text, view, out, scratch, mode, wanted);
-            Turn { told, blank: true }
-        }
-    }
+    let seen = check_seen(text, view, scratch.len())?;
+    blank_all(scratch, *blank);
+    *blank = true;
+    answer_ready(text, seen, out, scratch, mode, wanted)
 }
