@@ -5,10 +5,10 @@ use mathlib.Core.Path.{◌≡◌, refl, sym, ◌∙◌, ap, subst}
 use mathlib.Core.Bool.{Bool, true, false, cond}
 use mathlib.Core.List.{List, [], ◌∷◌, ◌++◌}
 use lib.ListN.{length, get_or, set, take, drop, replicate, drop_of_length-le, length-replicate, get_or-replicate}
-use lib.Seq.{drop-cons, get_or-take, length-take-le, take_all}
+use lib.Seq.{drop-cons, get_or-take, length-take-le, take-length}
 use lib.Dec.{leb}
 use borrow.Author.Tests.{leb-true, leb-false, le-leb, lt-leb}
-use Rattle.cells.proofs.Filling.{Filled, filled_none, filled_more, filled_all, unmoved}
+use Rattle.cells.proofs.Filling.{Filled, filled_none, filled_more, unmoved}
 use Rattle.newmm_rules.specs.inner.Climbing.{Climbs, there, up}
 use Rattle.newmm_rules.specs.Longest.{lengths, longest, before_longest}
 use Rattle.newmm_segment.specs.inner.Written.{Rising}
@@ -105,7 +105,7 @@ pub record Meeting (old row : List ℕ) (count start most from i : ℕ) : Type 0
   pub met : Met (take count old) start most from i
   pub cleared : Filled (replicate {A = ℕ} count 0) old row count i
 
-pub meeting_none : (row : List ℕ) (count : ℕ) → count ≤ length row → Rising (take count row) → Meeting row row count 0 0 0 0
+meeting_none : (row : List ℕ) (count : ℕ) → count ≤ length row → Rising (take count row) → Meeting row row count 0 0 0 0
 meeting_none row count h r =
     record {
       met = met_none (take count row) r;
@@ -145,8 +145,13 @@ module _ {old row : List ℕ} {count start most from i : ℕ} (m : Meeting old r
         }
 
 module _ {old row : List ℕ} {count start most from i : ℕ} (m : Meeting old row count start most from i) (l : count ≤ i) where
-  pub start_is : start ≡ before_longest (lengths 0 (take count old))
+  start_is : start ≡ before_longest (lengths 0 (take count old))
   start_is = met_all m.met (omega (arith, length-take-le count old m.cleared.fits))
 
-  pub zeros_are : row ≡ replicate {A = ℕ} count 0 ++ drop count old
-  zeros_are = filled_all m.cleared l ∙ ap (λ (z : List ℕ). z ++ drop count old) (take_all count (replicate {A = ℕ} count 0) (omega (arith, length-replicate {A = ℕ} count 0)))
+-- all ends of a row
+pub meeting_first : (row : List ℕ) → Rising row → Meeting row row (length row) 0 0 0 0
+meeting_first row r = meeting_none row (length row) (omega arith) (subst (λ (es : List ℕ). Rising es) (sym (take-length row)) r)
+
+pub all_start_is : {old row : List ℕ} {start most from i : ℕ} → Meeting old row (length old) start most from i → length old ≤ i
+    → start ≡ before_longest (lengths 0 old)
+all_start_is {old} m l = start_is m l ∙ ap (λ (es : List ℕ). before_longest (lengths 0 es)) (take-length old)

@@ -7,6 +7,7 @@ use mathlib.Core.List.{List}
 use lib.ListN.{length}
 use lib.Dec.{ltb}
 use borrow.Author.Tests.{lt-ltb}
+use Rattle.std.specs.Prelude.{Option, Some, None}
 use Rattle.trie_pool.specs.Meaning.{Words}
 use Rattle.newmm_rules.specs.Cutting.{Cut}
 use Rattle.newmm_rules.specs.declared.Ends.{Ends}
@@ -15,7 +16,7 @@ use Rattle.newmm_rules.specs.declared.Mode.TheVariants.{Plain, Safe, Sheet}
 use Rattle.newmm_rules.specs.Parts.{runs_of}
 use Rattle.newmm_rules.specs.Modes.{joined, in_parts, unshifted, behind_space, segmented}
 use Rattle.newmm_answers.specs.Answers.{plain_cut, cut_of}
-use Rattle.newmm_segment.specs.inner.Written.{Written}
+use Rattle.newmm_segment.specs.inner.Written.{Written, space_cut_of}
 
 module _ (words : Words) (text : List ℕ) (mode : Mode) where
   pub plain_is : mode ≡ Plain → plain_cut words text ≡ cut_of mode words text
@@ -28,14 +29,21 @@ module _ (words : Words) (text : List ℕ) (mode : Mode) where
     pub most : by ≤ 101
     pub is : in_parts (λ (i : ℕ). i + by) (plain_cut words) text ≡ cut_of mode words text
 
-  pub choose : (m : Mode) (n by : ℕ) → mode ≡ m → by ≡ n → 1 ≤ n → n ≤ 101 → in_parts (λ (i : ℕ). i + n) (plain_cut words) text ≡ segmented m (plain_cut words) text → Chosen by
-  unfolding cut_of
-  choose m n by e q low high is =
-      record {
-        some = omega arith;
-        most = omega arith;
-        is = ap (λ (k : ℕ). in_parts (λ (i : ℕ). i + k) (plain_cut words) text) q ∙ is ∙ sym (ap (λ (k : Mode). segmented k (plain_cut words) text) e);
-      }
+-- a mode that cuts at no space is the plain one
+pub whole_is : (mode : Mode) → space_cut_of mode ≡ None → mode ≡ Plain
+whole_is Plain h = refl
+whole_is Safe h = cc
+whole_is Sheet h = cc
+
+pub chosen : (words : Words) (text : List ℕ) (mode : Mode) (by : ℕ) → space_cut_of mode ≡ Some by → Chosen words text mode by
+unfolding cut_of
+chosen words text Plain by h = cc
+chosen words text Safe by h =
+    let e : 1 ≡ by = cc in
+    subst (λ (k : ℕ). Chosen words text Safe k) e (record { some = omega arith; most = omega arith; is = refl })
+chosen words text Sheet by h =
+    let e : 101 ≡ by = cc in
+    subst (λ (k : ℕ). Chosen words text Sheet k) e (record { some = omega arith; most = omega arith; is = refl })
 
 parts_short : (space : ℕ → ℕ) (words : Words) (text : List ℕ) → length text < 140 → plain_cut words text ≡ in_parts space (plain_cut words) text
 unfolding in_parts

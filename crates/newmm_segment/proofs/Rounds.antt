@@ -22,30 +22,17 @@ use Rattle.newmm_rules.proofs.RunEdges.{edges_two, edges_cons, sample_few}
 use Rattle.newmm_answers.specs.Answers.{plain_cut}
 use Rattle.newmm_answers.proofs.Plain.{plain_right, plain_edges}
 use Rattle.newmm_segment.specs.declared.Part.{Part}
-use Rattle.newmm_segment.specs.inner.Written.{Ready, Written, first_of, FirstTold, shifted_ends}
+use Rattle.newmm_segment.specs.inner.Written.{Ready, Written, first_of, FirstTold, parts_told, all_told, ends_told}
 use Rattle.newmm_segment.proofs.Samples.{by_fits}
 use Rattle.newmm_segment.proofs.Behind.{behind}
 
 -- ---- the rounds that are left
-
--- parts one behind the other, as `told` writes each
-unfoldable pub parts_told : (ℕ → List ℕ → List ℕ) → ℕ → List (List ℕ) → List ℕ
-parts_told told start [] = []
-parts_told told start (part ∷ parts) = told start part ++ parts_told told (start + length part) parts
 
 abbrev pub told_in : (ℕ → ℕ) → Cutter → (ℕ → List ℕ → List ℕ) → ℕ → List ℕ → ℕ → List ℕ
 told_in space plain told k rest start = parts_told told start (runs_of k space plain rest).parts
 
 unfoldable pub edges_in : Cutter → Runs → ℕ
 edges_in plain r = edges_of plain (r.samples ++ r.parts)
-
--- all rounds of a text: what is told of its parts, and the edges of all plain runs
-abbrev pub all_told : (ℕ → ℕ) → Cutter → (ℕ → List ℕ → List ℕ) → List ℕ → Cut
-all_told space plain told text =
-    record {
-      ends = told_in space plain told (length text) text 0;
-      edges = edges_of plain ((runs_of (length text) space plain text).samples ++ (runs_of (length text) space plain text).parts);
-    }
 
 -- the text before `start` is cut, and what is told of it stands at the front of the row
 pub record Until (space : ℕ → ℕ) (plain : Cutter) (told : ℕ → List ℕ → List ℕ) (text old row : List ℕ) (start count edges : ℕ) : Type 0 where
@@ -291,14 +278,14 @@ module _ (space : ℕ → ℕ) (plain : Cutter) (told : ℕ → List ℕ → Lis
 
 -- ---- the ends themselves
 
-module _ (plain : Cutter) where
-  ends_told : (start : ℕ) (parts : List (List ℕ)) → parts_told (shifted_ends plain) start parts ≡ part_ends plain start parts
+module _ (words : Words) where
+  ends_are : (start : ℕ) (parts : List (List ℕ)) → parts_told (ends_told words) start parts ≡ part_ends (plain_cut words) start parts
   unfolding parts_told part_ends
-  ends_told start [] = refl
-  ends_told start (part ∷ parts) = ap (λ (l : List ℕ). shifted_ends plain start part ++ l) (ends_told (start + length part) parts)
+  ends_are start [] = refl
+  ends_are start (part ∷ parts) = ap (λ (l : List ℕ). ends_told words start part ++ l) (ends_are (start + length part) parts)
 
-  pub in_parts_is : (space : ℕ → ℕ) (text : List ℕ) → 140 ≤ length text → all_told space plain (shifted_ends plain) text ≡ in_parts space plain text
+  pub in_parts_is : (space : ℕ → ℕ) (text : List ℕ) → 140 ≤ length text → all_told space (plain_cut words) (ends_told words) text ≡ in_parts space (plain_cut words) text
   unfolding in_parts
   in_parts_is space text long =
-      let r = runs_of (length text) space plain text in
-      rw (le-ltb (length text) 140 long) (λ i. record { ends = ends_told 0 r.parts i; edges = edges_of plain (r.samples ++ r.parts) })
+      let r = runs_of (length text) space (plain_cut words) text in
+      rw (le-ltb (length text) 140 long) (λ i. record { ends = ends_are 0 r.parts i; edges = edges_of (plain_cut words) (r.samples ++ r.parts) })

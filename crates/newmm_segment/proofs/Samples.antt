@@ -22,7 +22,7 @@ use Rattle.newmm_rules.proofs.Samples.{Fits, Right, sample_long, cut_inside}
 use Rattle.newmm_answers.specs.Answers.{plain_cut}
 use Rattle.newmm_segment.specs.declared.Part.{Part}
 use Rattle.newmm_segment.specs.declared.PartEnd.{PartEnd}
-use Rattle.newmm_segment.specs.inner.Written.{Rising, Ready, Written, shifted_cut, Sampled, first_of, FirstTold, shifted_ends}
+use Rattle.newmm_segment.specs.inner.Written.{Rising, Ready, Written, Sampled, first_of, FirstTold, told_cut, ends_told}
 
 -- a text that is no longer finds all that it asks
 pub lent : {text pool row : List ℕ} → Ready text pool row → (part : List ℕ) → length part ≤ length text → Lent part pool row
@@ -60,7 +60,7 @@ module _ (pool part row row' : List ℕ) (start : ℕ) {r : Ends} (w : Written (
   pub can_shift : start + length part ≤ 65535 → (i : ℕ) → i < r.ends → get_or row' i 0 + start ≤ 65535
   can_shift h i l = omega (arith, cell w i l, climb_most right i (omega (arith, w.ends)))
 
-  pub shifted_is : (row'' : List ℕ) → row'' ≡ map (λ (e : ℕ). start + e) (take r.ends row') ++ drop r.ends row' → Written (shifted_cut start (plain_cut (holds pool) part)) row row'' r
+  pub shifted_is : (row'' : List ℕ) → row'' ≡ map (λ (e : ℕ). start + e) (take r.ends row') ++ drop r.ends row' → Written (told_cut (ends_told (holds pool)) (plain_cut (holds pool)) start part) row row'' r
   shifted_is row'' h =
       let l = map_long (λ (e : ℕ). start + e) (plain_cut (holds pool) part).ends in
       record {
@@ -115,10 +115,6 @@ module _ {rest pool row : List ℕ} (ready : Ready rest pool row) (long : 140 �
         ∙ blank_front (length (plain (sample_of rest)).ends) row ready.blank (omega (arith, few (right (sample_of rest)), sample_long rest long, ready.room))
 
 -- ---- the first part
-
--- the ends of a part are as many, shifted
-pub ends_many : (plain : Cutter) (start : ℕ) (part : List ℕ) → length (shifted_ends plain start part) ≡ length (plain part).ends
-ends_many plain start part = map_long (λ (e : ℕ). start + e) (plain part).ends
 
 pub by_fits : (by : ℕ) → 1 ≤ by → by ≤ 101 → Fits (λ (i : ℕ). i + by)
 by_fits by h l = record { some = λ i k. omega arith; inside = λ i k. omega arith }

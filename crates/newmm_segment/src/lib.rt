@@ -1,15 +1,15 @@
 // Cutting in parts, after `segment_single` of newmm.rs.
 #![tactic(auto)]
 
-ghost use Rattle.std.specs.Prelude.{◌≡◌, ◌++◌, ℕ, ◌+◌, ◌≤◌, length, take, drop, replicate};
+ghost use Rattle.std.specs.Prelude.{◌≡◌, ℕ, ◌+◌, ◌≤◌, List, length, replicate};
 ghost use Rattle.trie_pool.specs.Words.{holds};
 ghost use Rattle.newmm_rules.specs.Limits.{text_scan_begin, text_scan_end};
 ghost use Rattle.newmm_rules.specs.Longest.{lengths, before_longest};
-ghost use Rattle.newmm_rules.specs.Modes.{in_parts};
 ghost use Rattle.newmm_answers.specs.Answers.{plain_cut, cut_of};
-ghost use Rattle.newmm_segment.specs.inner.Written.{Rising, Ready, Written, shifted_cut, Sampled, FirstPart};
+ghost use Rattle.trie_pool.specs.Meaning.{Words};
+ghost use Rattle.newmm_segment.specs.inner.Written.{Rising, Ready, Written, Sampled, FirstTold, space_cut_of, AsManyAsEnds, told_cut, all_told, ends_told, ends_as_many};
 
-use cells::{shift, wide};
+use cells::shift;
 use char_string_last_space::rfind_space_char_index;
 use newmm_one_cut::one_cut;
 use newmm_rules::{Ends, Mode, TEXT_SCAN_BEGIN, TEXT_SCAN_END};
@@ -38,22 +38,46 @@ pub struct Part {
     pub edges: usize,
 }
 
-// Where the longest token of a sample starts, the last of equals. The sample's ends, the first
-// `count` cells of the row, are cleared on the way.
-fn longest_start(row: &mut [u32], count: usize) -> usize
-    requires { (count ≤ length row.old) × Rising (take count row.old) }
-    ensures value { result ≡ before_longest (lengths 0 (take count row.old)) }
-    ensures row_after { row.new ≡ replicate count 0 ++ drop count row.old }
+// How far behind the index of the last space in a sample a mode cuts; none where it cuts a text as
+// a whole.
+pub fn space_cut(mode: Mode) -> Option<usize>
+    ensures { result ≡ space_cut_of mode }
+{
+    match mode {
+        Mode::Plain => None,
+        Mode::Safe => Some(UNSHIFTED),
+        Mode::Sheet => Some(BEHIND_SPACE),
+    }
+}
+
+// What is written of a part: as many cells as it has ends.
+pub trait PartWriter {
+    ghost told: { Words → ℕ → List ℕ → List ℕ };
+
+    ghost as_many: { AsManyAsEnds told };
+
+    // Cuts a part that starts at `start` plainly, and writes it at the front of the row, whose other
+    // cells are as they were.
+    fn write(part: &[u32], pool: &[u32], row: &mut [u32], start: usize) -> Ends
+        requires { Ready part.now pool.now row.old × (start + length part.now ≤ 65535) }
+        ensures { Written (told_cut (told (holds pool.now)) (plain_cut (holds pool.now)) start part.now)
+            row.old row.new result };
+}
+
+// Where the longest token of a sample starts, the last of equals. The sample's ends are cleared on
+// the way.
+fn longest_start(ends: &mut [u32]) -> usize
+    requires { Rising ends.old }
+    ensures value { result ≡ before_longest (lengths 0 ends.old) }
+    ensures cleared { ends.new ≡ replicate (length ends.old) 0 }
 {
     let mut start = 0;
     let mut most = 0;
     let mut from = 0;
-    let mut i = 0;
-    while i < count {
+    for end in ends.iter_mut() {
         let begin = from;
-        from = wide(row[i]);
-        row[i] = 0;
-        i += 1;
+        from = *end as usize;
+        *end = 0;
         if most <= from - begin {
             start = begin;
             most = from - begin;
@@ -73,8 +97,7 @@ pub fn cut_at(rest: &[u32], pool: &[u32], row: &mut [u32], space_cut: usize) -> 
     ensures row_unchanged { row.new ≡ row.old }
 {
     let sample = &rest[TEXT_SCAN_BEGIN..TEXT_SCAN_END];
-    let space = rfind_space_char_index(sample);
-    match space {
+    match rfind_space_char_index(sample) {
         Some(i) => PartEnd {
             from: space_cut,
             at: i,
@@ -82,7 +105,7 @@ pub fn cut_at(rest: &[u32], pool: &[u32], row: &mut [u32], space_cut: usize) -> 
         },
         None => {
             let r = one_cut(sample, pool, row);
-            let at = longest_start(row, r.ends);
+            let at = longest_start(&mut row[..r.ends]);
             PartEnd {
                 from: TEXT_SCAN_BEGIN,
                 at,
@@ -92,28 +115,23 @@ pub fn cut_at(rest: &[u32], pool: &[u32], row: &mut [u32], space_cut: usize) -> 
     }
 }
 
-// Cuts a part plainly. Its ends are shifted by where it starts.
-fn cut_part(part: &[u32], pool: &[u32], row: &mut [u32], start: usize) -> Ends
-    requires { Ready part.now pool.now row.old × (start + length part.now ≤ 65535) }
-    ensures { Written (shifted_cut start (plain_cut (holds pool.now) part.now))
-        row.old row.new result }
-{
-    let r = one_cut(part, pool, row);
-    shift(row, r.ends, start);
-    r
-}
-
 // Cuts the first part off the remaining text, which starts at `start` and has 140 characters or
 // more.
-fn first_part(rest: &[u32], pool: &[u32], row: &mut [u32], start: usize, space_cut: usize) -> Part
+fn first_part<W: PartWriter>(
+    rest: &[u32],
+    pool: &[u32],
+    row: &mut [u32],
+    start: usize,
+    space_cut: usize,
+) -> Part
     requires { Ready rest.now pool.now row.old × (text_scan_end ≤ length rest.now) × (1 ≤ space_cut)
         × (space_cut ≤ text_scan_begin + 1) × (start + length rest.now ≤ 65535) }
-    ensures { FirstPart (λ (i : ℕ). i + space_cut) (plain_cut (holds pool.now))
-        rest.now start row.old row.new result }
+    ensures { FirstTold (λ (i : ℕ). i + space_cut) (plain_cut (holds pool.now))
+        (W.told (holds pool.now)) rest.now start row.old row.new result }
 {
     let cut = cut_at(rest, pool, row, space_cut);
     let size = cut.at + cut.from;
-    let r = cut_part(&rest[..size], pool, row, start);
+    let r = W::write(&rest[..size], pool, row, start);
     Part {
         size,
         ends: r.ends,
@@ -121,27 +139,48 @@ fn first_part(rest: &[u32], pool: &[u32], row: &mut [u32], start: usize, space_c
     }
 }
 
-// Cuts a text in parts. Each part's ends are written straight behind those of the part before.
-fn in_parts(text: &[u32], pool: &[u32], row: &mut [u32], space_cut: usize) -> Ends
+// Cuts a text of 140 characters or more in parts. Each is written straight behind the part before.
+pub fn in_parts<W: PartWriter>(
+    text: &[u32],
+    pool: &[u32],
+    row: &mut [u32],
+    space_cut: usize,
+) -> Ends
     requires { Ready text.now pool.now row.old × (text_scan_end ≤ length text.now) × (1 ≤ space_cut)
         × (space_cut ≤ text_scan_begin + 1) }
     ensures { Written
-        (in_parts (λ (i : ℕ). i + space_cut) (plain_cut (holds pool.now)) text.now)
+        (all_told (λ (i : ℕ). i + space_cut) (plain_cut (holds pool.now)) (W.told (holds pool.now)) text.now)
         row.old row.new result }
 {
     let mut start = 0;
     let mut count = 0;
     let mut edges = 0;
+    // Kept: (3) text and row move on by what each part takes, so no iterator is plainer.
     while TEXT_SCAN_END <= text.len() - start {
-        let p = first_part(&text[start..], pool, &mut row[count..], start, space_cut);
+        let p = first_part::<W>(&text[start..], pool, &mut row[count..], start, space_cut);
         start += p.size;
         count += p.ends;
         edges += p.edges;
     }
-    let r = cut_part(&text[start..], pool, &mut row[count..], start);
+    let r = W::write(&text[start..], pool, &mut row[count..], start);
     Ends {
         ends: count + r.ends,
         edges: edges + r.edges,
+    }
+}
+
+// A part's ends, shifted by where it starts.
+struct PartEnds;
+
+impl PartWriter for PartEnds {
+    ghost told = { ends_told };
+
+    ghost as_many = { ends_as_many };
+
+    fn write(part: &[u32], pool: &[u32], row: &mut [u32], start: usize) -> Ends {
+        let r = one_cut(part, pool, row);
+        shift(row, r.ends, start);
+        r
     }
 }
 
@@ -155,12 +194,8 @@ pub fn segment_single(text: &[u32], pool: &[u32], row: &mut [u32], mode: Mode) -
     if text.len() < TEXT_SCAN_END {
         return one_cut(text, pool, row);
     }
-    let space_cut = match mode {
-        Mode::Plain => {
-            return one_cut(text, pool, row);
-        }
-        Mode::Safe => UNSHIFTED,
-        Mode::Sheet => BEHIND_SPACE,
+    let Some(space_cut) = space_cut(mode) else {
+        return one_cut(text, pool, row);
     };
-    in_parts(text, pool, row, space_cut)
+    in_parts::<PartEnds>(text, pool, row, space_cut)
 }

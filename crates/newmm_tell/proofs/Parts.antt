@@ -18,11 +18,13 @@ use Rattle.newmm_reasons_answers.specs.Told.{parts_by, told_part, told_parts, to
 use Rattle.newmm_reasons_answers.specs.inner.Cells.{cell_of, cells_of, cells_part, part_cells, cells_by, text_cells}
 use Rattle.newmm_reasons_answers.proofs.Told.{map_two}
 use Rattle.newmm_reasons_answers.proofs.Cells.{cells_many}
-use Rattle.newmm_segment.proofs.Rounds.{parts_told, all_told, Told, plainly, last_told}
+use Rattle.std.specs.Prelude.{Option, Some, None}
+use Rattle.newmm_segment.specs.inner.Written.{parts_told, all_told, space_cut_of}
+use Rattle.newmm_segment.proofs.Rounds.{Told, plainly, last_told}
 use Rattle.newmm_segment.proofs.Modes.{short_is}
 
 -- what is written of a part is its cells
-pub told : (by : ℕ) → 1 ≤ by → by ≤ 101 → (words : Words) → Told (λ (i : ℕ). i + by) (plain_cut words) (cells_part words)
+told : (by : ℕ) → 1 ≤ by → by ≤ 101 → (words : Words) → Told (λ (i : ℕ). i + by) (plain_cut words) (cells_part words)
 told by some most words = plainly by some most words (cells_part words) (cells_many words)
 
 module _ (words : Words) where
@@ -74,18 +76,12 @@ module _ (words : Words) where
       pub most : by ≤ 101
       pub is : cells_by (λ (i : ℕ). i + by) words text ≡ text_cells mode words text
 
-    pub choose : (mode m : Mode) (n by : ℕ) → mode ≡ m → by ≡ n → 1 ≤ n → n ≤ 101 → cells_by (λ (i : ℕ). i + n) words text ≡ text_cells m words text → Chosen mode by
-    choose mode m n by e q low high is =
-        record {
-          some = omega arith;
-          most = omega arith;
-          is = ap (λ (k : ℕ). cells_by (λ (i : ℕ). i + k) words text) q ∙ is ∙ sym (ap (λ (k : Mode). text_cells k words text) e);
-        }
-
-    pub safe_cells : cells_by (λ (i : ℕ). i + 1) words text ≡ text_cells Safe words text
+    pub chosen : (mode : Mode) (by : ℕ) → space_cut_of mode ≡ Some by → Chosen mode by
     unfolding told_of cut_of
-    safe_cells = refl
-
-    pub sheet_cells : cells_by (λ (i : ℕ). i + 101) words text ≡ text_cells Sheet words text
-    unfolding told_of cut_of
-    sheet_cells = refl
+    chosen Plain by h = cc
+    chosen Safe by h =
+        let e : 1 ≡ by = cc in
+        subst (λ (k : ℕ). Chosen Safe k) e (record { some = omega arith; most = omega arith; is = refl })
+    chosen Sheet by h =
+        let e : 101 ≡ by = cc in
+        subst (λ (k : ℕ). Chosen Sheet k) e (record { some = omega arith; most = omega arith; is = refl })

@@ -7,10 +7,10 @@ ghost use Rattle.std.specs.Prelude.{◌≡◌, ◌++◌, ℕ, ◌+◌, ◌≤◌
 ghost use Rattle.trie_pool.specs.Words.{holds};
 ghost use Rattle.newmm_rules.specs.Limits.{text_scan_begin, text_scan_end};
 ghost use Rattle.newmm_answers.specs.Answers.{plain_cut};
-ghost use Rattle.newmm_reasons_answers.specs.inner.Cells.{cells_part, part_cells, cells_by, text_cells};
+ghost use Rattle.newmm_reasons_answers.specs.inner.Cells.{cells_part, part_cells, text_cells};
 ghost use Rattle.newmm_one_cut.specs.inner.Strips.{Fresh};
-ghost use Rattle.newmm_segment.specs.inner.Written.{Ready, Written, FirstTold};
-ghost use Rattle.newmm_tell.specs.inner.Telling.{CutPart};
+ghost use Rattle.newmm_segment.specs.inner.Written.{Ready, Written};
+ghost use Rattle.newmm_tell.specs.inner.Telling.{CutPart, cells_as_many};
 
 use cells::clear_from;
 use newmm_bfs::{CLUSTER_ENDS, EDGE_ENDS, STRIPS};
@@ -18,7 +18,7 @@ use newmm_one_cut::cut_marked;
 use newmm_reason_at::reason_at;
 use newmm_reasons_answers::REASONS;
 use newmm_rules::{Ends, MAX_GRAPH_SIZE, Mode, TEXT_SCAN_END};
-use newmm_segment::{BEHIND_SPACE, Part, UNSHIFTED, cut_at};
+use newmm_segment::{PartWriter, in_parts, space_cut};
 
 // Tells each of the k tokens of a part whose ends stand at the front of the row, and the flags of
 // its cluster ends in their strip.
@@ -51,55 +51,18 @@ fn tell_strips(part: &[u32], pool: &[u32], row: &mut [u32], start: usize) -> End
     r
 }
 
-// Cuts a part plainly, and tells its tokens.
-fn tell_part(part: &[u32], pool: &[u32], row: &mut [u32], start: usize) -> Ends
-    requires { Ready part.now pool.now row.old × (start + length part.now ≤ 65535) }
-    ensures { Written (part_cells (holds pool.now) start part.now)
-        row.old row.new result }
-{
-    let m = part.len() + 1;
-    let cells = STRIPS * m + MAX_GRAPH_SIZE;
-    tell_strips(part, pool, &mut row[..cells], start)
-}
+// A part's tokens, told.
+struct PartCells;
 
-// Tells the first part of the remaining text, which starts at `start` and has 140 characters or
-// more.
-fn tell_first(rest: &[u32], pool: &[u32], row: &mut [u32], start: usize, space_cut: usize) -> Part
-    requires { Ready rest.now pool.now row.old × (text_scan_end ≤ length rest.now) × (1 ≤ space_cut)
-        × (space_cut ≤ text_scan_begin + 1) × (start + length rest.now ≤ 65535) }
-    ensures { FirstTold (λ (i : ℕ). i + space_cut) (plain_cut (holds pool.now))
-        (cells_part (holds pool.now)) rest.now start row.old row.new result }
-{
-    let cut = cut_at(rest, pool, row, space_cut);
-    let size = cut.at + cut.from;
-    let r = tell_part(&rest[..size], pool, row, start);
-    Part {
-        size,
-        ends: r.ends,
-        edges: cut.edges + r.edges,
-    }
-}
+impl PartWriter for PartCells {
+    ghost told = { cells_part };
 
-// Tells a text in parts, each straight behind the part before.
-fn tell_parts(text: &[u32], pool: &[u32], row: &mut [u32], space_cut: usize) -> Ends
-    requires { Ready text.now pool.now row.old × (text_scan_end ≤ length text.now) × (1 ≤ space_cut)
-        × (space_cut ≤ text_scan_begin + 1) }
-    ensures { Written (cells_by (λ (i : ℕ). i + space_cut) (holds pool.now) text.now)
-        row.old row.new result }
-{
-    let mut start = 0;
-    let mut count = 0;
-    let mut edges = 0;
-    while TEXT_SCAN_END <= text.len() - start {
-        let p = tell_first(&text[start..], pool, &mut row[count..], start, space_cut);
-        start += p.size;
-        count += p.ends;
-        edges += p.edges;
-    }
-    let r = tell_part(&text[start..], pool, &mut row[count..], start);
-    Ends {
-        ends: count + r.ends,
-        edges: edges + r.edges,
+    ghost as_many = { cells_as_many };
+
+    fn write(part: &[u32], pool: &[u32], row: &mut [u32], start: usize) -> Ends {
+        let m = part.len() + 1;
+        let cells = STRIPS * m + MAX_GRAPH_SIZE;
+        tell_strips(part, pool, &mut row[..cells], start)
     }
 }
 
@@ -111,14 +74,10 @@ pub fn tell_text(text: &[u32], pool: &[u32], row: &mut [u32], mode: Mode) -> End
         row.old row.new result }
 {
     if text.len() < TEXT_SCAN_END {
-        return tell_part(text, pool, row, 0);
+        return PartCells::write(text, pool, row, 0);
     }
-    let space_cut = match mode {
-        Mode::Plain => {
-            return tell_part(text, pool, row, 0);
-        }
-        Mode::Safe => UNSHIFTED,
-        Mode::Sheet => BEHIND_SPACE,
+    let Some(space_cut) = space_cut(mode) else {
+        return PartCells::write(text, pool, row, 0);
     };
-    tell_parts(text, pool, row, space_cut)
+    in_parts::<PartCells>(text, pool, row, space_cut)
 }

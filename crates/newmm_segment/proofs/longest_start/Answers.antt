@@ -1,38 +1,24 @@
 use native.Mathlib.Omega.{arith}
-use Prim.Native.Nat.{◌-◌}
-use Rattle.cells.proofs.Filling.{long}
-use Rattle.newmm_segment.proofs.Longest.{meeting_none, end_above, meeting_yes, meeting_no, start_is, zeros_are}
+use mathlib.Core.Path.{refl}
+use Rattle.newmm_segment.proofs.Longest.{meeting_first, end_above, meeting_yes, meeting_no, all_start_is}
 use Rattle.newmm_segment.proofs.longest_start.Goals as goal
+use Rattle.newmm_segment.proofs.longest_start.Goals.{then-most-from, else-most-from}
 
-pub loop-i-init : goal.loop-i-init
-loop-i-init c = meeting_none _ _ c.requires.0 c.requires.1
-
-pub bounds-row-i : goal.bounds-row-i
-bounds-row-i c = omega (arith, long c.loop-i.invariant.cleared, c.loop-i.invariant.cleared.fits, c.loop-i-test.true)
-
-pub bounds-row-i-in-loop-i : goal.bounds-row-i-in-loop-i
-bounds-row-i-in-loop-i c = omega (arith, long c.loop-i.invariant.cleared, c.loop-i.invariant.cleared.fits, c.loop-i-test.true)
+pub loop-end-init : goal.loop-end-init
+loop-end-init c = meeting_first _ c.requires
 
 pub overflow_sub-from : goal.overflow_sub-from
-overflow_sub-from c = omega (arith, c.wide-from.ensures, end_above c.loop-i.invariant c.loop-i-test.true)
+overflow_sub-from c = omega (arith, end_above c.loop-end.invariant c.loop-end-test.true)
 
 pub overflow_sub-most : goal.overflow_sub-most
-overflow_sub-most c = omega (arith, c.wide-from.ensures, end_above c.loop-i.invariant c.loop-i-test.true)
+overflow_sub-most c = omega (arith, end_above c.loop-end.invariant c.loop-end-test.true)
 
-pub loop-i-smaller-then-most-from : goal.loop-i-smaller-then-most-from
-loop-i-smaller-then-most-from c = omega arith
+pub loop-end-preserved : goal.loop-end-preserved
+loop-end-preserved c =
+    elim c.if-most-from.branch [
+      | then-most-from w ↦ rw (w.start-is, w.most-is) (meeting_yes c.loop-end.invariant c.loop-end-test.true _ refl w.if-most-from.true)
+      | else-most-from w ↦ rw (w.start-is, w.most-is) (meeting_no c.loop-end.invariant c.loop-end-test.true _ refl w.if-most-from.false)
+    ]
 
-pub loop-i-preserved-then-most-from : goal.loop-i-preserved-then-most-from
-loop-i-preserved-then-most-from c = meeting_yes c.loop-i.invariant c.loop-i-test.true _ c.wide-from.ensures c.if-most-from.true
-
-pub loop-i-smaller : goal.loop-i-smaller
-loop-i-smaller c = omega arith
-
-pub loop-i-preserved : goal.loop-i-preserved
-loop-i-preserved c = meeting_no c.loop-i.invariant c.loop-i-test.true _ c.wide-from.ensures c.if-most-from.false
-
-pub shape_of-row : goal.shape_of-row
-shape_of-row c = long c.loop-i.invariant.cleared
-
-pub returns : goal.returns
-returns c = record { value = start_is c.loop-i.invariant c.loop-i-test.false; row_after = zeros_are c.loop-i.invariant c.loop-i-test.false }
+pub returns-clause-value : goal.returns-clause-value
+returns-clause-value c = all_start_is c.loop-end.invariant (let t = c.loop-end-test.false in omega arith)

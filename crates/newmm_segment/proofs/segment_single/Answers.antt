@@ -1,11 +1,10 @@
 use native.Mathlib.Omega.{arith}
-use mathlib.Core.Path.{refl}
-use Rattle.newmm_rules.specs.declared.Mode.TheVariants.{Safe, Sheet}
+use mathlib.Core.Path.{sym, ◌∙◌}
 use Rattle.trie_pool.specs.Words.{holds}
 use Rattle.newmm_segment.proofs.Samples.{lent, written}
-use Rattle.newmm_segment.proofs.Modes.{plain_is, Chosen, choose, short_is, as_cut}
+use Rattle.newmm_segment.proofs.Rounds.{in_parts_is}
+use Rattle.newmm_segment.proofs.Modes.{plain_is, whole_is, chosen, short_is, as_cut}
 use Rattle.newmm_segment.proofs.segment_single.Goals as goal
-use Rattle.newmm_segment.proofs.segment_single.Goals.{in-Safe, in-Sheet}
 
 pub one_cut-requires : goal.one_cut-requires
 one_cut-requires c = lent c.requires c.args.text.now (omega arith)
@@ -15,28 +14,20 @@ returns-then-text-lt-TEXT_SCAN_END c =
     as_cut (short_is (holds c.args.pool.now) c.args.text.now c.args.mode c.if-text-lt-TEXT_SCAN_END.true)
     (written c.args.pool.now c.one_cut.ensures)
 
-pub one_cut-requires-in-Plain : goal.one_cut-requires-in-Plain
-one_cut-requires-in-Plain c = lent c.requires c.args.text.now (omega arith)
+pub one_cut-requires-in_default : goal.one_cut-requires-in_default
+one_cut-requires-in_default c = lent c.requires c.args.text.now (omega arith)
 
-pub returns-in-Plain : goal.returns-in-Plain
-returns-in-Plain c =
+pub returns-in_default : goal.returns-in_default
+returns-in_default c =
     as_cut (plain_is (holds c.args.pool.now) c.args.text.now c.args.mode
-    c.in-Plain.is) (written c.args.pool.now c.one_cut-in-Plain.ensures)
+    (whole_is c.args.mode (sym c.space_cut.ensures ∙ c.in_default.is))) (written c.args.pool.now c.one_cut-in_default.ensures)
 
 pub in_parts-requires : goal.in_parts-requires
 in_parts-requires c =
-    let s : Chosen (holds c.args.pool.now) c.args.text.now c.args.mode c.match-mode.space_cut =
-    elim c.match-mode.branch [
-      | in-Safe w ↦ choose _ _ _ Safe 1 c.match-mode.space_cut w.in-Safe.is w.space_cut-is (omega arith) (omega arith) refl
-      | in-Sheet w ↦ choose _ _ _ Sheet 101 c.match-mode.space_cut w.in-Sheet.is w.space_cut-is (omega arith) (omega arith) refl
-    ] in
+    let s = chosen (holds c.args.pool.now) c.args.text.now c.args.mode _ (sym c.space_cut.ensures ∙ c.in-Some.is) in
     (c.requires, c.if-text-lt-TEXT_SCAN_END.false, s.some, s.most)
 
 pub returns : goal.returns
 returns c =
-    let s : Chosen (holds c.args.pool.now) c.args.text.now c.args.mode c.match-mode.space_cut =
-    elim c.match-mode.branch [
-      | in-Safe w ↦ choose _ _ _ Safe 1 c.match-mode.space_cut w.in-Safe.is w.space_cut-is (omega arith) (omega arith) refl
-      | in-Sheet w ↦ choose _ _ _ Sheet 101 c.match-mode.space_cut w.in-Sheet.is w.space_cut-is (omega arith) (omega arith) refl
-    ] in
-    as_cut s.is c.in_parts.ensures
+    let s = chosen (holds c.args.pool.now) c.args.text.now c.args.mode _ (sym c.space_cut.ensures ∙ c.in-Some.is) in
+    as_cut s.is (as_cut (in_parts_is (holds c.args.pool.now) _ _ c.if-text-lt-TEXT_SCAN_END.false) c.in_parts.ensures)

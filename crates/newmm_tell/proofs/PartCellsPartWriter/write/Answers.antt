@@ -7,7 +7,7 @@ use Rattle.newmm_bfs.specs.inner.Strips.{cells_for}
 use Rattle.newmm_one_cut.proofs.Whole.{fresh}
 use Rattle.newmm_segment.proofs.Samples.{lent}
 use Rattle.newmm_tell.proofs.Rows.{part_told}
-use Rattle.newmm_tell.proofs.tell_part.Goals as goal
+use Rattle.newmm_tell.proofs.PartCellsPartWriter.write.Goals as goal
 
 pub slice_bounds-tell_strips-end-2 : goal.slice_bounds-tell_strips-end-2
 slice_bounds-tell_strips-end-2 c = sym (length-take-le (cells_for (length c.args.part.now + 1)) c.args.row.now (omega (arith, c.requires.0.room)))

@@ -3,7 +3,7 @@ use Rattle.trie_pool.specs.Words.{holds}
 use Rattle.newmm_answers.proofs.Plain.{plain_right}
 use Rattle.newmm_rules.proofs.Climbing.{few}
 use Rattle.newmm_segment.proofs.Samples.{lent, written, fits, can_shift, shifted_is}
-use Rattle.newmm_segment.proofs.cut_part.Goals as goal
+use Rattle.newmm_segment.proofs.PartEndsPartWriter.write.Goals as goal
 
 pub one_cut-r-requires : goal.one_cut-r-requires
 one_cut-r-requires c = lent c.requires.0 c.args.part.now (omega arith)
