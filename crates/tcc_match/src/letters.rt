@@ -41,95 +41,59 @@ pub const THANTHAKHAT: u32 = 0xE4C;
 pub fn at(text: &[u32], p: usize) -> u32
     ensures { result ≡ get_or text.now p 0 }
 {
-    if p < text.len() {
-        return text[p];
-    }
-    0
+    text.get(p).copied().unwrap_or(0)
 }
 
 pub fn is_consonant(x: u32) -> bool
     ensures { result ≡ holds consonant x }
 {
-    if x < 0xE01 {
-        return false;
-    }
-    x <= 0xE2E
+    matches!(x, 0xE01..=0xE2E)
 }
 
 pub fn is_tone(x: u32) -> bool
     ensures { result ≡ holds tone x }
 {
-    if x < 0xE48 {
-        return false;
-    }
-    x <= 0xE4B
+    matches!(x, 0xE48..=0xE4B)
 }
 
 // ใ or ไ
 pub fn is_sara_ai(x: u32) -> bool
     ensures { result ≡ holds (up_to 0xE43 0xE44) x }
 {
-    if x < 0xE43 {
-        return false;
-    }
-    x <= 0xE44
+    matches!(x, 0xE43 | 0xE44)
 }
 
 // [ะ-ู]
 pub fn is_vowel(x: u32) -> bool
     ensures { result ≡ holds (up_to 0xE30 0xE39) x }
 {
-    if x < 0xE30 {
-        return false;
-    }
-    x <= 0xE39
+    matches!(x, 0xE30..=0xE39)
 }
 
 // ั or ื
 pub fn is_closed(x: u32) -> bool
     ensures { result ≡ holds (is 0xE31 ++ is 0xE37) x }
 {
-    if x == MAI_HAN_AKAT {
-        return true;
-    }
-    x == SARA_UEE
+    matches!(x, MAI_HAN_AKAT | SARA_UEE)
 }
 
 // [ิุู]
 pub fn is_d_or_i(x: u32) -> bool
     ensures { result ≡ holds d_or_i x }
 {
-    if x == SARA_I {
-        return true;
-    }
-    if x < SARA_U {
-        return false;
-    }
-    x <= 0xE39
+    matches!(x, SARA_I | SARA_U..=0xE39)
 }
 
 // [ุิะ]
 pub fn is_final_vowel(x: u32) -> bool
     ensures { result ≡ holds (is 0xE38 ++ is 0xE34 ++ is 0xE30) x }
 {
-    if x == SARA_U {
-        return true;
-    }
-    if x == SARA_I {
-        return true;
-    }
-    x == SARA_A
+    matches!(x, SARA_U | SARA_I | SARA_A)
 }
 
 // [ะาำ]
 pub fn is_open_vowel(x: u32) -> bool
     ensures { result ≡ holds (is 0xE30 ++ is 0xE32 ++ is 0xE33) x }
 {
-    if x == SARA_A {
-        return true;
-    }
-    if x == SARA_AA {
-        return true;
-    }
-    x == SARA_AM
+    matches!(x, SARA_A | SARA_AA | SARA_AM)
 }
