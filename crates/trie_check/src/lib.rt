@@ -19,10 +19,7 @@ use trie_well_formed::well_formed;
 pub fn capacity(cells: usize) -> usize
     ensures { result ≡ min (cells / node_cells) max_nodes }
 {
-    if cells / NODE < MAX_NODES {
-        return cells / NODE;
-    }
-    MAX_NODES
+    (cells / NODE).min(MAX_NODES)
 }
 
 // Whether the pool is a dictionary.

@@ -8,7 +8,6 @@ ghost use Rattle.trie_plants_answers.specs.Answers.{start_answer};
 ghost use Rattle.trie_plants_answers.specs.Answers.{plant_add_answer, plant_added, plant_remove_answer, plant_removed};
 ghost use Rattle.trie_plants_answers.specs.Changes.{PlantAfter, Started};
 
-use cells::{narrow, wide};
 use char_string_trim::trimmed;
 use refusal::Refusal;
 use trie_change::{add_word, remove_word, reset};
@@ -35,8 +34,8 @@ pub fn start(pool: &mut [u32], limit_a: usize, limit_b: usize) -> Result<usize, 
     if room - limit_a < limit_b {
         return Err(Refusal::LimitsTooLarge);
     }
-    let a = narrow(limit_a + 1);
-    let b = narrow(limit_b + 1);
+    let a = (limit_a + 1) as u32;
+    let b = (limit_b + 1) as u32;
     let cells = NODE * nodes;
     reset(&mut pool[..cells]);
     pool[MARK] = a;
@@ -51,7 +50,7 @@ fn free_nodes(half: &[u32]) -> usize
     requires { (3 < length half.now) × (used half.now ≤ get_or half.now 3 0) }
     ensures { result ≡ get_or half.now 3 0 - used half.now }
 {
-    wide(half[MARK]) - wide(half[IN_USE])
+    half[MARK] as usize - half[IN_USE] as usize
 }
 
 // Adds the trimmed word to the plant's words with its class, or gives a word that it holds this

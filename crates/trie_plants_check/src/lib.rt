@@ -2,7 +2,7 @@
 // calls on a text or a word give.
 #![tactic(auto)]
 
-ghost use Rattle.std.specs.Prelude.{◌≡◌, true, ◌*◌, ◌%◌, ◌≤◌, max, length, drop};
+ghost use Rattle.std.specs.Prelude.{◌≡◌, true, ◌*◌, ◌%◌, ◌≤◌, length, drop};
 ghost use Rattle.refusal.specs.Answers.{answer};
 ghost use Rattle.refusal.specs.Limits.{max_nodes};
 ghost use Rattle.trie_pool.specs.Cells.{node_cells};
@@ -13,7 +13,6 @@ ghost use Rattle.trie_char_answers.specs.Refusals.{remove_causes};
 ghost use Rattle.trie_plants.specs.Rules.{is_plants};
 ghost use Rattle.trie_plants.specs.Meaning.{plant_meaning};
 
-use cells::wide;
 use char_string_scalars::check_text;
 use char_string_trim::trim;
 use refusal::Refusal;
@@ -23,15 +22,6 @@ use trie_plants::Plant;
 use trie_pool::{HALF, IN_USE, MARK, MAX_WORD, NODE};
 use trie_well_formed::blank;
 
-fn larger(a: usize, b: usize) -> usize
-    ensures { result ≡ max a b }
-{
-    if a < b {
-        return b;
-    }
-    a
-}
-
 // Whether a dictionary of at most a nodes stands in the first halves and one of at most b in the
 // second. The nodes that neither uses are read once, all cells alike.
 fn halves_ok(p: &[u32], a: usize, b: usize) -> bool
@@ -39,18 +29,18 @@ fn halves_ok(p: &[u32], a: usize, b: usize) -> bool
         × (node_cells * a ≤ length p.now) × (node_cells * b ≤ length p.now) }
     ensures { Decides result ((in_half a p.now ≡ true) × (in_half b (drop 4 p.now) ≡ true)) }
 {
-    let u = wide(p[IN_USE]);
+    let u = p[IN_USE] as usize;
     if u == 0 {
         return false;
     }
     if a < u {
         return false;
     }
-    let v = wide(p[HALF + IN_USE]);
+    let v = p[HALF + IN_USE] as usize;
     if b < v {
         return false;
     }
-    let n = larger(u, v);
+    let n = u.max(v);
     let cells = NODE * n;
     if !blank(p, cells) {
         return false;
@@ -69,11 +59,11 @@ pub fn is_plants(pool: &[u32]) -> bool
     if n == 0 {
         return false;
     }
-    let a = wide(pool[MARK]);
+    let a = pool[MARK] as usize;
     if n < a {
         return false;
     }
-    let b = wide(pool[HALF + MARK]);
+    let b = pool[HALF + MARK] as usize;
     if n < b {
         return false;
     }

@@ -48,5 +48,5 @@ returns c =
           c.args.limit_b c.args.pool.now c.if-pool-lt-NODE.false _ c.capacity-nodes.ensures
           (omega (arith, c.capacity-nodes.ensures, c.if-room-limit_a.false, c.if-room-limit_a-2.false)) _
           (c.reset.auto.cells ∙ long c.args.pool.now _ c.capacity-nodes.ensures) c.reset.ensures _ _
-          c.narrow-a.ensures c.narrow-b.ensures;
+          refl refl;
     }
