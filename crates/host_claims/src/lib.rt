@@ -5,6 +5,7 @@ ghost use Rattle.std.specs.Prelude.{◌≡◌};
 ghost use Rattle.newmm_claim.specs.Answers.{claim};
 ghost use Rattle.host_claims.specs.Calls.{told_claim, tells_claim, ClaimTold};
 
+use host_telling::tell;
 use newmm_claim::Verdict;
 use refusal::Refusal;
 
@@ -17,26 +18,12 @@ fn tell_claim(
 ) -> u32
     ensures { told_claim result right.new token.new detail.new ≡ tells_claim a }
 {
-    match a {
-        Ok(Verdict::Right) => {
-            *right = 1;
-            *token = 0;
-            *detail = 0;
-            0
-        }
-        Ok(Verdict::Wrong(k)) => {
-            *right = 0;
-            *token = k;
-            *detail = 0;
-            0
-        }
-        Err(r) => {
-            *right = 0;
-            *token = 0;
-            *detail = r.detail();
-            u32::from(r.number())
-        }
-    }
+    *right = usize::from(matches!(a, Ok(Verdict::Right)));
+    let wrong = a.map(|verdict| match verdict {
+        Verdict::Right => 0,
+        Verdict::Wrong(k) => k,
+    });
+    tell(wrong, token, detail)
 }
 
 // Checks ends that are claimed for the plain cut of a text: 1, or 0 and the first token that is

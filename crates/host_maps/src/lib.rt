@@ -47,26 +47,8 @@ fn tell_next(
 ) -> u32
     ensures { told_next result found.new place.new detail.new ≡ tells_next a }
 {
-    match a {
-        Ok(Some(q)) => {
-            *found = 1;
-            *place = q;
-            *detail = 0;
-            0
-        }
-        Ok(None) => {
-            *found = 0;
-            *place = 0;
-            *detail = 0;
-            0
-        }
-        Err(r) => {
-            *found = 0;
-            *place = 0;
-            *detail = r.detail();
-            u32::from(r.number())
-        }
-    }
+    *found = usize::from(matches!(a, Ok(Some(_))));
+    tell(a.map(|next| next.unwrap_or(0)), place, detail)
 }
 
 // The first break above a position: 1 and where it is, or 0. Refusals 2, 6, 10, 11.

@@ -37,18 +37,6 @@ pub fn tell_cut(
 ) -> u32
     ensures { told_cut result count.new edges.new detail.new ≡ tells_cut a }
 {
-    match a {
-        Ok(cut) => {
-            *count = cut.ends;
-            *edges = cut.edges;
-            *detail = 0;
-            0
-        }
-        Err(r) => {
-            *count = 0;
-            *edges = 0;
-            *detail = r.detail();
-            u32::from(r.number())
-        }
-    }
+    *edges = a.map_or(0, |cut| cut.edges);
+    tell(a.map(|cut| cut.ends), count, detail)
 }

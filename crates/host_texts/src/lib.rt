@@ -36,18 +36,9 @@ pub fn end_in_bytes(
         (told_end result found.new at.new) }
 {
     let place = utf8::end_in_bytes(positions, n, end);
-    match place {
-        Some(p) => {
-            *found = 1;
-            *at = p;
-            0
-        }
-        None => {
-            *found = 0;
-            *at = 0;
-            0
-        }
-    }
+    *found = usize::from(place.is_some());
+    *at = place.unwrap_or(0);
+    0
 }
 
 // The ends of a text's clusters, in characters, at the front of out; accepted with their number.
