@@ -39,10 +39,6 @@ zeros_blank n k = go (dec_lt k n)
     go (yes h) = get_or-replicate {A = ℕ} n k 0 0 h
     go (no h) = get_or-eq_default (replicate {A = ℕ} n 0) 0 {n = k} (omega (arith, length-replicate {A = ℕ} n 0))
 
--- all cells of a row are cleared
-pub cleared_all : (row : List ℕ) {row₁ : List ℕ} → row₁ ≡ replicate {A = ℕ} (length row) 0 ++ drop (length row) row → row₁ ≡ replicate {A = ℕ} (length row) 0
-cleared_all row e = e ∙ ap (λ (l : List ℕ). replicate {A = ℕ} (length row) 0 ++ l) (drop-length row) ∙ append-nil (replicate {A = ℕ} (length row) 0)
-
 -- what is lent on: a view of the pool, and as many cells of 0 as scratch has
 pub record Lent (text view row : List ℕ) (cells : ℕ) : Type 0 where
   pub sees : Sees text view cells
@@ -150,13 +146,12 @@ module _ {mode : Mode} {text view row : List ℕ} (scratch out : List ℕ) {r : 
     (sym (ap (λ (a : Result ℕ Refusal). output a (whole z).ends out) (accepts_no z (length out) h)), zeroed e),
   )
 
-  pub done_cuts : {out' row' : List ℕ} → r.ends ≤ length out → out' ≡ take r.ends (take r.ends row) ++ drop r.ends out
+  pub done_cuts : {out' row' : List ℕ} → r.ends ≤ length out → out' ≡ take r.ends row ++ drop r.ends out
       → row' ≡ replicate {A = ℕ} r.ends 0 ++ drop r.ends row → CutsBy (in_view view) text out scratch mode (accepted_with r.ends r.edges) out' row'
   done_cuts h f e = (
     answers_yes z (length out) h,
     (
-      f ∙ ap (λ (x : List ℕ). take r.ends x ++ drop r.ends out) (front (v z))
-          ∙ ap (λ (x : List ℕ). x ++ drop r.ends out) (ap (λ (k : ℕ). take k (whole z).ends) (v z).ends ∙ take-length (whole z).ends)
+      f ∙ ap (λ (x : List ℕ). x ++ drop r.ends out) (front (v z))
           ∙ ap (λ (k : ℕ). (whole z).ends ++ drop k out) (v z).ends
           ∙ sym (ap (λ (a : Result ℕ Refusal). output a (whole z).ends out) (accepts_yes z (length out) h)),
       zeroed e,

@@ -5,7 +5,6 @@ ghost use Rattle.std.specs.Prelude.{length};
 ghost use Rattle.newmm_answers.specs.Calls.{call, Cuts};
 ghost use Rattle.newmm_answers.specs.inner.Passing.{in_view, Sees, Blank, CutsBy};
 
-use cells::{clear_first, copy};
 use newmm_answers::check_cut;
 use newmm_rules::{Ends, Mode};
 use newmm_segment::segment_single;
@@ -30,15 +29,12 @@ pub fn cut_ready(
     let r = segment_single(text, view, scratch, mode);
     let n = r.ends;
     if out.len() < n {
-        clear_first(scratch, n);
+        scratch[..n].fill(0);
         return Err(Refusal::OutputTooShort(n));
     }
-    copy(&scratch[..n], out, n);
-    clear_first(scratch, n);
-    Ok(Ends {
-        ends: n,
-        edges: r.edges,
-    })
+    out[..n].copy_from_slice(&scratch[..n]);
+    scratch[..n].fill(0);
+    Ok(r)
 }
 
 // The same, whatever scratch holds.
@@ -54,8 +50,7 @@ pub fn cut_checked(
         text.now out.old scratch.old mode
         result out.new scratch.new }
 {
-    let all = scratch.len();
-    clear_first(scratch, all);
+    scratch.fill(0);
     cut_ready(text, view, out, scratch, mode)
 }
 
