@@ -63,7 +63,8 @@ fn list_words<R: Read, W: Write>(input: &mut R, output: &mut W) -> Result<(), St
     if IMAGE <= n {
         return Err(Stop::TooLong);
     }
-    trie_char::fresh(&mut pool);
+    // A pool of this length is not refused.
+    let _ = trie_char::fresh(&mut pool);
     let image = front(&row, n);
     match read_image(&mut pool, image) {
         Ok(_) => {

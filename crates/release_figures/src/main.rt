@@ -89,15 +89,17 @@ fn main(rt: HostRuntime) {
 // Counts the lines of all of the input, and writes the list.
 fn count_all<R: Read, W: Write>(input: &mut R, output: &mut W) -> Result<(), Stop> {
     let mut row = [0u8; LINE];
+    let mut pool = [0; POOL];
+    // A pool of this length is not refused.
+    let _ = trie_char::fresh(&mut pool);
     let mut counting = Counting {
         figures: [0; 16],
-        pool: [0; POOL],
+        pool,
         scalars: [0; TEXT],
         positions: [0; POSITIONS],
         pairs: [0; PAIRS],
         scratch: [0; SCRATCH],
     };
-    trie_char::fresh(&mut counting.pool);
     read_lines(input, &mut row, &mut counting)?;
     let mut out = [0u8; LIST];
     let n = write_figures(&counting.figures, &mut out);

@@ -91,7 +91,7 @@ pub fn count_line(
     let cutting = cutting_in(line);
     match cutting {
         Cutting::Nothing => {
-            answer_line(line, pool, scalars, positions, pairs, scratch);
+            let _ = answer_line(line, pool, scalars, positions, pairs, scratch);
             false
         }
         Cutting::By(mode) => count_text(

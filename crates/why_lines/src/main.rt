@@ -79,18 +79,20 @@ fn main(rt: HostRuntime) {
 
 // Answers the lines of all of the input.
 fn answer_all<R: Read, W: Write>(input: &mut R, output: &mut W) -> Result<(), Failure> {
+    let mut pool = [0; POOL];
+    // A pool of this length is not refused.
+    let _ = trie_char::fresh(&mut pool);
     let mut run = Run {
         output,
         line: [0; LINE],
         kept: 0,
-        pool: [0; POOL],
+        pool,
         scalars: [0; TEXT],
         positions: [0; POSITIONS],
         pairs: [0; PAIRS],
         scratch: [0; SCRATCH],
         out: [0; REPLY],
     };
-    trie_char::fresh(&mut run.pool);
     read_all(input, &mut run)?;
     run.end()
 }

@@ -96,13 +96,15 @@ fn main(rt: HostRuntime) {
 // Adds the words of all of the input, and writes the image.
 fn make_image<R: Read, W: Write>(input: &mut R, output: &mut W) -> Result<(), Stop> {
     let mut row = [0u8; LINE];
+    let mut pool = [0; POOL];
+    // A pool of this length is not refused.
+    let _ = trie_char::fresh(&mut pool);
     let mut adding = Adding {
-        pool: [0; POOL],
+        pool,
         scalars: [0; TEXT],
         positions: [0; POSITIONS],
         lines: 0,
     };
-    trie_char::fresh(&mut adding.pool);
     read_lines(input, &mut row, &mut adding)?;
     let mut image = [0u8; IMAGE];
     match write_image(&adding.pool, &mut image) {
