@@ -208,7 +208,6 @@ module _ (one : Singly) (c : ManyCall) {a : Result ℕ Refusal} (is : a ≡ many
       )
 
 -- what is answered by words that stand in a view is answered by the pool that has them
-pub accepted_by : (wanted : Wanted) (mode : Mode) (c : ManyCall) {m m' : Option Words} → m ≡ m' → {a : Result ℕ Refusal} → a ≡ many_answer c → {n : ℕ} → a ≡ Ok n → {answers out scratch : List ℕ}
-    → Left (singly wanted mode m) c answers out scratch → ManyBy (singly wanted mode m') c (Ok n) answers out scratch
-accepted_by wanted mode c {m} {m'} same is yes' {answers} {out} {scratch} left =
-    accepted_many (singly wanted mode m') c is yes' (subst (λ (x : Option Words). Left (singly wanted mode x) c answers out scratch) same left)
+pub answered_by : (wanted : Wanted) (c : ManyCall) {m m' : Option Words} → m ≡ m' → {a : Result ℕ Refusal} {answers out scratch : List ℕ}
+    → ManyBy (singly wanted c.mode m) c a answers out scratch → ManyBy (singly wanted c.mode m') c a answers out scratch
+answered_by wanted c same {a} {answers} {out} {scratch} = subst (λ (x : Option Words). ManyBy (singly wanted c.mode x) c a answers out scratch) same

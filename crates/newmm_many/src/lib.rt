@@ -2,13 +2,13 @@
 // would answer and leave.
 #![tactic(auto)]
 
-ghost use Rattle.std.specs.Prelude.{◌≡◌, true, ◌≤◌, length};
+ghost use Rattle.std.specs.Prelude.{◌≡◌, [], length, IfSome};
 ghost use Rattle.trie_pool.specs.Meaning.{meaning};
 ghost use Rattle.trie_pool.specs.inner.Sound.{Readable};
 ghost use Rattle.newmm_many_answers.specs.Singles.{singly};
 ghost use Rattle.newmm_many_answers.specs.Calls.{many_call, ManyBy, ManyCuts, ManyReasons};
 ghost use Rattle.newmm_many_answers.specs.inner.Whole.{Whole};
-ghost use Rattle.newmm_many_turn.specs.inner.Knowing.{seen_as};
+ghost use Rattle.newmm_many_turn.specs.inner.Knowing.{seen_in};
 ghost use Rattle.newmm_many.specs.inner.Rows.{Left};
 
 use newmm_many_answers::{ANSWER, Wanted, cells_told, check_many, put_answer};
@@ -18,89 +18,79 @@ use refusal::Refusal;
 use trie_check::{capacity, is_dictionary};
 use trie_pool::NODE;
 
-fn position(x: u32) -> usize
-    ensures { (result ≡ x) × (result ≤ 4294967295) }
-{
-    x as usize
-}
-
-// Answers the texts one after the other, by a view of a pool, where neither 10 nor 6 refuses the
-// whole call. `known` says whether the view can be read. Scratch is cleared for the first text that
-// is cut: each cut leaves it all 0.
-pub fn answer_texts(
+// Answers the texts one after the other, by a view of a pool, if it can be read, where neither 10
+// nor 6 refuses the whole call. Scratch is cleared for the first text that is cut: each cut leaves
+// it all 0.
+fn answer_texts(
     texts: &[u32],
     text_ends: &[u32],
-    view: &[u32],
+    view: Option<&[u32]>,
     answers: &mut [u32],
     out: &mut [u32],
     scratch: &mut [u32],
     mode: Mode,
     wanted: Wanted,
-    known: bool,
 )
-    requires { Whole (length texts.now) text_ends.now (length answers.old)
-        × (known ≡ true → Readable view.now 0) }
-    ensures { Left (singly wanted mode (seen_as known view.now))
-        (many_call texts.now text_ends.now view.now
+    requires whole { Whole (length texts.now) text_ends.now (length answers.old) }
+    requires view { IfSome view (λ v. Readable v.now 0) }
+    ensures { Left (singly wanted mode (seen_in view.entry))
+        (many_call texts.now text_ends.now []
         answers.old out.old scratch.old mode)
         answers.new out.new scratch.new }
 {
     let mut blank = false;
     let mut from = 0;
     let mut used = 0;
-    let mut i = 0;
-    while i < text_ends.len() {
-        let end = position(text_ends[i]);
-        let turn = answer_next(
+    for (i, cell) in text_ends.iter().enumerate() {
+        let end = *cell as usize;
+        let told = answer_next(
             &texts[from..end],
             view,
             &mut out[used..],
             scratch,
+            &mut blank,
             mode,
             wanted,
-            known,
-            blank,
         );
-        let told = turn.told;
         put_answer(&mut answers[ANSWER * i..], told);
         used += cells_told(told, wanted);
-        blank = turn.blank;
         from = end;
-        i += 1;
     }
 }
 
-// What is wanted of many texts, by the words of a pool.
-fn answer_many(
+// What is wanted of many texts, by a view of a pool, if it can be read. Answers the number of
+// texts. Refusals of the whole call: 10, then 6.
+pub fn answer_many(
     texts: &[u32],
     text_ends: &[u32],
-    pool: &[u32],
+    view: Option<&[u32]>,
     answers: &mut [u32],
     out: &mut [u32],
     scratch: &mut [u32],
     mode: Mode,
     wanted: Wanted,
 ) -> Result<usize, Refusal>
-    ensures { ManyBy (singly wanted mode (meaning pool.now))
-        (many_call texts.now text_ends.now pool.now
+    requires { IfSome view (λ v. Readable v.now 0) }
+    ensures { ManyBy (singly wanted mode (seen_in view.entry))
+        (many_call texts.now text_ends.now []
         answers.old out.old scratch.old mode)
         result answers.new out.new scratch.new }
 {
     let n = check_many(text_ends, texts.len(), answers.len())?;
-    let known = is_dictionary(pool);
-    let cells = NODE * capacity(pool.len());
-    answer_texts(
-        texts,
-        text_ends,
-        &pool[..cells],
-        answers,
-        out,
-        scratch,
-        mode,
-        wanted,
-        known,
-    );
+    answer_texts(texts, text_ends, view, answers, out, scratch, mode, wanted);
     Ok(n)
+}
+
+// The cells in which a pool's dictionary stands, if it is one.
+fn dictionary_in(pool: &[u32]) -> Option<&[u32]>
+    ensures means { seen_in result ≡ meaning pool.now }
+    ensures readable { IfSome result (λ v. Readable v.now 0) }
+{
+    if !is_dictionary(pool) {
+        return None;
+    }
+    let cells = NODE * capacity(pool.len());
+    Some(&pool[..cells])
 }
 
 // Cuts many texts by the words of a pool. They stand joined in `texts`, and end there at
@@ -124,7 +114,7 @@ pub fn cut_many(
     answer_many(
         texts,
         text_ends,
-        pool,
+        dictionary_in(pool),
         answers,
         out,
         scratch,
@@ -151,7 +141,7 @@ pub fn cut_reasons_many(
     answer_many(
         texts,
         text_ends,
-        pool,
+        dictionary_in(pool),
         answers,
         pairs,
         scratch,

@@ -2,15 +2,15 @@
 // text what a single call would answer and leave.
 #![tactic(auto)]
 
-ghost use Rattle.std.specs.Prelude.{◌≡◌, min};
-ghost use Rattle.trie_plants.specs.Halves.{half_at};
+ghost use Rattle.std.specs.Prelude.{◌≡◌, IfSome};
+ghost use Rattle.trie_pool.specs.inner.Sound.{Readable};
 ghost use Rattle.trie_plants.specs.Meaning.{plant_meaning};
-ghost use Rattle.newmm_many_answers.specs.Singles.{singly};
-ghost use Rattle.newmm_many_answers.specs.Calls.{many_call, ManyBy};
+ghost use Rattle.newmm_many_answers.specs.Calls.{many_call};
+ghost use Rattle.newmm_many_turn.specs.inner.Knowing.{seen_in};
 ghost use Rattle.newmm_plants_many.specs.Calls.{PlantManyCuts, PlantManyReasons};
 
-use newmm_many::answer_texts;
-use newmm_many_answers::{Wanted, check_many};
+use newmm_many::answer_many;
+use newmm_many_answers::Wanted;
 use newmm_rules::Mode;
 use refusal::Refusal;
 use trie_check::capacity;
@@ -18,50 +18,17 @@ use trie_plants::{Plant, half_at};
 use trie_plants_check::is_plants;
 use trie_pool::NODE;
 
-// Where the view of a plant's half starts. A pool without a node has an empty one.
-fn view_from(plant: Plant, cells: usize) -> usize
-    ensures { result ≡ min (half_at plant) cells }
+// The half in which a plant's dictionary stands, if the pool is a plants' pool.
+fn dictionary_of(plant: Plant, pool: &[u32]) -> Option<&[u32]>
+    ensures means { seen_in result ≡ plant_meaning plant pool.now }
+    ensures readable { IfSome result (λ v. Readable v.now 0) }
 {
-    let a = half_at(plant);
-    if cells < a {
-        return cells;
+    if !is_plants(pool) {
+        return None;
     }
-    a
-}
-
-// What is wanted of many texts, by a plant's words.
-fn answer_many_in(
-    texts: &[u32],
-    text_ends: &[u32],
-    pool: &[u32],
-    plant: Plant,
-    answers: &mut [u32],
-    out: &mut [u32],
-    scratch: &mut [u32],
-    mode: Mode,
-    wanted: Wanted,
-) -> Result<usize, Refusal>
-    ensures { ManyBy (singly wanted mode (plant_meaning plant pool.now))
-        (many_call texts.now text_ends.now pool.now
-        answers.old out.old scratch.old mode)
-        result answers.new out.new scratch.new }
-{
-    let n = check_many(text_ends, texts.len(), answers.len())?;
-    let known = is_plants(pool);
     let cells = NODE * capacity(pool.len());
-    let a = view_from(plant, cells);
-    answer_texts(
-        texts,
-        text_ends,
-        &pool[a..cells],
-        answers,
-        out,
-        scratch,
-        mode,
-        wanted,
-        known,
-    );
-    Ok(n)
+    let a = half_at(plant);
+    Some(&pool[a..cells])
 }
 
 // Cuts many texts by a plant's words. They stand joined in `texts`, and end there at `text_ends`.
@@ -84,11 +51,10 @@ pub fn cut_many_in(
         answers.old out.old scratch.old mode)
         result answers.new out.new scratch.new }
 {
-    answer_many_in(
+    answer_many(
         texts,
         text_ends,
-        pool,
-        plant,
+        dictionary_of(plant, pool),
         answers,
         out,
         scratch,
@@ -114,11 +80,10 @@ pub fn cut_reasons_many_in(
         answers.old pairs.old scratch.old mode)
         result answers.new pairs.new scratch.new }
 {
-    answer_many_in(
+    answer_many(
         texts,
         text_ends,
-        pool,
-        plant,
+        dictionary_of(plant, pool),
         answers,
         pairs,
         scratch,

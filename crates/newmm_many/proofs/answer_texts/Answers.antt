@@ -1,9 +1,8 @@
 use native.Mathlib.Omega.{arith}
-use Prim.Native.Nat.{◌-◌}
-use mathlib.Core.Path.{◌≡◌}
+use mathlib.Core.Path.{◌≡◌, refl}
 use lib.ListN.{length}
 use Rattle.newmm_many_answers.proofs.Steady.{steady, by_width}
-use Rattle.newmm_many_turn.specs.inner.Knowing.{seen_as}
+use Rattle.newmm_many_turn.specs.inner.Knowing.{seen_in}
 use Rattle.newmm_many.proofs.Turned.{turned_none, used_fits, answers_long, end_fits, cells_fit, cells_lent, told_small, used_more, turned_more, turned_all}
 use Rattle.newmm_many.proofs.answer_texts.Goals as goal
 
@@ -14,19 +13,19 @@ pub offset_bounds-texts-from : goal.offset_bounds-texts-from
 offset_bounds-texts-from c =
     omega (
       arith,
-      (end_fits c.loop-i.invariant c.requires.0 c.loop-i-test.true).0,
+      (end_fits c.loop-i.invariant c.requires.whole c.loop-i-test.true).0,
       (end_fits c.loop-i.invariant
-          c.requires.0 c.loop-i-test.true).1,
+          c.requires.whole c.loop-i-test.true).1,
     )
 
 pub slice_bounds-answer_next-count : goal.slice_bounds-answer_next-count
-slice_bounds-answer_next-count c = omega (arith, c.position-end.ensures.0, (end_fits c.loop-i.invariant c.requires.0 c.loop-i-test.true).0)
+slice_bounds-answer_next-count c = omega (arith, (end_fits c.loop-i.invariant c.requires.whole c.loop-i-test.true).0)
 
 pub slice_bounds-answer_next-start : goal.slice_bounds-answer_next-start
-slice_bounds-answer_next-start c = omega (arith, c.position-end.ensures.0, (end_fits c.loop-i.invariant c.requires.0 c.loop-i-test.true).0)
+slice_bounds-answer_next-start c = omega (arith, (end_fits c.loop-i.invariant c.requires.whole c.loop-i-test.true).0)
 
 pub slice_bounds-answer_next-end : goal.slice_bounds-answer_next-end
-slice_bounds-answer_next-end c = omega (arith, c.position-end.ensures.0, (end_fits c.loop-i.invariant c.requires.0 c.loop-i-test.true).1)
+slice_bounds-answer_next-end c = omega (arith, (end_fits c.loop-i.invariant c.requires.whole c.loop-i-test.true).1)
 
 pub offset_bounds-out-used : goal.offset_bounds-out-used
 offset_bounds-out-used c = omega (arith, used_fits c.loop-i.invariant)
@@ -37,35 +36,35 @@ slice_bounds-answer_next-count-in-loop-i c = omega (arith, used_fits c.loop-i.in
 pub slice_bounds-answer_next-start-in-loop-i : goal.slice_bounds-answer_next-start-in-loop-i
 slice_bounds-answer_next-start-in-loop-i c = omega (arith, used_fits c.loop-i.invariant)
 
-pub answer_next-turn-requires : goal.answer_next-turn-requires
-answer_next-turn-requires c = (c.requires.1, c.loop-i.invariant.zeros)
+pub answer_next-told-requires : goal.answer_next-told-requires
+answer_next-told-requires c = record { view = c.requires.view; blank = c.loop-i.invariant.zeros }
 
 pub overflow_mul-i : goal.overflow_mul-i
-overflow_mul-i c = omega (arith, cells_fit c.loop-i.invariant c.requires.0 c.loop-i-test.true)
+overflow_mul-i c = omega (arith, cells_fit c.loop-i.invariant c.requires.whole c.loop-i-test.true)
 
 pub offset_bounds-answers-i : goal.offset_bounds-answers-i
-offset_bounds-answers-i c = omega (arith, cells_fit c.loop-i.invariant c.requires.0 c.loop-i-test.true)
+offset_bounds-answers-i c = omega (arith, cells_fit c.loop-i.invariant c.requires.whole c.loop-i-test.true)
 
 pub slice_bounds-put_answer-count : goal.slice_bounds-put_answer-count
-slice_bounds-put_answer-count c = omega (arith, cells_fit c.loop-i.invariant c.requires.0 c.loop-i-test.true)
+slice_bounds-put_answer-count c = omega (arith, cells_fit c.loop-i.invariant c.requires.whole c.loop-i-test.true)
 
 pub slice_bounds-put_answer-start : goal.slice_bounds-put_answer-start
-slice_bounds-put_answer-start c = omega (arith, cells_fit c.loop-i.invariant c.requires.0 c.loop-i-test.true)
+slice_bounds-put_answer-start c = omega (arith, cells_fit c.loop-i.invariant c.requires.whole c.loop-i-test.true)
 
 pub put_answer-requires : goal.put_answer-requires
 put_answer-requires c = (
-  cells_lent c.loop-i.invariant c.requires.0 c.loop-i-test.true,
-  told_small c.loop-i.invariant c.requires.0
+  cells_lent c.loop-i.invariant c.requires.whole c.loop-i-test.true,
+  told_small c.loop-i.invariant c.requires.whole
       c.loop-i-test.true
-      (steady c.args.mode (seen_as c.args.known c.args.view.now) c.args.wanted)
-      c.position-end.ensures.0 c.answer_next-turn.ensures.single_is c.position-end.ensures.1,
+      (steady c.args.mode (seen_in c.args.view) c.args.wanted)
+      refl c.answer_next-told.ensures.single_is (omega (arith, (c.type_inv.text_ends c.loop-i.i).fits)),
 )
 
 pub cells_told-used-requires : goal.cells_told-used-requires
 cells_told-used-requires c =
-    told_small c.loop-i.invariant c.requires.0 c.loop-i-test.true
-    (steady c.args.mode (seen_as c.args.known c.args.view.now) c.args.wanted)
-    c.position-end.ensures.0 c.answer_next-turn.ensures.single_is c.position-end.ensures.1
+    told_small c.loop-i.invariant c.requires.whole c.loop-i-test.true
+    (steady c.args.mode (seen_in c.args.view) c.args.wanted)
+    refl c.answer_next-told.ensures.single_is (omega (arith, (c.type_inv.text_ends c.loop-i.i).fits))
 
 pub overflow_add-used : goal.overflow_add-used
 overflow_add-used c =
@@ -73,23 +72,23 @@ overflow_add-used c =
     omega (
       arith,
       c.well_formed.1.1.1.1.0.0,
-      used_more c.loop-i.invariant c.requires.0 c.loop-i-test.true
-          (steady c.args.mode (seen_as c.args.known c.args.view.now) c.args.wanted)
-          c.position-end.ensures.0 c.answer_next-turn.ensures.single_is
-          (by_width c.args.mode (seen_as c.args.known c.args.view.now) c.args.wanted
-          c.answer_next-turn.result.told c.cells_told-used.ensures),
+      used_more c.loop-i.invariant c.requires.whole c.loop-i-test.true
+          (steady c.args.mode (seen_in c.args.view) c.args.wanted)
+          refl c.answer_next-told.ensures.single_is
+          (by_width c.args.mode (seen_in c.args.view) c.args.wanted
+          c.answer_next-told.result c.cells_told-used.ensures),
     )
 
 pub loop-i-preserved : goal.loop-i-preserved
 loop-i-preserved c =
-    turned_more c.loop-i.invariant c.requires.0 c.loop-i-test.true
-    (steady c.args.mode (seen_as c.args.known c.args.view.now) c.args.wanted)
-    c.position-end.ensures.0 c.answer_next-turn.ensures.single_is _
-    (by_width c.args.mode (seen_as c.args.known c.args.view.now) c.args.wanted
-    c.answer_next-turn.result.told c.cells_told-used.ensures) c.put_answer.ensures c.answer_next-turn.ensures.blank
+    turned_more c.loop-i.invariant c.requires.whole c.loop-i-test.true
+    (steady c.args.mode (seen_in c.args.view) c.args.wanted)
+    refl c.answer_next-told.ensures.single_is _
+    (by_width c.args.mode (seen_in c.args.view) c.args.wanted
+    c.answer_next-told.result c.cells_told-used.ensures) c.put_answer.ensures c.answer_next-told.ensures.blank
 
 pub shape_of-answers : goal.shape_of-answers
-shape_of-answers c = answers_long c.loop-i.invariant c.requires.0
+shape_of-answers c = answers_long c.loop-i.invariant c.requires.whole
 
 pub shape_of-out : goal.shape_of-out
 shape_of-out c = c.loop-i.invariant.out_long
