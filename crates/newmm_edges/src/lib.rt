@@ -6,14 +6,13 @@ ghost use Rattle.std.specs.Prelude.{◌≡◌};
 ghost use Rattle.newmm_bfs.specs.inner.Strips.{Sized};
 ghost use Rattle.newmm_edges.specs.inner.Recording.{row_after, progress_after, Room, Here, Alone, RecordsAll};
 
-use cells::narrow;
 use newmm_bfs::{CANDIDATES, CLUSTER_ENDS, EDGE_COUNTS, EDGE_ENDS, FIRST_EDGES};
 use newmm_rules::MAX_GRAPH_SIZE;
 use newmm_word_step::{Step, word_limit, word_step};
 
 // The numbers of a cutting call: the edges since the last clearing, the candidates left, and the
 // edges recorded in the whole call.
-#[derive(Clone, Copy)]
+#[derive(Clone, Copy, Debug, PartialEq, Eq)]
 pub struct Progress {
     pub edges: usize,
     pub left: usize,
@@ -30,8 +29,8 @@ fn record_edge(row: &mut [u32], m: usize, b: usize, e: usize, first: usize, p: P
     let k = p.edges;
     let at = CANDIDATES * m + e;
     let known = row[at];
-    row[EDGE_ENDS * m + k] = narrow(e);
-    row[EDGE_COUNTS * m + b] = narrow(k + 1 - first);
+    row[EDGE_ENDS * m + k] = e as u32;
+    row[EDGE_COUNTS * m + b] = (k + 1 - first) as u32;
     row[at] = 1;
     if known == 0 {
         return Progress {
@@ -65,26 +64,17 @@ pub fn record_words(
     let flags = CLUSTER_ENDS * m;
     let flags_end = EDGE_ENDS * m;
     let first = p.edges;
-    row[FIRST_EDGES * m + b] = narrow(first);
+    row[FIRST_EDGES * m + b] = first as u32;
     let mut q = p;
-    let mut e = b;
     let mut node = 0;
-    while e < limit {
-        let step = word_step(text, pool, &row[flags..flags_end], e, node);
-        match step {
-            Step::Nothing => {
-                return q;
-            }
-            Step::Part(r) => {
-                node = r;
-                e += 1;
-            }
+    for e in b..limit {
+        match word_step(text, pool, &row[flags..flags_end], e, node) {
+            Step::Nothing => return q,
+            Step::Part(r) => node = r,
             Step::Word(r) => {
                 node = r;
-                e += 1;
-                q = record_edge(row, m, b, e, first, q);
-                let k = q.edges;
-                if MAX_GRAPH_SIZE < k {
+                q = record_edge(row, m, b, e + 1, first, q);
+                if MAX_GRAPH_SIZE < q.edges {
                     return q;
                 }
             }

@@ -27,5 +27,11 @@ module _ {row : List ℕ} {m b c : ℕ} (s : Seeking row m b c) where
         none = λ x l k. elim (dec_lt x c) [ yes o ↦ s.none x l o | no n ↦ (let e : x ≡ c = omega arith in ap (λ (i : ℕ). get_or row (5 * m + i) 0) e ∙ z) ];
       }
 
-  pub seek_end : m ≤ c → NextIs row m b c
-  seek_end h = record { above = s.above; upto = s.upto; none = s.none; found = λ l. absurd (omega arith) }
+  pub seek_end : m ≤ c → NextIs row m b m
+  seek_end h =
+      record {
+        above = omega (arith, s.above, s.upto);
+        upto = omega arith;
+        none = λ x l k. s.none x l (omega arith);
+        found = λ l. absurd (omega arith);
+      }

@@ -7,7 +7,6 @@ ghost use Rattle.newmm_bfs.specs.inner.Strips.{Sized, Path, candidate_cell};
 ghost use Rattle.newmm_word_step.specs.inner.Walks.{given_by};
 ghost use Rattle.newmm_one_cut.specs.inner.Strips.{NextIs, TokenAt, OneLeft, Fresh, Lent, Marked, Done};
 
-use cells::{clear_from, narrow, wide};
 use newmm_bfs::{CANDIDATES, CLUSTER_ENDS, EDGE_ENDS, STRIPS, bfs_paths_graph};
 use newmm_edges::{Progress, record_words};
 use newmm_rules::{Ends, MAX_GRAPH_SIZE};
@@ -27,14 +26,12 @@ fn next_candidate(row: &[u32], m: usize, b: usize) -> usize
     requires b_lt_m { b < m }
     ensures { NextIs row.now m b result }
 {
-    let mut c = b + 1;
-    while c < m {
+    for c in b + 1..m {
         if row[CANDIDATES * m + c] != 0 {
             return c;
         }
-        c += 1;
     }
-    c
+    m
 }
 
 // One token from b, by the non-dictionary rule: its end becomes an end and a candidate.
@@ -47,7 +44,7 @@ fn put_token(text: &[u32], pool: &[u32], row: &mut [u32], m: usize, b: usize, en
     let flags_end = EDGE_ENDS * m;
     let e = token_end(text, pool, &row[flags..flags_end], b);
     row[CANDIDATES * m + e] = 1;
-    row[ends] = narrow(e);
+    row[ends] = e as u32;
     e
 }
 
@@ -62,7 +59,7 @@ fn put_path(row: &mut [u32], m: usize, committed: usize, b: usize, ends: usize) 
         let e = row[EDGE_ENDS * m];
         row[ends] = e;
         return Reached {
-            goal: wide(e),
+            goal: e as usize,
             ends: ends + 1,
         };
     }
@@ -91,6 +88,7 @@ pub fn cut_marked(text: &[u32], pool: &[u32], row: &mut [u32]) -> Ends
         left: 0,
         total: 0,
     };
+    // Kept: (3) each turn goes on at the place that it finds, so no iterator is plainer.
     while b < n {
         let q = record_words(text, pool, row, m, b, p);
         let left = q.left;
@@ -138,7 +136,7 @@ fn cut_strips(text: &[u32], pool: &[u32], row: &mut [u32]) -> Ends
     ensures { Done (given_by text.now pool.now) row.old row.new result }
 {
     let r = cut_marked(text, pool, row);
-    clear_from(row, r.ends);
+    row[r.ends..].fill(0);
     r
 }
 

@@ -1,4 +1,5 @@
 use native.Mathlib.Omega.{arith}
+use mathlib.Core.Path.{refl}
 use lib.ListN.{length-set}
 use Rattle.newmm_edges.proofs.Looping.{rec_new, rec_old, rec_row}
 use Rattle.newmm_edges.proofs.record_edge.Goals as goal
@@ -15,7 +16,7 @@ returns-then-known-eq0 c =
       value = rec_new c.args.row.now c.args.m c.args.e c.args.p c.if-known-eq0.true;
       row_after = rec_row
           c.args.row.now c.args.m c.args.e c.args.p c.args.b c.args.first _ _
-          c.narrow.ensures c.narrow-2.ensures;
+          refl refl;
     }
 
 pub returns : goal.returns
@@ -24,5 +25,5 @@ returns c =
       value = rec_old c.args.row.now c.args.m c.args.e c.args.p c.if-known-eq0.false;
       row_after = rec_row
           c.args.row.now c.args.m c.args.e c.args.p c.args.b c.args.first _ _
-          c.narrow.ensures c.narrow-2.ensures;
+          refl refl;
     }

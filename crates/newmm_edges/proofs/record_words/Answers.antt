@@ -1,35 +1,32 @@
 use Prim.Native.Nat.{ℕ, ◌+◌, ◌*◌, ◌-◌}
 use native.Mathlib.Omega.{arith}
-use mathlib.Core.Path.{◌∙◌, ap}
-use lib.ListN.{set, length-set}
+use mathlib.Core.Path.{refl, ◌∙◌}
+use lib.ListN.{length-set}
 use Rattle.newmm_edges.proofs.Looping.{loop_first, asks, finish_end, finish_none, loop_part, stopped, alone_stopped, looped, from_given, alone_given, flags_given}
 use Rattle.newmm_edges.proofs.record_words.Goals as goal
+use Rattle.newmm_edges.proofs.record_words.Goals.{in-Part, in-Word+else-q-gt-MAX_GRAPH_SIZE}
 
 pub loop-e-init : goal.loop-e-init
 loop-e-init c =
     loop_first _ _ _ _ _ _ c.requires _ _
-    (ap (λ (i : ℕ). set c.args.row.now (3 * c.args.m + c.args.b) i) c.narrow.ensures)
+    refl
     c.word_limit-limit.ensures
 
-pub word_step-step-requires : goal.word_step-step-requires
-word_step-step-requires c =
-    let f = ap (λ (i : ℕ). set c.args.row.now (3 * c.args.m + c.args.b) i) c.narrow.ensures in
-    asks c.loop-e.invariant _ (flags_given _ _ _ _ _ _ c.requires f c.loop-e.invariant.alone) c.loop-e-test.true
+pub word_step-requires : goal.word_step-requires
+word_step-requires c =
+    asks c.loop-e.invariant _ (flags_given _ _ _ _ _ _ c.requires refl c.loop-e.invariant.alone) c.loop-e-test.true
 
 pub shape_of-row-in-Nothing : goal.shape_of-row-in-Nothing
 shape_of-row-in-Nothing c = c.loop-e.invariant.same_size ∙ length-set c.args.row.now _ _
 
 pub returns-in-Nothing : goal.returns-in-Nothing
 returns-in-Nothing c =
-    let f = ap (λ (i : ℕ). set c.args.row.now (3 * c.args.m + c.args.b) i) c.narrow.ensures in record {
-      records_all = from_given _ _ _ _ _ _ c.requires f
-          (finish_none c.loop-e.invariant _ c.word_step-step.ensures c.in-Nothing.is);
+    record {
+      records_all = from_given _ _ _ _ _ _ c.requires refl
+          (finish_none c.loop-e.invariant _ c.word_step.ensures c.in-Nothing.is);
       alone = alone_given _ _ _ _ _ _
-          c.requires f c.loop-e.invariant.alone;
+          c.requires refl c.loop-e.invariant.alone;
     }
-
-pub loop-e-preserved-in-Part : goal.loop-e-preserved-in-Part
-loop-e-preserved-in-Part c = loop_part c.loop-e.invariant _ c.word_step-step.ensures c.loop-e-test.true c.in-Part.is
 
 pub record_edge-q-requires : goal.record_edge-q-requires
 record_edge-q-requires c =
@@ -48,34 +45,36 @@ record_edge-q-requires c =
       );
     }
 
-pub shape_of-row-then-k-gt-MAX_GRAPH_SIZE : goal.shape_of-row-then-k-gt-MAX_GRAPH_SIZE
-shape_of-row-then-k-gt-MAX_GRAPH_SIZE c = c.record_edge-q.auto.row ∙ c.loop-e.invariant.same_size ∙ length-set c.args.row.now _ _
+pub shape_of-row-then-q-gt-MAX_GRAPH_SIZE : goal.shape_of-row-then-q-gt-MAX_GRAPH_SIZE
+shape_of-row-then-q-gt-MAX_GRAPH_SIZE c = c.record_edge-q.auto.row ∙ c.loop-e.invariant.same_size ∙ length-set c.args.row.now _ _
 
-pub returns-then-k-gt-MAX_GRAPH_SIZE : goal.returns-then-k-gt-MAX_GRAPH_SIZE
-returns-then-k-gt-MAX_GRAPH_SIZE c =
-    let f = ap (λ (i : ℕ). set c.args.row.now (3 * c.args.m + c.args.b) i) c.narrow.ensures in let h = c.requires in record {
-      records_all = from_given _ _ _ _ _ _ h f
-          (stopped c.loop-e.invariant _ c.word_step-step.ensures c.loop-e-test.true c.in-Word.is h.size
-          h.inside c.record_edge-q.ensures.value c.record_edge-q.ensures.row_after c.if-k-gt-MAX_GRAPH_SIZE.true);
+pub returns-then-q-gt-MAX_GRAPH_SIZE : goal.returns-then-q-gt-MAX_GRAPH_SIZE
+returns-then-q-gt-MAX_GRAPH_SIZE c =
+    let h = c.requires in record {
+      records_all = from_given _ _ _ _ _ _ h refl
+          (stopped c.loop-e.invariant _ c.word_step.ensures c.loop-e-test.true c.in-Word.is h.size
+          h.inside c.record_edge-q.ensures.value c.record_edge-q.ensures.row_after c.if-q-gt-MAX_GRAPH_SIZE.true);
       alone = alone_given _ _ _ _ _ _
-          h f (alone_stopped c.loop-e.invariant _ c.word_step-step.ensures c.loop-e-test.true c.in-Word.is
+          h refl (alone_stopped c.loop-e.invariant _ c.word_step.ensures c.loop-e-test.true c.in-Word.is
           h.size h.inside c.record_edge-q.ensures.value c.record_edge-q.ensures.row_after);
     }
 
 pub loop-e-preserved : goal.loop-e-preserved
 loop-e-preserved c =
     let h = c.requires in
-    looped c.loop-e.invariant _ c.word_step-step.ensures c.loop-e-test.true c.in-Word.is h.size
-    h.inside c.record_edge-q.ensures.value c.record_edge-q.ensures.row_after c.if-k-gt-MAX_GRAPH_SIZE.false
+    elim c.match-word_step.branch [
+      | in-Part w ↦ rw (w.row-is, w.q-is, w.node-is) (loop_part c.loop-e.invariant _ c.word_step.ensures c.loop-e-test.true w.in-Part.is)
+      | in-Word+else-q-gt-MAX_GRAPH_SIZE w ↦ rw (w.row-is, w.q-is, w.node-is) (looped c.loop-e.invariant _ c.word_step.ensures c.loop-e-test.true w.in-Word.is h.size h.inside w.record_edge-q.ensures.value w.record_edge-q.ensures.row_after w.if-q-gt-MAX_GRAPH_SIZE.false)
+    ]
 
 pub shape_of-row : goal.shape_of-row
 shape_of-row c = c.loop-e.invariant.same_size ∙ length-set c.args.row.now _ _
 
 pub returns : goal.returns
 returns c =
-    let f = ap (λ (i : ℕ). set c.args.row.now (3 * c.args.m + c.args.b) i) c.narrow.ensures in record {
-      records_all = from_given _ _ _ _ _ _ c.requires f
-          (finish_end c.loop-e.invariant c.loop-e-test.false);
-      alone = alone_given _ _ _ _ _ _ c.requires f
+    record {
+      records_all = from_given _ _ _ _ _ _ c.requires refl
+          (finish_end c.loop-e.invariant (let t = c.loop-e-test.false in omega arith));
+      alone = alone_given _ _ _ _ _ _ c.requires refl
           c.loop-e.invariant.alone;
     }

@@ -9,9 +9,6 @@ loop-c-init c = seek_first _ _ _ c.requires.b_lt_m
 pub returns-then-row-m-ne0 : goal.returns-then-row-m-ne0
 returns-then-row-m-ne0 c = seek_found c.loop-c.invariant c.loop-c-test.true c.if-row-m-ne0.true
 
-pub loop-c-smaller : goal.loop-c-smaller
-loop-c-smaller c = let t = c.loop-c-test.true in omega arith
-
 pub loop-c-preserved : goal.loop-c-preserved
 loop-c-preserved c = seek_on c.loop-c.invariant c.loop-c-test.true c.if-row-m-ne0.false
 

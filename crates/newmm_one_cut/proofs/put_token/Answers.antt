@@ -1,7 +1,6 @@
-use Prim.Native.Nat.{ℕ, ◌+◌, ◌*◌}
 use native.Mathlib.Omega.{arith}
-use mathlib.Core.Path.{ap}
-use lib.ListN.{set, length-set}
+use mathlib.Core.Path.{refl}
+use lib.ListN.{length-set}
 use Rattle.newmm_rules.proofs.Spans.{token_spans}
 use Rattle.newmm_word_step.specs.inner.Walks.{given_by}
 use Rattle.newmm_one_cut.proofs.put_token.Goals as goal
@@ -27,8 +26,8 @@ bounds-row-m c =
     let t = token_spans (given_by c.args.text.now c.args.pool.now) c.args.b c.requires.inside in
     omega (arith, t.1, c.token_end-e.ensures, c.requires.size, c.requires.sized.long)
 
-pub narrow-requires : goal.narrow-requires
-narrow-requires c =
+pub overflow_cast-row : goal.overflow_cast-row
+overflow_cast-row c =
     let t = token_spans (given_by c.args.text.now c.args.pool.now) c.args.b c.requires.inside in
     omega (arith, t.1, c.token_end-e.ensures, c.requires.size, c.requires.sized.small)
 
@@ -42,7 +41,5 @@ pub returns : goal.returns
 returns c =
     record {
       value = c.token_end-e.ensures;
-      row_after = ap
-          (λ (i : ℕ). set (set c.args.row.now (5 * c.args.m + c.token_end-e.result) 1) c.args.ends i)
-          c.narrow.ensures;
+      row_after = refl;
     }
