@@ -13,6 +13,7 @@ use trie_pool::{COUNT, HALF, IN_USE, NODE};
 use trie_well_formed::{shallow, starts_ok};
 
 // Whether the cells of the half are 0 in each node from n on.
+// Kept: (6) n counts the nodes before those that are looked at.
 fn unused_ok(p: &[u32], n: usize) -> bool
     requires { (n ≤ max_nodes) × (length p.now % 4 ≡ 0) }
     ensures { Decides result ((i k : ℕ) → n ≤ i → k < 4 → get_or p.now (node_cells * i + k) 0 ≡ 0) }

@@ -17,6 +17,7 @@ fn bump(p: &mut [u32], low: usize, high: usize)
 }
 
 // Puts a leaf in at j, under b, among n nodes. It ends no word yet.
+// Kept: (6) here and in pluck: the nodes in use, behind which there is room for one more.
 pub fn plant(p: &mut [u32], n: usize, b: usize, j: usize, x: u32)
     requires { Plants p.old n b j x }
     ensures { Planted p.old p.new n b j x }

@@ -21,29 +21,14 @@ fn is_thai(x: u32) -> bool
 fn scalar_ok(scalar: u32, mark: u32) -> bool
     ensures { Decides result (Legal scalar mark) }
 {
-    if is_thai(scalar) {
-        return true;
-    }
-    if !is_scalar(scalar) {
-        return false;
-    }
-    if mark == 0 {
-        return true;
-    }
-    !is_trimmed(scalar)
+    is_thai(scalar) || is_scalar(scalar) && (mark == 0 || !is_trimmed(scalar))
 }
 
 // Whether a node that is not the root may have this scalar, number of children and mark.
 fn inner_ok(scalar: u32, count: u32, mark: u32) -> bool
     ensures { Decides result (Inner scalar count mark) }
 {
-    if !scalar_ok(scalar, mark) {
-        return false;
-    }
-    if count == 0 && mark == 0 {
-        return false;
-    }
-    mark <= MAX_MARK
+    scalar_ok(scalar, mark) && (count != 0 || mark != 0) && mark <= MAX_MARK
 }
 
 // Whether node i, which is not the root, may stand where it does, if its children start at s.
@@ -52,8 +37,5 @@ pub fn node_ok(p: &[u32], i: usize, s: usize) -> bool
     ensures { Decides result (Stands p.now i s) }
 {
     let a = NODE * i;
-    if p[a + FIRST] != s as u32 {
-        return false;
-    }
-    inner_ok(p[a], p[a + COUNT], p[a + MARK])
+    p[a + FIRST] == s as u32 && inner_ok(p[a], p[a + COUNT], p[a + MARK])
 }

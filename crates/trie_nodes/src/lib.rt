@@ -16,10 +16,11 @@ use trie_node::node_ok;
 use trie_pool::{COUNT, FIRST, HALF, NODE};
 
 // Above every scalar.
+// Kept: (1) a number, so that a walk compares it without a branch on a node's children.
 const NONE: u32 = 0xFFFFFFFF;
 
 // How far the walk over the nodes has come.
-#[derive(Clone, Copy)]
+#[derive(Clone, Copy, Debug, PartialEq, Eq)]
 pub struct Walk {
     // The next node.
     pub i: usize,
@@ -64,6 +65,8 @@ pub fn start_falls(p: &[u32], s: usize, k: usize) -> usize
 }
 
 // The same of the root's children, of which there may be none.
+// Kept: (5), (6) here and below n counts nodes: the cells of a half end with the half of its last
+// node, so no part of the slice says n, and the clause on its length stands where p is read.
 pub fn root_falls(p: &[u32], n: usize, k: usize) -> usize
     requires { (0 < n) × (node_cells * n ≤ length p.now + 4) }
     ensures value { k < n → scalar_at p.now 0 < none → result ≡ first (scalar_at p.now) 1 k }

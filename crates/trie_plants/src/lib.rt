@@ -8,13 +8,14 @@ ghost use Rattle.trie_plants.specs.Halves.{half_at};
 use trie_pool::HALF;
 
 // Whose words a call reads and changes.
-#[derive(Clone, Copy)]
+#[derive(Clone, Copy, Debug, PartialEq, Eq)]
 pub enum Plant {
     A,
     B,
 }
 
 // Where the half of a plant starts in each node.
+// Kept: (7) it chooses a number, and no step.
 pub fn half_at(plant: Plant) -> usize
     ensures { result ≡ half_at plant }
 {

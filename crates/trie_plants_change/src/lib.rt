@@ -53,6 +53,8 @@ fn free_nodes(half: &[u32]) -> usize
     half[MARK] as usize - half[IN_USE] as usize
 }
 
+// Kept: (2) here and below: the plain call counts free nodes by capacity and a plant by its limit,
+// and only the search and the change of the cells are the same, which both call.
 // Adds the trimmed word to the plant's words with its class, or gives a word that it holds this
 // class; 1 if its words or their classes changed, else 0.
 pub fn add_in(pool: &mut [u32], plant: Plant, word: &[u32], class: u16) -> Result<usize, Refusal>

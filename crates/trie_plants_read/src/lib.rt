@@ -15,6 +15,8 @@ use trie_pool::NODE;
 use trie_search::{count_words, mark_of, prefix_count, prefix_lengths};
 
 // The class of the word if the plant holds it. The word is taken as it is.
+// Kept: (2) here and below: the plain call differs in its check and in the cells that it reads, and a
+// trait for the two would need more members and laws than the five short calls have lines.
 pub fn contain_in(pool: &[u32], plant: Plant, word: &[u32]) -> Result<Option<u16>, Refusal>
     ensures { result ≡ plant_contains_answer plant word.now pool.now }
 {

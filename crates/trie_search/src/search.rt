@@ -18,6 +18,8 @@ pub fn ends_word(p: &[u32], i: usize) -> bool
 }
 
 // The word's mark: its class and one if it is held, else 0.
+// Kept: (1) the cell as it stands, which an addition compares with the one that it would store.
+// Kept: (5) `Readable` names a number of nodes, which a ghost field would have to hide.
 pub fn mark_of(p: &[u32], w: &[u32]) -> u32
     requires { Readable p.now 0 }
     ensures { term result ≡ term_at p.now w.now }

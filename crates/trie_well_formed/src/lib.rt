@@ -16,6 +16,7 @@ use trie_nodes::nodes_ok;
 use trie_pool::{COUNT, FIRST, IN_USE, MARK, MAX_NODES, MAX_WORD, NODE};
 
 // Whether none of the nodes from 1 to k has a trimmed scalar.
+// Kept: (6) here and below k and n count nodes or cells before those that are looked at.
 pub fn starts_ok(p: &[u32], k: usize) -> bool
     requires { node_cells * k < length p.now }
     ensures { Decides result ((i : ℕ) → 0 < i → i ≤ k → is_trimmed (scalar_at p.now i) ≡ false) }
