@@ -74,6 +74,8 @@ pub fn is_plants(pool: &[u32]) -> bool
 }
 
 // Refusals 2, 3 and 4, accepted with the text's length.
+// Kept: (2) this and the next differ from the plain checks in the rules that the pool is held to, and
+// share the rest by calling it: check_text and trim.
 pub fn check_plant(pool: &[u32], plant: Plant, text: &[u32]) -> Result<usize, Refusal>
     ensures { result ≡
         answer (read_causes text.now (plant_meaning plant pool.now))

@@ -32,7 +32,12 @@ pub fn contain_in(pool: &[u32], plant: Plant, word: &[u32]) -> Result<Option<u16
 
 // The lengths of the plant's words that the text starts with, rising, at the front of out; accepted
 // with their number.
-pub fn prefix_lengths_in(pool: &[u32], plant: Plant, text: &[u32], out: &mut [u32]) -> Result<usize, Refusal>
+pub fn prefix_lengths_in(
+    pool: &[u32],
+    plant: Plant,
+    text: &[u32],
+    out: &mut [u32],
+) -> Result<usize, Refusal>
     ensures value { result ≡ plant_prefixes_answer plant text.now pool.now out.old }
     ensures out_after { out.new ≡
         output result (plant_prefixes plant text.now pool.now) out.old }
