@@ -4,7 +4,7 @@ ghost use Rattle.tcc_rules.specs.Rules.{is, consonant, d_or_i};
 ghost use Rattle.tcc_rules.specs.Clusters.{cluster_end};
 ghost use Rattle.tcc_rules.specs.inner.Optional.{exact, some, Begins};
 
-use crate::group::{group_k, skip_final_vowel, skip_open_vowel, skip_tone};
+use crate::group::{FinalVowel, OpenVowel, Tone, group_k, skip};
 use crate::letters::{
     MAITAIKHU, RO_RUA, SPACE, THANTHAKHAT, at, is_closed, is_consonant, is_d_or_i, is_tone,
     is_vowel,
@@ -22,7 +22,7 @@ pub fn from_consonant(text: &[u32], p: usize) -> usize
         return group_k(text, p + 1);
     }
     if is_tone(x) {
-        return group_k(text, skip_open_vowel(text, p + 2));
+        return group_k(text, skip::<OpenVowel>(text, p + 2));
     }
     if is_closed(x) {
         return from_closed(text, p);
@@ -31,7 +31,7 @@ pub fn from_consonant(text: &[u32], p: usize) -> usize
         return from_d_or_i(text, p);
     }
     if is_vowel(x) {
-        return group_k(text, skip_tone(text, p + 2));
+        return group_k(text, skip::<Tone>(text, p + 2));
     }
     if x == MAITAIKHU {
         return p + 2;
@@ -44,9 +44,9 @@ fn from_closed(text: &[u32], p: usize) -> usize
     requires { Begins (some consonant ∷ some (is 0xE31 ++ is 0xE37) ∷ []) text.now p }
     ensures { result ≡ cluster_end text.now p }
 {
-    let q = skip_tone(text, p + 2);
+    let q = skip::<Tone>(text, p + 2);
     if is_consonant(at(text, q)) {
-        return group_k(text, skip_final_vowel(text, q + 1));
+        return group_k(text, skip::<FinalVowel>(text, q + 1));
     }
     q
 }
@@ -59,7 +59,7 @@ fn from_d_or_i(text: &[u32], p: usize) -> usize
     if at(text, p + 2) == THANTHAKHAT {
         return group_k(text, p + 3);
     }
-    group_k(text, skip_tone(text, p + 2))
+    group_k(text, skip::<Tone>(text, p + 2))
 }
 
 // cร

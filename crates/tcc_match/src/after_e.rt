@@ -4,7 +4,7 @@ ghost use Rattle.tcc_rules.specs.Rules.{consonant, tone};
 ghost use Rattle.tcc_rules.specs.Clusters.{cluster_end};
 ghost use Rattle.tcc_rules.specs.inner.Optional.{exact, some, Begins};
 
-use crate::group::{group_k, shorter_k, skip_sara_a, skip_sara_aa, skip_tone};
+use crate::group::{SaraA, SaraAa, Tone, group_k, shorter_k, skip};
 use crate::letters::{
     MAITAIKHU, O_ANG, SARA_A, SARA_AA, SARA_I, SARA_II, SARA_UEE, THANTHAKHAT, YO_YAK, at,
     is_consonant, is_tone,
@@ -22,7 +22,7 @@ pub fn from_e(text: &[u32], p: usize) -> usize
         return from_e_two(text, p);
     }
     if is_tone(x) {
-        return group_k(text, skip_sara_a(text, skip_sara_aa(text, p + 3)));
+        return group_k(text, skip::<SaraA>(text, skip::<SaraAa>(text, p + 3)));
     }
     if x == SARA_I {
         return from_e_i(text, p);
@@ -34,7 +34,7 @@ pub fn from_e(text: &[u32], p: usize) -> usize
         return from_e_uee(text, p);
     }
     if x == SARA_AA {
-        return group_k(text, skip_sara_a(text, p + 3));
+        return group_k(text, skip::<SaraA>(text, p + 3));
     }
     if x == MAITAIKHU {
         return from_e_short(text, p);
@@ -102,7 +102,7 @@ fn from_e_two_ii(text: &[u32], p: usize) -> usize
     requires { Begins (exact 0xE40 ∷ some consonant ∷ some consonant ∷ exact 0xE35 ∷ []) text.now p }
     ensures { result ≡ cluster_end text.now p }
 {
-    let q = skip_tone(text, p + 4);
+    let q = skip::<Tone>(text, p + 4);
     if at(text, q) != YO_YAK {
         return p + 2;
     }
@@ -156,7 +156,7 @@ fn from_e_ii(text: &[u32], p: usize) -> usize
     requires { Begins (exact 0xE40 ∷ some consonant ∷ exact 0xE35 ∷ []) text.now p }
     ensures { result ≡ cluster_end text.now p }
 {
-    let q = skip_tone(text, p + 3);
+    let q = skip::<Tone>(text, p + 3);
     if at(text, q) != YO_YAK {
         return p + 2;
     }
@@ -171,9 +171,9 @@ fn from_e_uee(text: &[u32], p: usize) -> usize
     requires { Begins (exact 0xE40 ∷ some consonant ∷ exact 0xE37 ∷ []) text.now p }
     ensures { result ≡ cluster_end text.now p }
 {
-    let q = skip_tone(text, p + 3);
+    let q = skip::<Tone>(text, p + 3);
     if at(text, q) != O_ANG {
         return p + 2;
     }
-    group_k(text, skip_sara_a(text, q + 1))
+    group_k(text, skip::<SaraA>(text, q + 1))
 }

@@ -4,7 +4,7 @@ ghost use Rattle.tcc_rules.specs.Rules.{up_to, consonant};
 ghost use Rattle.tcc_rules.specs.Clusters.{cluster_end};
 ghost use Rattle.tcc_rules.specs.inner.Optional.{exact, some, Begins};
 
-use crate::group::{skip_sara_a, skip_tone};
+use crate::group::{SaraA, Tone, skip};
 use crate::letters::{MAITAIKHU, THANTHAKHAT, at, is_consonant};
 
 pub fn from_ae(text: &[u32], p: usize) -> usize
@@ -21,7 +21,7 @@ pub fn from_ae(text: &[u32], p: usize) -> usize
     if x == MAITAIKHU {
         return from_ae_short(text, p);
     }
-    skip_sara_a(text, skip_tone(text, p + 2))
+    skip::<SaraA>(text, skip::<Tone>(text, p + 2))
 }
 
 // แc็
@@ -67,7 +67,7 @@ pub fn from_o(text: &[u32], p: usize) -> usize
     if !is_consonant(at(text, p + 1)) {
         return p + 1;
     }
-    skip_sara_a(text, skip_tone(text, p + 2))
+    skip::<SaraA>(text, skip::<Tone>(text, p + 2))
 }
 
 // ใ or ไ
@@ -78,5 +78,5 @@ pub fn from_ai(text: &[u32], p: usize) -> usize
     if !is_consonant(at(text, p + 1)) {
         return p + 1;
     }
-    skip_tone(text, p + 2)
+    skip::<Tone>(text, p + 2)
 }

@@ -1,74 +1,123 @@
 // Optional characters, and the group k.
-ghost use Rattle.std.specs.Prelude.{◌≡◌, true, ◌++◌};
+ghost use Rattle.std.specs.Prelude.{◌≡◌, true, false, ◌++◌, List, refl};
+ghost use Rattle.tcc_rules.specs.Patterns.{Range, holds};
 ghost use Rattle.tcc_rules.specs.Rules.{is, consonant, tone, d_or_i};
 ghost use Rattle.tcc_rules.specs.inner.Optional.{skipped, k_end, shorter};
 
 use crate::letters::{
-    SARA_A, SARA_AA, THANTHAKHAT, at, is_consonant, is_d_or_i, is_final_vowel, is_open_vowel,
-    is_tone,
+    SARA_A, SARA_AA, SARA_AM, SARA_I, SARA_U, THANTHAKHAT, at, is_consonant, is_d_or_i, is_tone,
 };
 
-pub fn skip_tone(text: &[u32], p: usize) -> usize
-    ensures { result ≡ skipped tone text.now p }
-{
-    if is_tone(at(text, p)) {
-        return p + 1;
-    }
-    p
+// A class of characters that may be skipped. 0, which is read past the end, is in none.
+pub trait Class {
+    ghost ranges: { List Range };
+
+    // What each class must prove.
+    ghost ends: { holds ranges 0 ≡ false };
+
+    fn has(x: u32) -> bool
+        ensures { result ≡ holds ranges x };
 }
 
-pub fn skip_sara_a(text: &[u32], p: usize) -> usize
-    ensures { result ≡ skipped (is 0xE30) text.now p }
-{
-    if at(text, p) == SARA_A {
-        return p + 1;
+#[derive(Clone, Copy)]
+pub struct Consonant;
+
+impl Class for Consonant {
+    ghost ranges = { consonant };
+
+    ghost ends = { refl };
+
+    fn has(x: u32) -> bool {
+        is_consonant(x)
     }
-    p
 }
 
-pub fn skip_sara_aa(text: &[u32], p: usize) -> usize
-    ensures { result ≡ skipped (is 0xE32) text.now p }
-{
-    if at(text, p) == SARA_AA {
-        return p + 1;
+#[derive(Clone, Copy)]
+pub struct Tone;
+
+impl Class for Tone {
+    ghost ranges = { tone };
+
+    ghost ends = { refl };
+
+    fn has(x: u32) -> bool {
+        is_tone(x)
     }
-    p
 }
 
-// Over one of [ุิะ].
-pub fn skip_final_vowel(text: &[u32], p: usize) -> usize
-    ensures { result ≡ skipped (is 0xE38 ++ is 0xE34 ++ is 0xE30) text.now p }
-{
-    if is_final_vowel(at(text, p)) {
-        return p + 1;
+// [ิุู]
+#[derive(Clone, Copy)]
+pub struct DOrI;
+
+impl Class for DOrI {
+    ghost ranges = { d_or_i };
+
+    ghost ends = { refl };
+
+    fn has(x: u32) -> bool {
+        is_d_or_i(x)
     }
-    p
 }
 
-// Over one of [ะาำ].
-pub fn skip_open_vowel(text: &[u32], p: usize) -> usize
-    ensures { result ≡ skipped (is 0xE30 ++ is 0xE32 ++ is 0xE33) text.now p }
-{
-    if is_open_vowel(at(text, p)) {
-        return p + 1;
+#[derive(Clone, Copy)]
+pub struct SaraA;
+
+impl Class for SaraA {
+    ghost ranges = { is 0xE30 };
+
+    ghost ends = { refl };
+
+    fn has(x: u32) -> bool {
+        x == SARA_A
     }
-    p
 }
 
-fn skip_consonant(text: &[u32], p: usize) -> usize
-    ensures { result ≡ skipped consonant text.now p }
-{
-    if is_consonant(at(text, p)) {
-        return p + 1;
+#[derive(Clone, Copy)]
+pub struct SaraAa;
+
+impl Class for SaraAa {
+    ghost ranges = { is 0xE32 };
+
+    ghost ends = { refl };
+
+    fn has(x: u32) -> bool {
+        x == SARA_AA
     }
-    p
 }
 
-// Over one of [ิุู].
-fn skip_d_or_i(text: &[u32], p: usize) -> usize
-    ensures { result ≡ skipped d_or_i text.now p }
+// [ุิะ]
+#[derive(Clone, Copy)]
+pub struct FinalVowel;
+
+impl Class for FinalVowel {
+    ghost ranges = { is 0xE38 ++ is 0xE34 ++ is 0xE30 };
+
+    ghost ends = { refl };
+
+    fn has(x: u32) -> bool {
+        matches!(x, SARA_U | SARA_I | SARA_A)
+    }
+}
+
+// [ะาำ]
+#[derive(Clone, Copy)]
+pub struct OpenVowel;
+
+impl Class for OpenVowel {
+    ghost ranges = { is 0xE30 ++ is 0xE32 ++ is 0xE33 };
+
+    ghost ends = { refl };
+
+    fn has(x: u32) -> bool {
+        matches!(x, SARA_A | SARA_AA | SARA_AM)
+    }
+}
+
+// Behind a character of the class at p, or p where there is none.
+pub fn skip<C: Class>(text: &[u32], p: usize) -> usize
+    ensures { result ≡ skipped C.ranges text.now p }
 {
-    if is_d_or_i(at(text, p)) {
+    if C::has(at(text, p)) {
         return p + 1;
     }
     p
@@ -78,22 +127,13 @@ fn skip_d_or_i(text: &[u32], p: usize) -> usize
 fn unmarked(text: &[u32], p: usize) -> bool
     ensures { result ≡ true → p ≡ k_end text.now p }
 {
-    if text.len() <= p {
+    if text.len() <= p || text.len() - p < 4 {
         return false;
     }
-    if text.len() - p < 4 {
+    if text[p + 1] == THANTHAKHAT || text[p + 2] == THANTHAKHAT {
         return false;
     }
-    if text[p + 1] == THANTHAKHAT {
-        return false;
-    }
-    if text[p + 2] == THANTHAKHAT {
-        return false;
-    }
-    if text[p + 3] == THANTHAKHAT {
-        return false;
-    }
-    true
+    text[p + 3] != THANTHAKHAT
 }
 
 // Where k ends that starts at p; p where there is none.
@@ -106,7 +146,7 @@ pub fn group_k(text: &[u32], p: usize) -> usize
     if !is_consonant(at(text, p)) {
         return p;
     }
-    let q = skip_d_or_i(text, skip_consonant(text, p + 1));
+    let q = skip::<DOrI>(text, skip::<Consonant>(text, p + 1));
     if at(text, q) == THANTHAKHAT {
         return q + 1;
     }

@@ -83,17 +83,3 @@ pub fn is_d_or_i(x: u32) -> bool
 {
     matches!(x, SARA_I | SARA_U..=0xE39)
 }
-
-// [ุิะ]
-pub fn is_final_vowel(x: u32) -> bool
-    ensures { result ≡ holds (is 0xE38 ++ is 0xE34 ++ is 0xE30) x }
-{
-    matches!(x, SARA_U | SARA_I | SARA_A)
-}
-
-// [ะาำ]
-pub fn is_open_vowel(x: u32) -> bool
-    ensures { result ≡ holds (is 0xE30 ++ is 0xE32 ++ is 0xE33) x }
-{
-    matches!(x, SARA_A | SARA_AA | SARA_AM)
-}

@@ -11,15 +11,15 @@ pub overflow_add-p : goal.overflow_add-p
 overflow_add-p c = omega (arith, c.requires.0)
 
 pub overflow_add-q : goal.overflow_add-q
-overflow_add-q c = omega (arith, c.requires.0, c.skip_tone-q.ensures, skip_near tone c.args.text.now (c.args.p + 2))
+overflow_add-q c = omega (arith, c.requires.0, c.skip-q.ensures, skip_near tone c.args.text.now (c.args.p + 2))
 
 pub returns-then-is_consonant : goal.returns-then-is_consonant
 returns-then-is_consonant c =
-    c.group_k.ensures ∙ closed_yes c.args.text.now c.args.p c.requires _ c.skip_tone-q.ensures
+    c.group_k.ensures ∙ closed_yes c.args.text.now c.args.p c.requires _ c.skip-q.ensures
     (seen consonant c.at.ensures c.is_consonant.ensures c.if-is_consonant.true)
-    c.skip_final_vowel.ensures
+    c.skip.ensures
 
 pub returns : goal.returns
 returns c =
-    closed_no c.args.text.now c.args.p c.requires _ c.skip_tone-q.ensures
+    closed_no c.args.text.now c.args.p c.requires _ c.skip-q.ensures
     (seen consonant c.at.ensures c.is_consonant.ensures c.if-is_consonant.false)

@@ -30,7 +30,7 @@ overflow_add-p-then-is_tone c = omega (arith, c.requires.0)
 pub returns-then-is_tone : goal.returns-then-is_tone
 returns-then-is_tone c =
     c.group_k-then-is_tone.ensures ∙ c_tone c.args.text.now c.args.p c.requires
-    (seen tone c.at-x.ensures c.is_tone.ensures c.if-is_tone.true) c.skip_open_vowel.ensures
+    (seen tone c.at-x.ensures c.is_tone.ensures c.if-is_tone.true) c.skip.ensures
 
 pub from_closed-requires : goal.from_closed-requires
 from_closed-requires c = (
@@ -65,7 +65,7 @@ returns-then-is_vowel c =
     (seen (up_to 0xE30 0xE39) c.at-x.ensures c.is_vowel.ensures c.if-is_vowel.true) (
       (seen (is 0xE31 ++ is 0xE37) c.at-x.ensures c.is_closed.ensures c.if-is_closed.false),
       ((seen d_or_i c.at-x.ensures c.is_d_or_i.ensures c.if-is_d_or_i.false), tt),
-    ) c.skip_tone.ensures
+    ) c.skip-then-is_vowel.ensures
 
 pub overflow_add-result : goal.overflow_add-result
 overflow_add-result c = omega (arith, c.requires.0)

@@ -21,4 +21,4 @@ overflow_add-p-2 c = omega (arith, c.requires.0)
 pub returns : goal.returns
 returns c =
     c.group_k-2.ensures ∙ d_none c.args.text.now c.args.p c.requires
-    (unlike 0xE4C c.at.ensures c.if-at-eq-THANTHAKHAT.false) c.skip_tone.ensures
+    (unlike 0xE4C c.at.ensures c.if-at-eq-THANTHAKHAT.false) c.skip.ensures

@@ -41,8 +41,8 @@ pub returns-then-is_tone : goal.returns-then-is_tone
 returns-then-is_tone c =
     c.group_k.ensures ∙ e_tone c.args.text.now c.args.p c.requires
     (seen consonant c.at.ensures c.is_consonant.ensures c.if-not-is_consonant.false)
-    (seen tone c.at-x.ensures c.is_tone.ensures c.if-is_tone.true) c.skip_sara_aa.ensures
-    c.skip_sara_a.ensures
+    (seen tone c.at-x.ensures c.is_tone.ensures c.if-is_tone.true) c.skip.ensures
+    c.skip-then-is_tone.ensures
 
 pub from_e_i-requires : goal.from_e_i-requires
 from_e_i-requires c = (
@@ -96,7 +96,7 @@ pub returns-then-x-eq-SARA_AA : goal.returns-then-x-eq-SARA_AA
 returns-then-x-eq-SARA_AA c =
     c.group_k-then-x-eq-SARA_AA.ensures ∙ e_aa c.args.text.now c.args.p c.requires
     (seen consonant c.at.ensures c.is_consonant.ensures c.if-not-is_consonant.false)
-    (sym c.at-x.ensures ∙ c.if-x-eq-SARA_AA.true) c.skip_sara_a-then-x-eq-SARA_AA.ensures
+    (sym c.at-x.ensures ∙ c.if-x-eq-SARA_AA.true) c.skip-then-x-eq-SARA_AA.ensures
 
 pub from_e_short-requires : goal.from_e_short-requires
 from_e_short-requires c = (

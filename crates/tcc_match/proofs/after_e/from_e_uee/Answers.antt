@@ -15,13 +15,13 @@ overflow_add-result c = omega (arith, c.requires.0)
 
 pub returns-then-at-ne-O_ANG : goal.returns-then-at-ne-O_ANG
 returns-then-at-ne-O_ANG c =
-    uee_no c.args.text.now c.args.p c.requires _ c.skip_tone-q.ensures
+    uee_no c.args.text.now c.args.p c.requires _ c.skip-q.ensures
     (unlike 0xE2D c.at.ensures c.if-at-ne-O_ANG.true)
 
 pub overflow_add-q : goal.overflow_add-q
-overflow_add-q c = omega (arith, c.requires.0, c.skip_tone-q.ensures, skip_near tone c.args.text.now (c.args.p + 3))
+overflow_add-q c = omega (arith, c.requires.0, c.skip-q.ensures, skip_near tone c.args.text.now (c.args.p + 3))
 
 pub returns : goal.returns
 returns c =
-    c.group_k.ensures ∙ uee_yes c.args.text.now c.args.p c.requires _ c.skip_tone-q.ensures
-    (sym c.at.ensures ∙ c.if-at-ne-O_ANG.false) c.skip_sara_a.ensures
+    c.group_k.ensures ∙ uee_yes c.args.text.now c.args.p c.requires _ c.skip-q.ensures
+    (sym c.at.ensures ∙ c.if-at-ne-O_ANG.false) c.skip.ensures

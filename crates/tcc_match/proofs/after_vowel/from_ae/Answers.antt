@@ -58,4 +58,4 @@ returns c =
     (seen consonant c.at.ensures c.is_consonant.ensures c.if-not-is_consonant.false) (
       (seen consonant c.at-x.ensures c.is_consonant-2.ensures c.if-is_consonant.false),
       ((unlike 0xE47 c.at-x.ensures c.if-x-eq-MAITAIKHU.false), tt),
-    ) c.skip_tone.ensures c.skip_sara_a.ensures
+    ) c.skip.ensures c.skip-2.ensures

@@ -22,4 +22,4 @@ pub returns : goal.returns
 returns c =
     ai_open c.args.text.now c.args.p c.requires
     (seen consonant c.at.ensures c.is_consonant.ensures c.if-not-is_consonant.false)
-    c.skip_tone.ensures
+    c.skip.ensures

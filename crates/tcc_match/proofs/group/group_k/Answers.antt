@@ -29,20 +29,20 @@ overflow_add-result c =
     let a = c.args in
     omega (
       arith,
-      class_there (is 0xE4C) a.text.now c.skip_d_or_i-q.result tt
+      class_there (is 0xE4C) a.text.now c.skip-q.result tt
           (is_yes _ 0xE4C (sym c.at-2.ensures ∙ c.if-at-eq-THANTHAKHAT.true)),
     )
 
 pub returns-then-at-eq-THANTHAKHAT : goal.returns-then-at-eq-THANTHAKHAT
 returns-then-at-eq-THANTHAKHAT c =
     let a = c.args in
-    k_mark a.text.now a.p (c.skip_d_or_i-q.ensures ∙ ap (skipped d_or_i a.text.now) c.skip_consonant.ensures)
+    k_mark a.text.now a.p (c.skip-q.ensures ∙ ap (skipped d_or_i a.text.now) c.skip.ensures)
     (seen consonant c.at.ensures c.is_consonant.ensures c.if-not-is_consonant.false)
     (sym c.at-2.ensures ∙ c.if-at-eq-THANTHAKHAT.true)
 
 pub returns : goal.returns
 returns c =
     let a = c.args in
-    k_no_mark a.text.now a.p (c.skip_d_or_i-q.ensures ∙ ap (skipped d_or_i a.text.now) c.skip_consonant.ensures)
+    k_no_mark a.text.now a.p (c.skip-q.ensures ∙ ap (skipped d_or_i a.text.now) c.skip.ensures)
     (seen consonant c.at.ensures c.is_consonant.ensures c.if-not-is_consonant.false)
     (unlike 0xE4C c.at-2.ensures c.if-at-eq-THANTHAKHAT.false)
