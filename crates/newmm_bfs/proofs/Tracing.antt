@@ -6,8 +6,7 @@ use mathlib.Core.Path.{◌≡◌, refl, sym, ◌∙◌, ap, subst}
 use mathlib.Core.List.{List, [], ◌∷◌, ◌++◌, append-nil, append_assoc}
 use lib.ListN.{length, get_or, set, take, drop, length-append, length-drop, take-append-drop}
 use lib.Seq.{append_snoc, take-suc, set_at, take_at, drop_at, length-take-le, get_or-append-add, get_or-drop, take-suc-set, drop-drop, get_or-set_other, drop-set-lt, take-take}
-use Rattle.newmm_rules.specs.Search.{path_to}
-use Rattle.newmm_bfs.specs.inner.Strips.{Sized, graph_in, before, Start, Kept, Path}
+use Rattle.newmm_bfs.specs.inner.Strips.{Sized, before, Start, Kept, Path}
 use Rattle.newmm_bfs.specs.inner.Ways.{Trace, home, step, Traced, TracedBy, Reaches}
 
 -- a way is no longer than its span, so it has come home where it has no vertex left

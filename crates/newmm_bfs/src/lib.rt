@@ -7,8 +7,6 @@ ghost use Rattle.std.specs.Prelude.{◌≡◌, ◌<◌, ◌≤◌, ◌+◌};
 ghost use Rattle.newmm_bfs.specs.inner.Strips.{Sized, tail_after, row_after, Start, Kept, Path};
 ghost use Rattle.newmm_bfs.specs.inner.Ways.{Traced, TracedBy, Reaches, LengthIs, PutIs};
 
-use cells::{narrow, wide};
-
 // The scratch for m positions is a row of strips, one behind the other, with m cells each; the last
 // has more. The ends stand at its front and the queue behind them, from m on; each strip below
 // stands behind so many others.
@@ -43,8 +41,8 @@ fn queue_up(row: &mut [u32], m: usize, tail: usize, v: usize, x: usize) -> usize
     if row[at] != 0 {
         return tail;
     }
-    row[at] = narrow(v + 1);
-    row[m + tail] = narrow(x);
+    row[at] = (v + 1) as u32;
+    row[m + tail] = x as u32;
     tail + 1
 }
 
@@ -57,18 +55,17 @@ fn search(row: &mut [u32], m: usize, start: usize, goal: usize) -> usize
 {
     let mut tail = queue_up(row, m, 0, start, start);
     let mut head = 0;
+    // Kept: (3) the queue grows while it is read, so an index is plainer than an iterator.
     loop {
-        let v = wide(row[m + head]);
-        let first = EDGE_ENDS * m + wide(row[FIRST_EDGES * m + v]);
-        let count = wide(row[EDGE_COUNTS * m + v]);
-        let mut j = 0;
-        while j < count {
-            let x = wide(row[first + j]);
+        let v = row[m + head] as usize;
+        let first = EDGE_ENDS * m + row[FIRST_EDGES * m + v] as usize;
+        let count = row[EDGE_COUNTS * m + v] as usize;
+        for j in 0..count {
+            let x = row[first + j] as usize;
             if x == goal {
                 return v;
             }
             tail = queue_up(row, m, tail, v, x);
-            j += 1;
         }
         head += 1;
     }
@@ -83,8 +80,9 @@ fn way_length(row: &[u32], m: usize, start: usize, v: usize) -> usize
 {
     let mut k = 0;
     let mut x = v;
+    // Kept: (3) each step goes to the cell that the last one named, so no iterator is plainer.
     while x != start {
-        x = wide(row[PREDECESSORS * m + x]) - 1;
+        x = row[PREDECESSORS * m + x] as usize - 1;
         k += 1;
     }
     k
@@ -97,12 +95,10 @@ fn put_way(row: &mut [u32], m: usize, v: usize, count: usize, k: usize)
     requires traced_by { TracedBy row.old m v k }
     ensures { PutIs row.old row.new m v count k }
 {
-    let mut i = count + k;
     let mut x = v;
-    while count < i {
-        i -= 1;
-        row[i] = narrow(x);
-        x = wide(row[PREDECESSORS * m + x]) - 1;
+    for i in (count..count + k).rev() {
+        row[i] = x as u32;
+        x = row[PREDECESSORS * m + x] as usize - 1;
     }
 }
 
@@ -116,6 +112,6 @@ pub fn bfs_paths_graph(row: &mut [u32], m: usize, start: usize, goal: usize, cou
     let v = search(row, m, start, goal);
     let k = way_length(row, m, start, v);
     put_way(row, m, v, count, k);
-    row[count + k] = narrow(goal);
+    row[count + k] = goal as u32;
     count + k + 1
 }

@@ -1,4 +1,5 @@
 use native.Mathlib.Omega.{arith}
+use mathlib.Core.Path.{refl}
 use mathlib.Core.Path.{◌∙◌}
 use lib.ListN.{length-set}
 use Rattle.newmm_bfs.proofs.Tracing.{asks_length, asks_put, index₂, path_is}
@@ -52,4 +53,4 @@ returns c =
     let r = c.search-v.ensures.reaches in
     let k = c.way_length-k.ensures _ r.trace in
     path_is c.requires.start.inside c.requires.start.sized c.search-v.auto.row c.search-v.ensures.kept r c.requires.count_le_start k
-    (c.put_way.ensures _ _ r.trace k) _ c.narrow.ensures
+    (c.put_way.ensures _ _ r.trace k) _ refl

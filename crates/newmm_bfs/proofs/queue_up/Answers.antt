@@ -1,4 +1,5 @@
 use native.Mathlib.Omega.{arith}
+use mathlib.Core.Path.{refl}
 use lib.ListN.{length-set}
 use Rattle.newmm_bfs.proofs.Strips.{up_old, up_new}
 use Rattle.newmm_bfs.proofs.queue_up.Goals as goal
@@ -12,4 +13,4 @@ bounds-row-m c = simp length-set (omega arith)
 pub returns : goal.returns
 returns c =
     let both = up_new c.args.row.now c.args.m c.args.tail c.args.v c.args.x _ _ c.if-row-at-ne0.false
-    c.narrow.ensures c.narrow-2.ensures in record { value = both.0; row_after = both.1 }
+    refl refl in record { value = both.0; row_after = both.1 }

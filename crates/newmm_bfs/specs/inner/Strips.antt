@@ -1,10 +1,9 @@
 -- The scratch for m positions is a row of strips, one behind the other: ends, queue, predecessors,
 -- first edges, numbers of edges, candidates and cluster ends with m cells each; then the ends of
 -- the edges, at most m + 50.
-use Rattle.std.specs.Prelude.{ℕ, suc, ◌+◌, ◌*◌, ◌-◌, ◌≤◌, ◌<◌, ◌≡◌, Bool, cond, length, get_or, set, take, drop, eqb}
-use mathlib.Core.List.{List, [], ◌∷◌, ◌++◌, Memᴰ}
+use Rattle.std.specs.Prelude.{ℕ, ◌+◌, ◌*◌, ◌-◌, ◌≤◌, ◌<◌, ◌≡◌, Bool, cond, length, get_or, set, take, drop, eqb}
+use mathlib.Core.List.{List, ◌++◌, Memᴰ}
 use Rattle.newmm_rules.specs.Limits.{max_graph_size}
-use Rattle.newmm_rules.specs.Positions.{how_many}
 use Rattle.newmm_rules.specs.Search.{Graph, path_to}
 
 -- ---- the map: where a cell of each strip stands, from the queue on

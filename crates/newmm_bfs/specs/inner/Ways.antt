@@ -1,5 +1,5 @@
 -- Ways in the strips, by predecessors.
-use Rattle.std.specs.Prelude.{ℕ, suc, ◌+◌, ◌*◌, ◌-◌, ◌≤◌, ◌<◌, ◌≡◌, List, [], ◌∷◌, ◌++◌, length, take, drop}
+use Rattle.std.specs.Prelude.{ℕ, ◌+◌, ◌<◌, ◌≡◌, List, [], ◌∷◌, ◌++◌, length, take, drop}
 use Rattle.newmm_rules.specs.Search.{path_to}
 use Rattle.newmm_bfs.specs.inner.Strips.{graph_in, before}
 
