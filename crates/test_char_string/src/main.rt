@@ -8,11 +8,10 @@
 mod places;
 mod views;
 
-use refusal::Refusal;
-use test_lines::{
-    behind, field, is, lent, number, part_at, print, print_cells, print_number, print_refusal,
-    read_cells, read_input,
-};
+ghost use Rattle.std.specs.Prelude.{◌≤◌, length};
+
+use std::{fmt, io};
+use test_lines::{Answers, Cells, Refused, field, lent, number, read_cells, replay};
 
 const INPUT: usize = 524288;
 
@@ -20,226 +19,158 @@ const BYTES: usize = 300000;
 
 const CELLS: usize = 65540;
 
-fn main(rt: HostRuntime) {
-    let mut input = [0u8; INPUT];
-    let mut bytes = [0u8; BYTES];
-    let mut cells = [0u32; CELLS];
-    let mut positions = [0u32; CELLS];
-    let n = read_input(&rt, &mut rt.stdin(), &mut input);
-    replay(&rt, &input[..n], &mut bytes, &mut cells, &mut positions);
+fn main(rt: HostRuntime) -> io::Result<()> {
+    let mut input = vec![in rt.alloc(); 0u8; INPUT]?;
+    let mut rows = Rows {
+        bytes: vec![in rt.alloc(); 0u8; BYTES]?,
+        cells: vec![in rt.alloc(); 0u32; CELLS]?,
+        positions: vec![in rt.alloc(); 0u32; CELLS]?,
+    };
+    replay(&rt, &mut rt.stdin(), &mut input, &mut rows)
 }
 
-fn replay(
-    rt: &impl Print,
-    input: &[u8],
-    bytes: &mut [u8],
-    cells: &mut [u32],
-    positions: &mut [u32],
-) {
-    let mut at = 0;
-    while at < input.len() {
-        answer(rt, part_at(input, at, b'\n'), bytes, cells, positions);
-        print(rt, b"\n");
-        at = behind(input, at, b'\n');
+#[derive(Drop)]
+struct Rows {
+    bytes: Vec<u8>,
+    cells: Vec<u32>,
+    positions: Vec<u32>,
+}
+
+impl Answers for Rows {
+    fn answer(&mut self, rt: &impl Print, line: &[u8]) -> io::Result<()> {
+        match field(line, 0) {
+            b"decode" => self.decode(rt, line),
+            b"endbytes" => self.ends_in_bytes(rt, line),
+            b"end_in_bytes" => self.end_in_row(rt, line),
+            b"trim" => self.trim(rt, line),
+            b"rspace" => self.rspace(rt, line),
+            b"scalars" => self.scalars(rt, line),
+            b"text" => self.text(rt, line),
+            b"part" => self.part(rt, line),
+            b"view" => self.view(rt, line),
+            b"view_part" => self.view_part(rt, line),
+            b"sub_view" => self.sub_view(rt, line),
+            b"word" => self.word(rt, line),
+            _ => print!(rt; "?"),
+        }
     }
 }
 
-fn answer(
+// A number, or a word where there is none.
+#[derive(Clone, Copy)]
+struct Or(Option<usize>, &'static str);
+
+impl fmt::Display for Or {
+    fn fmt<W: fmt::Write>(&self, f: &mut fmt::Formatter<W>) -> fmt::Result {
+        match self.0 {
+            Some(n) => write!(f, "{n}"),
+            None => write!(f, "{}", self.1),
+        }
+    }
+}
+
+impl Rows {
+    // trim scalars => ok start end
+    fn trim(&mut self, rt: &impl Print, line: &[u8]) -> io::Result<()> {
+        let n = read_cells(rt, field(line, 1), &mut self.cells);
+        let s = char_string_trim::trim(&self.cells[..n]);
+        print!(rt; "ok {} {}", s.start, s.end)
+    }
+
+    // rspace scalars => ok index, or ok none
+    fn rspace(&mut self, rt: &impl Print, line: &[u8]) -> io::Result<()> {
+        let n = read_cells(rt, field(line, 1), &mut self.cells);
+        let space = char_string_last_space::rfind_space_char_index(&self.cells[..n]);
+        print!(rt; "ok {}", Or(space, "none"))
+    }
+
+    // scalars cells => ok index of the first cell that is no scalar value, or ok none
+    fn scalars(&mut self, rt: &impl Print, line: &[u8]) -> io::Result<()> {
+        let n = read_cells(rt, field(line, 1), &mut self.cells);
+        let bad = char_string_scalars::first_non_scalar(&self.cells[..n]);
+        print!(rt; "ok {}", Or(Some(bad).filter(|k| *k < n), "none"))
+    }
+
+    // text cells => ok n
+    fn text(&mut self, rt: &impl Print, line: &[u8]) -> io::Result<()> {
+        let n = read_cells(rt, field(line, 1), &mut self.cells);
+        match char_string_scalars::check_text(&self.cells[..n]) {
+            Ok(count) => print!(rt; "ok {count}"),
+            Err(r) => print!(rt; "{}", Refused(r)),
+        }
+    }
+
+    // word scalars => ok the trimmed scalars
+    fn word(&mut self, rt: &impl Print, line: &[u8]) -> io::Result<()> {
+        let n = read_cells(rt, field(line, 1), &mut self.cells);
+        print!(rt; "ok {}", Cells(char_string_trim::trimmed(&self.cells[..n])))
+    }
+
+    // view n, start, end, index, from, to => ok length, character at index or none, start and end of
+    //   the sub-view
+    fn view(&mut self, rt: &impl Print, line: &[u8]) -> io::Result<()> {
+        count_up(&mut self.cells);
+        let n = lent(rt, field(line, 1), self.cells.len());
+        let start = number(rt, field(line, 2));
+        let end = number(rt, field(line, 3));
+        tell_view(rt, line, &self.cells[..n], start, end)
+    }
+
+    // part n, start, end => ok right(0/1) start length
+    fn part(&mut self, rt: &impl Print, line: &[u8]) -> io::Result<()> {
+        count_up(&mut self.cells);
+        let n = lent(rt, field(line, 1), self.cells.len());
+        let start = number(rt, field(line, 2));
+        let end = number(rt, field(line, 3));
+        let text = &self.cells[..n];
+        tell_part(
+            rt,
+            text,
+            start,
+            end,
+            char_string::substring(text, start, end),
+        )
+    }
+}
+
+fn tell_view(
     rt: &impl Print,
     line: &[u8],
-    bytes: &mut [u8],
-    cells: &mut [u32],
-    positions: &mut [u32],
-) {
-    let op = field(line, 0);
-    if is(op, b"decode") {
-        places::decode(rt, line, bytes, cells, positions);
-        return;
-    }
-    if is(op, b"endbytes") {
-        places::ends_in_bytes(rt, line, bytes, cells, positions);
-        return;
-    }
-    if is(op, b"end_in_bytes") {
-        places::end_in_row(rt, line, positions);
-        return;
-    }
-    if is(op, b"trim") {
-        trim(rt, line, cells);
-        return;
-    }
-    if is(op, b"rspace") {
-        rspace(rt, line, cells);
-        return;
-    }
-    if is(op, b"scalars") {
-        scalars(rt, line, cells);
-        return;
-    }
-    if is(op, b"text") {
-        text(rt, line, cells);
-        return;
-    }
-    if is(op, b"part") {
-        part(rt, line, cells);
-        return;
-    }
-    if is(op, b"view") {
-        view(rt, line, cells);
-        return;
-    }
-    if is(op, b"view_part") {
-        views::view_part(rt, line, cells);
-        return;
-    }
-    if is(op, b"sub_view") {
-        views::sub_view(rt, line, cells);
-        return;
-    }
-    if is(op, b"word") {
-        word(rt, line, cells);
-        return;
-    }
-    print(rt, b"?");
+    text: &[u32],
+    start: usize,
+    end: usize,
+) -> io::Result<()> {
+    print!(rt; "ok {} ", char_string::chars_len(text, start, end))?;
+    let index = number(rt, field(line, 4));
+    let found = char_string::get_char_at(text, start, end, index);
+    print!(rt; "{} ", shown(found))?;
+    let from = number(rt, field(line, 5));
+    let to = number(rt, field(line, 6));
+    let s = char_string::sub_view(text, start, end, from, to);
+    print!(rt; "{} {}", s.start, s.end)
 }
 
-// trim scalars => ok start end
-fn trim(rt: &impl Print, line: &[u8], cells: &mut [u32]) {
-    let n = read_cells(rt, field(line, 1), cells);
-    let s = char_string_trim::trim(&cells[..n]);
-    print(rt, b"ok ");
-    print_number(rt, s.start);
-    print(rt, b" ");
-    print_number(rt, s.end);
+fn tell_part(
+    rt: &impl Print,
+    text: &[u32],
+    start: usize,
+    end: usize,
+    part: &[u32],
+) -> io::Result<()> {
+    let right = char_string::is_substring(text, start, end);
+    let empty = if right { start } else { 0 };
+    let at = part.first().map_or(empty, |x| *x as usize);
+    print!(rt; "ok {} {at} {}", u8::from(right), part.len())
 }
 
-// rspace scalars => ok index, or ok none
-fn rspace(rt: &impl Print, line: &[u8], cells: &mut [u32]) {
-    let n = read_cells(rt, field(line, 1), cells);
-    print(rt, b"ok ");
-    match char_string_last_space::rfind_space_char_index(&cells[..n]) {
-        Some(i) => print_number(rt, i),
-        None => print(rt, b"none"),
-    }
-}
-
-// scalars cells => ok index of the first cell that is no scalar value, or ok none
-fn scalars(rt: &impl Print, line: &[u8], cells: &mut [u32]) {
-    let n = read_cells(rt, field(line, 1), cells);
-    let bad = char_string_scalars::first_non_scalar(&cells[..n]);
-    print(rt, b"ok ");
-    if bad < n {
-        print_number(rt, bad);
-    } else {
-        print(rt, b"none");
-    }
-}
-
-// text cells => ok n
-fn text(rt: &impl Print, line: &[u8], cells: &mut [u32]) {
-    let n = read_cells(rt, field(line, 1), cells);
-    match char_string_scalars::check_text(&cells[..n]) {
-        Ok(count) => {
-            print(rt, b"ok ");
-            print_number(rt, count);
-        }
-        Err(r) => print_refusal(rt, r),
-    }
-}
-
-// word scalars => ok the trimmed scalars
-fn word(rt: &impl Print, line: &[u8], cells: &mut [u32]) {
-    let n = read_cells(rt, field(line, 1), cells);
-    print(rt, b"ok ");
-    print_cells(rt, char_string_trim::trimmed(&cells[..n]));
-}
-
-// view n, start, end, index, from, to => ok length, character at index or none, start and end of
-//   the sub-view
-fn view(rt: &impl Print, line: &[u8], cells: &mut [u32]) {
-    count_up(cells);
-    let n = lent(rt, field(line, 1), cells.len());
-    let start = number(rt, field(line, 2));
-    let end = number(rt, field(line, 3));
-    print_view(rt, line, &cells[0..n], start, end);
-}
-
-fn print_view(rt: &impl Print, line: &[u8], text: &[u32], start: usize, end: usize) {
-    print(rt, b"ok ");
-    print_number(rt, char_string::chars_len(text, start, end));
-    print(rt, b" ");
-    print_char(
-        rt,
-        char_string::get_char_at(text, start, end, number(rt, field(line, 4))),
-    );
-    print(rt, b" ");
-    let s = char_string::sub_view(
-        text,
-        start,
-        end,
-        number(rt, field(line, 5)),
-        number(rt, field(line, 6)),
-    );
-    print_number(rt, s.start);
-    print(rt, b" ");
-    print_number(rt, s.end);
-}
-
-// part n, start, end => ok right(0/1) start length
-fn part(rt: &impl Print, line: &[u8], cells: &mut [u32]) {
-    count_up(cells);
-    let n = lent(rt, field(line, 1), cells.len());
-    let start = number(rt, field(line, 2));
-    let end = number(rt, field(line, 3));
-    let text = &cells[0..n];
-    print_part(
-        rt,
-        text,
-        start,
-        end,
-        char_string::substring(text, start, end),
-    );
-}
-
-fn print_part(rt: &impl Print, text: &[u32], start: usize, end: usize, part: &[u32]) {
-    print(rt, b"ok ");
-    if char_string::is_substring(text, start, end) {
-        print(rt, b"1 ");
-        print_start(rt, part, start);
-    } else {
-        print(rt, b"0 ");
-        print_start(rt, part, 0);
-    }
-    print(rt, b" ");
-    print_number(rt, part.len());
-}
-
-fn print_char(rt: &impl Print, c: Option<u32>) {
-    match c {
-        Some(x) => print_number(rt, wide(x)),
-        None => print(rt, b"none"),
-    }
+// A character as its number.
+fn shown(c: Option<u32>) -> Or {
+    Or(c.map(|x| x as usize), "none")
 }
 
 // Each cell is its own index, so that a part's first cell tells where the part starts.
 fn count_up(cells: &mut [u32]) {
-    let mut i = 0;
-    let mut x = 0;
-    while i < cells.len() {
-        cells[i] = x;
-        x = std::num::wrapping_add_u32(x, 1);
-        i += 1;
+    for (i, cell) in cells.iter_mut().enumerate() {
+        *cell = (i & 0xFFFF_FFFF) as u32;
     }
-}
-
-fn print_start(rt: &impl Print, part: &[u32], empty: usize) {
-    if part.len() == 0 {
-        print_number(rt, empty);
-    } else {
-        print_number(rt, wide(part[0]));
-    }
-}
-
-fn wide(x: u32) -> usize {
-    x as usize
 }

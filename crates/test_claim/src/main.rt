@@ -5,10 +5,11 @@
 // say, a `?` is written.
 #![tactic(auto)]
 
+ghost use Rattle.std.specs.Prelude.{◌≤◌, length};
+
 use newmm_claim::{Verdict, check_claim};
-use test_lines::{
-    behind, field, first, is, part_at, print, print_number, print_refusal, read_cells, read_input,
-};
+use std::io;
+use test_lines::{Answers, Refused, field, first, read_cells, replay};
 use test_rows::{expect_leftovers, expect_zero, scratch_cells, smear};
 use test_words::hold;
 
@@ -22,99 +23,66 @@ const TEXT: usize = 70000;
 
 const SCRATCH: usize = 589952;
 
-fn main(rt: HostRuntime) {
-    let mut input = [0u8; INPUT];
-    let mut pool = [0u32; POOL];
-    let mut text = [0u32; TEXT];
-    let mut claimed = [0u32; TEXT];
-    let mut scratch = [0u32; SCRATCH];
-    let n = read_input(&rt, &mut rt.stdin(), &mut input);
-    replay(
-        &rt,
-        &input[..n],
-        &mut pool,
-        &mut text,
-        &mut claimed,
-        &mut scratch,
-    );
+fn main(rt: HostRuntime) -> io::Result<()> {
+    let mut input = vec![in rt.alloc(); 0u8; INPUT]?;
+    let mut rows = Rows {
+        pool: vec![in rt.alloc(); 0u32; POOL]?,
+        text: vec![in rt.alloc(); 0u32; TEXT]?,
+        claimed: vec![in rt.alloc(); 0u32; TEXT]?,
+        scratch: vec![in rt.alloc(); 0u32; SCRATCH]?,
+    };
+    replay(&rt, &mut rt.stdin(), &mut input, &mut rows)
 }
 
-fn replay(
-    rt: &impl Print,
-    input: &[u8],
-    pool: &mut [u32],
-    text: &mut [u32],
-    claimed: &mut [u32],
-    scratch: &mut [u32],
-) {
-    let mut at = 0;
-    while at < input.len() {
-        answer(rt, part_at(input, at, b'\n'), pool, text, claimed, scratch);
-        print(rt, b"\n");
-        at = behind(input, at, b'\n');
+#[derive(Drop)]
+struct Rows {
+    pool: Vec<u32>,
+    text: Vec<u32>,
+    claimed: Vec<u32>,
+    scratch: Vec<u32>,
+}
+
+impl Answers for Rows {
+    // claim words, scalars, claimed ends as cells, scratch cells => ok yes, or ok token
+    // claim_pool the pool's cells, scalars, claimed ends as cells, scratch cells => the same
+    fn answer(&mut self, rt: &impl Print, line: &[u8]) -> io::Result<()> {
+        let cells = match field(line, 0) {
+            b"claim" => hold(rt, field(line, 1), &mut self.text, &mut self.pool),
+            b"claim_pool" => read_cells(rt, field(line, 1), &mut self.pool),
+            _ => return print!(rt; "?"),
+        };
+        let n = read_cells(rt, field(line, 2), &mut self.text);
+        let ends = read_cells(rt, field(line, 3), &mut self.claimed);
+        let room = scratch_cells(rt, field(line, 4), n, self.scratch.len());
+        tell_claim(
+            rt,
+            &self.text[..n],
+            first(&self.pool, cells),
+            &self.claimed[..ends],
+            &mut self.scratch[..room],
+        )
     }
 }
 
-fn answer(
+fn tell_claim(
     rt: &impl Print,
-    line: &[u8],
-    pool: &mut [u32],
-    text: &mut [u32],
-    claimed: &mut [u32],
-    scratch: &mut [u32],
-) {
-    let op = field(line, 0);
-    if is(op, b"claim") {
-        let cells = hold(rt, field(line, 1), text, pool);
-        lend(rt, line, first(pool, cells), text, claimed, scratch);
-        return;
-    }
-    if is(op, b"claim_pool") {
-        let cells = read_cells(rt, field(line, 1), pool);
-        lend(rt, line, first(pool, cells), text, claimed, scratch);
-        return;
-    }
-    print(rt, b"?");
-}
-
-// claim words, scalars, claimed ends as cells, scratch cells => ok yes, or ok token
-// claim_pool the pool's cells, scalars, claimed ends as cells, scratch cells => the same
-fn lend(
-    rt: &impl Print,
-    line: &[u8],
+    text: &[u32],
     pool: &[u32],
-    text: &mut [u32],
-    claimed: &mut [u32],
+    claimed: &[u32],
     scratch: &mut [u32],
-) {
-    let n = read_cells(rt, field(line, 2), text);
-    let ends = read_cells(rt, field(line, 3), claimed);
-    let cells = scratch_cells(rt, field(line, 4), n, scratch.len());
-    call(
-        rt,
-        first(text, n),
-        pool,
-        first(claimed, ends),
-        &mut scratch[0..cells],
-    );
-}
-
-fn call(rt: &impl Print, text: &[u32], pool: &[u32], claimed: &[u32], scratch: &mut [u32]) {
+) -> io::Result<()> {
     smear(scratch);
-    let answer = check_claim(text, pool, claimed, scratch);
-    match answer {
-        Ok(Verdict::Right) => {
+    match check_claim(text, pool, claimed, scratch) {
+        Ok(verdict) => {
             expect_zero(rt, scratch);
-            print(rt, b"ok yes");
-        }
-        Ok(Verdict::Wrong(k)) => {
-            expect_zero(rt, scratch);
-            print(rt, b"ok ");
-            print_number(rt, k);
+            match verdict {
+                Verdict::Right => print!(rt; "ok yes"),
+                Verdict::Wrong(k) => print!(rt; "ok {k}"),
+            }
         }
         Err(r) => {
             expect_leftovers(rt, scratch, 0);
-            print_refusal(rt, r);
+            print!(rt; "{}", Refused(r))
         }
     }
 }

@@ -8,12 +8,13 @@ ghost use Rattle.std.specs.Prelude.{◌≤◌, length};
 
 use newmm::cut;
 use newmm_rules::{Ends, Mode};
+use refusal::Refusal;
+use std::io;
 use std::io::Read;
 use test_lines::{
-    behind, field, first, is, lent, part_at, print, print_number, print_numbers, print_refusal,
-    read_cells, read_full,
+    Answers, Joined, Refused, field, first, lent, read_cells, read_full, replay_lines,
 };
-use test_rows::{Named, expect_leftovers, expect_zero, mode_of, scratch_cells, smear};
+use test_rows::{expect_leftovers, expect_zero, mode_of, scratch_cells, smear};
 use test_words::hold;
 
 // The input is read by so many bytes. A line has fewer.
@@ -27,171 +28,109 @@ const TEXT: usize = 70000;
 
 const SCRATCH: usize = 589952;
 
-fn main(rt: HostRuntime) {
-    let mut input = [0u8; INPUT];
-    let mut pool = [0u32; POOL];
-    let mut text = [0u32; TEXT];
-    let mut out = [0u32; TEXT];
-    let mut scratch = [0u32; SCRATCH];
-    replay_all(
-        &rt,
-        &mut rt.stdin(),
-        &mut input,
-        &mut pool,
-        &mut text,
-        &mut out,
-        &mut scratch,
-    );
+fn main(rt: HostRuntime) -> io::Result<()> {
+    let mut input = vec![in rt.alloc(); 0u8; INPUT]?;
+    let mut rows = Rows {
+        pool: vec![in rt.alloc(); 0u32; POOL]?,
+        text: vec![in rt.alloc(); 0u32; TEXT]?,
+        out: vec![in rt.alloc(); 0u32; TEXT]?,
+        scratch: vec![in rt.alloc(); 0u32; SCRATCH]?,
+    };
+    replay_all(&rt, &mut rt.stdin(), &mut input, &mut rows)
 }
 
 // Replays a source, as many whole lines at once as the row holds. A proved loop has to end: this
 // one has more turns than any run uses up.
-fn replay_all<R: Read>(
+fn replay_all<R: Read, A: Answers>(
     rt: &impl Print,
     source: &mut R,
     input: &mut [u8],
-    pool: &mut [u32],
-    text: &mut [u32],
-    out: &mut [u32],
-    scratch: &mut [u32],
-) {
+    answers: &mut A,
+) -> io::Result<()> {
     let mut kept = 0;
-    let mut turns = u64::MAX;
-    while turns > 0 {
+    for _turn in 0..u64::MAX {
         let n = kept + read_full(source, &mut input[kept..]);
         if n < input.len() {
-            replay(rt, &input[..n], pool, text, out, scratch);
-            return;
+            return replay_lines(rt, &input[..n], answers);
         }
         let end = whole_lines(input);
-        replay(rt, &input[..end], pool, text, out, scratch);
+        replay_lines(rt, &input[..end], answers)?;
         if end == 0 {
-            print(rt, b"?");
-            return;
+            return print!(rt; "?");
         }
-        to_front(input, end);
+        input.rotate_left(end);
         kept = input.len() - end;
-        turns -= 1;
     }
+    Ok(())
 }
 
 // Where the last whole line of a text ends; 0 where there is none.
 fn whole_lines(text: &[u8]) -> usize
     ensures { result ≤ length text.now }
 {
-    let mut end = text.len();
-    while end > 0 {
-        if text[end - 1] == b'\n' {
-            return end;
-        }
-        end -= 1;
-    }
-    0
-}
-
-// Moves what stands from `start` on to the front.
-fn to_front(row: &mut [u8], start: usize) {
-    let mut k = start;
-    while k < row.len() {
-        row[k - start] = row[k];
-        k += 1;
+    match text.iter().rposition(|b| *b == b'\n') {
+        Some(k) => k + 1,
+        None => 0,
     }
 }
 
-fn replay(
-    rt: &impl Print,
-    input: &[u8],
-    pool: &mut [u32],
-    text: &mut [u32],
-    out: &mut [u32],
-    scratch: &mut [u32],
-) {
-    let mut at = 0;
-    while at < input.len() {
-        answer(rt, part_at(input, at, b'\n'), pool, text, out, scratch);
-        print(rt, b"\n");
-        at = behind(input, at, b'\n');
-    }
+#[derive(Drop)]
+struct Rows {
+    pool: Vec<u32>,
+    text: Vec<u32>,
+    out: Vec<u32>,
+    scratch: Vec<u32>,
 }
 
-fn answer(
-    rt: &impl Print,
-    line: &[u8],
-    pool: &mut [u32],
-    text: &mut [u32],
-    out: &mut [u32],
-    scratch: &mut [u32],
-) {
-    let op = field(line, 0);
-    if is(op, b"cut") {
-        let cells = hold(rt, field(line, 2), text, pool);
-        lend(rt, line, first(pool, cells), text, out, scratch);
-        return;
-    }
-    if is(op, b"cut_pool") {
-        let cells = read_cells(rt, field(line, 2), pool);
-        lend(rt, line, first(pool, cells), text, out, scratch);
-        return;
-    }
-    print(rt, b"?");
-}
-
-// cut mode, words, scalars, scratch cells, out cells => ok ends edges
-// cut_pool mode, the pool's cells, scalars, scratch cells, out cells => ok ends edges
-fn lend(
-    rt: &impl Print,
-    line: &[u8],
-    pool: &[u32],
-    text: &mut [u32],
-    out: &mut [u32],
-    scratch: &mut [u32],
-) {
-    let n = read_cells(rt, field(line, 3), text);
-    let cells = scratch_cells(rt, field(line, 4), n, scratch.len());
-    let room = lent(rt, field(line, 5), out.len());
-    let named = mode_of(field(line, 1));
-    match named {
-        Named::In(mode) => call(
+impl Answers for Rows {
+    // cut mode, words, scalars, scratch cells, out cells => ok ends edges
+    // cut_pool mode, the pool's cells, scalars, scratch cells, out cells => ok ends edges
+    fn answer(&mut self, rt: &impl Print, line: &[u8]) -> io::Result<()> {
+        let cells = match field(line, 0) {
+            b"cut" => hold(rt, field(line, 2), &mut self.text, &mut self.pool),
+            b"cut_pool" => read_cells(rt, field(line, 2), &mut self.pool),
+            _ => return print!(rt; "?"),
+        };
+        let n = read_cells(rt, field(line, 3), &mut self.text);
+        let room = scratch_cells(rt, field(line, 4), n, self.scratch.len());
+        let ends = lent(rt, field(line, 5), self.out.len());
+        let Some(mode) = mode_of(field(line, 1)) else {
+            return print!(rt; "?");
+        };
+        tell_cut(
             rt,
-            first(text, n),
-            pool,
-            &mut out[0..room],
-            &mut scratch[0..cells],
+            &self.text[..n],
+            first(&self.pool, cells),
+            &mut self.out[..ends],
+            &mut self.scratch[..room],
             mode,
-        ),
-        Named::Nothing => print(rt, b"?"),
+        )
     }
 }
 
-fn call(
+fn tell_cut(
     rt: &impl Print,
     text: &[u32],
     pool: &[u32],
     out: &mut [u32],
     scratch: &mut [u32],
     mode: Mode,
-) {
+) -> io::Result<()> {
     smear(out);
     smear(scratch);
-    let answer = cut(text, pool, out, scratch, mode);
-    match answer {
-        Ok(Ends { ends: n, edges }) => {
+    match cut(text, pool, out, scratch, mode) {
+        Ok(Ends { ends, edges }) => {
             expect_zero(rt, scratch);
-            expect_leftovers(rt, out, n);
-            print(rt, b"ok ");
-            print_numbers(rt, first(out, n), b',');
-            print(rt, b" ");
-            print_number(rt, edges);
+            expect_leftovers(rt, out, ends);
+            print!(rt; "ok {} {edges}", Joined(first(out, ends), ','))
         }
         Err(r) => {
-            let number = r.number();
-            if number == 6 {
-                expect_zero(rt, scratch);
-            } else {
-                expect_leftovers(rt, scratch, 0);
+            match r {
+                Refusal::OutputTooShort(_) => expect_zero(rt, scratch),
+                _ => expect_leftovers(rt, scratch, 0),
             }
             expect_leftovers(rt, out, 0);
-            print_refusal(rt, r);
+            print!(rt; "{}", Refused(r))
         }
     }
 }

@@ -5,16 +5,16 @@
 // leftovers. Where a call leaves a cell otherwise than documents 01 and 02 say, a `?` is written.
 #![tactic(auto)]
 
-ghost use Rattle.std.specs.Prelude.{◌≤◌};
+ghost use Rattle.std.specs.Prelude.{◌≤◌, length};
 
 use figures::{feed, feed_refused, join};
 use newmm_rules::{Ends, Mode};
 use refusal::Refusal;
+use std::io;
 use test_lines::{
-    behind, field, first, is, lent, number, part_at, print, print_number, print_numbers,
-    print_refusal, read_cells, read_input,
+    Answers, Joined, Refused, field, first, lent, number, parts_of, read_cells, replay,
 };
-use test_rows::{Named, expect_leftovers, expect_zero, mode_of, print_left, scratch_cells, smear};
+use test_rows::{expect_leftovers, expect_zero, mode_of, print_left, scratch_cells, smear};
 use test_words::hold;
 
 const INPUT: usize = 589824;
@@ -33,190 +33,92 @@ const SCRATCH: usize = 16384;
 // The most texts of a line.
 const TEXTS: usize = 16;
 
-fn main(rt: HostRuntime) {
-    let mut input = [0u8; INPUT];
-    let n = read_input(&rt, &mut rt.stdin(), &mut input);
-    replay(&rt, &input[..n]);
+fn main(rt: HostRuntime) -> io::Result<()> {
+    let mut input = vec![in rt.alloc(); 0u8; INPUT]?;
+    let mut rows = Rows {
+        text: vec![in rt.alloc(); 0u32; TEXT]?,
+        pool: vec![in rt.alloc(); 0u32; POOL]?,
+        pairs: vec![in rt.alloc(); 0u32; PAIRS]?,
+        scratch: vec![in rt.alloc(); 0u32; SCRATCH]?,
+    };
+    replay(&rt, &mut rt.stdin(), &mut input, &mut rows)
 }
 
-fn replay(rt: &impl Print, input: &[u8]) {
-    let mut at = 0;
-    while at < input.len() {
-        answer(rt, part_at(input, at, b'\n'));
-        print(rt, b"\n");
-        at = behind(input, at, b'\n');
-    }
+#[derive(Drop)]
+struct Rows {
+    text: Vec<u32>,
+    pool: Vec<u32>,
+    pairs: Vec<u32>,
+    scratch: Vec<u32>,
 }
 
-#[derive(Clone, Copy)]
-enum Op {
-    Run,
-    Feed,
-    Refused,
-    Join,
-    Nothing,
-}
-
-fn op_of(name: &[u8]) -> Op {
-    if is(name, b"figures") {
-        return Op::Run;
-    }
-    if is(name, b"feed") {
-        return Op::Feed;
-    }
-    if is(name, b"refused") {
-        return Op::Refused;
-    }
-    if is(name, b"join") {
-        return Op::Join;
-    }
-    Op::Nothing
-}
-
-fn answer(rt: &impl Print, line: &[u8]) {
-    let op = op_of(field(line, 0));
-    match op {
-        Op::Run => run(rt, line),
-        Op::Feed => feed_one(rt, line),
-        Op::Refused => refuse(rt, line),
-        Op::Join => join_two(rt, line),
-        Op::Nothing => print(rt, b"?"),
-    }
-}
-
-// figures words, number of texts, the texts => ok figures
-fn run(rt: &impl Print, line: &[u8]) {
-    let mut row = [0u32; TEXT];
-    let mut pool = [0u32; POOL];
-    let cells = hold(rt, field(line, 1), &mut row, &mut pool);
-    let texts = lent(rt, field(line, 2), TEXTS);
-    let figures = fed(rt, line, texts, first(&pool, cells));
-    print(rt, b"ok ");
-    print_figures(rt, &figures);
-}
-
-// The figures of the first texts of a line, from zeros.
-fn fed(rt: &impl Print, line: &[u8], texts: usize, pool: &[u32]) -> [u64; 16]
-    requires { texts ≤ 16 }
-{
-    let mut figures = [0u64; 16];
-    let mut i = 0;
-    while i < texts {
-        feed_text(rt, line, 3 + 4 * i, pool, &mut figures, false);
-        i += 1;
-    }
-    figures
-}
-
-// feed words, figures, text => ok pairs edges figures, or the refusal and figures; after 13 what
-// became of scratch before them
-fn feed_one(rt: &impl Print, line: &[u8]) {
-    let mut row = [0u32; TEXT];
-    let mut pool = [0u32; POOL];
-    let cells = hold(rt, field(line, 1), &mut row, &mut pool);
-    let mut figures = read_figures(rt, field(line, 2));
-    feed_text(rt, line, 3, first(&pool, cells), &mut figures, true);
-    print(rt, b" ");
-    print_figures(rt, &figures);
-}
-
-// refused figures, number => ok figures, or the refusal and figures
-fn refuse(rt: &impl Print, line: &[u8]) {
-    let mut figures = read_figures(rt, field(line, 1));
-    let given = feed_refused(&mut figures, short(number(rt, field(line, 2))));
-    print_answer(rt, given);
-    print_figures(rt, &figures);
-}
-
-// join figures, figures => ok figures, or the refusal and the first figures
-fn join_two(rt: &impl Print, line: &[u8]) {
-    let mut figures = read_figures(rt, field(line, 1));
-    let more = read_figures(rt, field(line, 2));
-    let given = join(&mut figures, &more);
-    print_answer(rt, given);
-    print_figures(rt, &figures);
-}
-
-fn short(n: usize) -> u32 {
-    if n <= 4294967295 {
-        return n as u32;
-    }
-    0
-}
-
-fn print_answer(rt: &impl Print, given: Result<usize, Refusal>) {
-    match given {
-        Ok(n) => {
-            if n != 0 {
-                print(rt, b"?");
-            }
-            print(rt, b"ok ");
-        }
-        Err(r) => {
-            print_refusal(rt, r);
-            print(rt, b" ");
+impl Answers for Rows {
+    fn answer(&mut self, rt: &impl Print, line: &[u8]) -> io::Result<()> {
+        match field(line, 0) {
+            b"figures" => self.run(rt, line),
+            b"feed" => self.feed_one(rt, line),
+            b"refused" => refuse(rt, line),
+            b"join" => join_two(rt, line),
+            _ => print!(rt; "?"),
         }
     }
 }
 
-// Feeds the text whose four fields start at the k-th of a line.
-fn feed_text(
-    rt: &impl Print,
-    line: &[u8],
-    k: usize,
-    pool: &[u32],
-    figures: &mut [u64; 16],
-    shown: bool,
-)
-    requires { k ≤ 99 }
-{
-    let mut row = [0u32; TEXT];
-    let n = read_cells(rt, field(line, k + 1), &mut row);
-    let cells = scratch_cells(rt, field(line, k + 2), n, SCRATCH);
-    let records = lent(rt, field(line, k + 3), PAIRS / 2);
-    let named = mode_of(field(line, k));
-    match named {
-        Named::In(mode) => lend(
+impl Rows {
+    // figures words, number of texts, the texts => ok figures
+    fn run(&mut self, rt: &impl Print, line: &[u8]) -> io::Result<()> {
+        let cells = hold(rt, field(line, 1), &mut self.text, &mut self.pool);
+        let texts = lent(rt, field(line, 2), TEXTS);
+        let mut figures = [0u64; 16];
+        for i in 0..texts {
+            self.feed_text(rt, line, 3 + 4 * i, cells, &mut figures, false)?;
+        }
+        print!(rt; "ok {}", Joined(&figures, ','))
+    }
+
+    // feed words, figures, text => ok pairs edges figures, or the refusal and figures; after 13 what
+    // became of scratch before them
+    fn feed_one(&mut self, rt: &impl Print, line: &[u8]) -> io::Result<()> {
+        let cells = hold(rt, field(line, 1), &mut self.text, &mut self.pool);
+        let mut figures = read_figures(rt, field(line, 2));
+        self.feed_text(rt, line, 3, cells, &mut figures, true)?;
+        print!(rt; " {}", Joined(&figures, ','))
+    }
+
+    // Feeds the text whose four fields start at the k-th of a line, with the words of the first
+    // cells of the pool.
+    fn feed_text(
+        &mut self,
+        rt: &impl Print,
+        line: &[u8],
+        k: usize,
+        cells: usize,
+        figures: &mut [u64; 16],
+        shown: bool,
+    ) -> io::Result<()>
+        requires { k ≤ 99 }
+    {
+        let n = read_cells(rt, field(line, k + 1), &mut self.text);
+        let room = scratch_cells(rt, field(line, k + 2), n, self.scratch.len());
+        let records = lent(rt, field(line, k + 3), PAIRS / 2);
+        let Some(mode) = mode_of(field(line, k)) else {
+            return print!(rt; "?");
+        };
+        let told = self.pairs.len().min(2 * records + 1);
+        tell_figures(
             rt,
-            first(&row, n),
-            pool,
+            &self.text[..n],
+            first(&self.pool, cells),
             figures,
+            &mut self.pairs[..told],
+            &mut self.scratch[..room],
             mode,
-            cells,
-            records,
             shown,
-        ),
-        Named::Nothing => print(rt, b"?"),
+        )
     }
 }
 
-fn lend(
-    rt: &impl Print,
-    text: &[u32],
-    pool: &[u32],
-    figures: &mut [u64; 16],
-    mode: Mode,
-    cells: usize,
-    records: usize,
-    shown: bool,
-)
-    requires { (cells ≤ 16384) × (records ≤ 1000) }
-{
-    let mut pairs = [0u32; PAIRS];
-    let mut scratch = [0u32; SCRATCH];
-    call(
-        rt,
-        text,
-        pool,
-        figures,
-        &mut pairs[0..2 * records + 1],
-        &mut scratch[0..cells],
-        mode,
-        shown,
-    );
-}
-
-fn call(
+fn tell_figures(
     rt: &impl Print,
     text: &[u32],
     pool: &[u32],
@@ -225,77 +127,87 @@ fn call(
     scratch: &mut [u32],
     mode: Mode,
     shown: bool,
-) {
+) -> io::Result<()> {
     smear(pairs);
     smear(scratch);
-    let given = feed(figures, text, pool, pairs, scratch, mode);
-    match given {
-        Ok(Ends { ends: n, edges }) => show_cut(rt, n, edges, pairs, scratch, shown),
+    match feed(figures, text, pool, pairs, scratch, mode) {
+        Ok(ends) => show_cut(rt, ends, pairs, scratch, shown),
         Err(r) => show_refused(rt, r, pairs, scratch, shown),
     }
 }
 
-// The cells of so many pairs; at most `most`.
-fn told_cells(records: usize, most: usize) -> usize {
-    if records <= most / 2 {
-        return 2 * records;
-    }
-    most
-}
-
-fn show_cut(rt: &impl Print, n: usize, edges: usize, pairs: &[u32], scratch: &[u32], shown: bool) {
-    let cells = told_cells(n, pairs.len());
+fn show_cut(
+    rt: &impl Print,
+    told: Ends,
+    pairs: &[u32],
+    scratch: &[u32],
+    shown: bool,
+) -> io::Result<()> {
+    let cells = first(pairs, told.ends.saturating_mul(2));
     expect_zero(rt, scratch);
-    expect_leftovers(rt, pairs, cells);
+    expect_leftovers(rt, pairs, cells.len());
     if shown {
-        print(rt, b"ok ");
-        print_numbers(rt, first(pairs, cells), b',');
-        print(rt, b" ");
-        print_number(rt, edges);
+        print!(rt; "ok {} {}", Joined(cells, ','), told.edges)?;
     }
+    Ok(())
 }
 
-fn show_refused(rt: &impl Print, r: Refusal, pairs: &[u32], scratch: &[u32], shown: bool) {
+fn show_refused(
+    rt: &impl Print,
+    r: Refusal,
+    pairs: &[u32],
+    scratch: &[u32],
+    shown: bool,
+) -> io::Result<()> {
     expect_leftovers(rt, pairs, 0);
     if shown {
-        print_refusal(rt, r);
+        print!(rt; "{}", Refused(r))?;
     }
-    let number = r.number();
-    if number == 13 {
-        print(rt, b" ");
-        print_left(rt, scratch);
-        return;
+    match r {
+        Refusal::FiguresFull => {
+            print!(rt; " ")?;
+            print_left(rt, scratch);
+        }
+        Refusal::OutputTooShort(_) => expect_zero(rt, scratch),
+        _ => expect_leftovers(rt, scratch, 0),
     }
-    if number == 6 {
-        expect_zero(rt, scratch);
-        return;
-    }
-    expect_leftovers(rt, scratch, 0);
+    Ok(())
 }
 
+// refused figures, number => ok figures, or the refusal and figures
+fn refuse(rt: &impl Print, line: &[u8]) -> io::Result<()> {
+    let mut figures = read_figures(rt, field(line, 1));
+    let number = u32::try_from(number(rt, field(line, 2))).unwrap_or(0);
+    let given = feed_refused(&mut figures, number);
+    tell_given(rt, given, &figures)
+}
+
+// join figures, figures => ok figures, or the refusal and the first figures
+fn join_two(rt: &impl Print, line: &[u8]) -> io::Result<()> {
+    let mut figures = read_figures(rt, field(line, 1));
+    let more = read_figures(rt, field(line, 2));
+    let given = join(&mut figures, &more);
+    tell_given(rt, given, &figures)
+}
+
+fn tell_given(
+    rt: &impl Print,
+    given: Result<usize, Refusal>,
+    figures: &[u64; 16],
+) -> io::Result<()> {
+    match given {
+        Ok(0) => print!(rt; "ok {}", Joined(figures, ',')),
+        Ok(_) => print!(rt; "?ok {}", Joined(figures, ',')),
+        Err(r) => print!(rt; "{} {}", Refused(r), Joined(figures, ',')),
+    }
+}
+
+// Sixteen figures joined by `,`.
 fn read_figures(rt: &impl Print, text: &[u8]) -> [u64; 16] {
     let mut figures = [0u64; 16];
-    let mut at = 0;
-    let mut i = 0;
-    while i < 16 {
-        figures[i] = long(number(rt, part_at(text, at, b',')));
-        at = behind(text, at, b',');
-        i += 1;
+    let mut parts = parts_of(text, b',');
+    for figure in figures.iter_mut() {
+        *figure = number(rt, parts.next().unwrap_or(&[])) as u64;
     }
     figures
-}
-
-fn long(n: usize) -> u64 {
-    n as u64
-}
-
-fn print_figures(rt: &impl Print, figures: &[u64; 16]) {
-    let mut i = 0;
-    while i < 16 {
-        if i != 0 {
-            print(rt, b",");
-        }
-        print_number(rt, figures[i] as usize);
-        i += 1;
-    }
 }

@@ -1,21 +1,43 @@
 // The input, and the parts between its marks.
-ghost use Rattle.std.specs.Prelude.{◌-◌, ◌≤◌, length, take};
+ghost use Rattle.std.specs.Prelude.{◌≡◌, ℕ, ◌+◌, ◌-◌, ◌≤◌, MatchOption, length, take, drop, slice_index};
+ghost use Rattle.std.specs.Iterator.{at_most};
 ghost use Rattle.std.specs.Io.KnownBytes.{Consumes};
+ghost use Rattle.test_lines.specs.Marks.{mark_at};
 ghost use Rattle.io.specs.Counts.{IsPrefixLen};
 
 use crate::output::unread;
+use std::io;
 use std::io::Read;
 
-// Reads an input into buffer and answers how many bytes there are. An input that fills buffer may
-// be cut off, and cannot be read.
-pub fn read_input<R: Read>(rt: &impl Print, input: &mut R, buffer: &mut [u8]) -> usize
-    ensures { IsPrefixLen result buffer.new }
+// What a program of test vectors does with a line of its input.
+pub trait Answers {
+    // Writes the answer to the line, without the end of a line.
+    fn answer(&mut self, rt: &impl Print, line: &[u8]) -> io::Result<()>;
+}
+
+// Reads an input into buffer and writes a line with the answer for each of its lines.
+pub fn replay<R: Read, A: Answers>(
+    rt: &impl Print,
+    input: &mut R,
+    buffer: &mut [u8],
+    answers: &mut A,
+) -> io::Result<()>
+    ensures { (n : ℕ) × (n ≤ length buffer.new) × Consumes (R.remaining input.old) (R.remaining input.new) (take n buffer.new) }
 {
     let n = read_full(input, buffer);
     if n == buffer.len() {
         unread(rt);
     }
-    n
+    replay_lines(rt, &buffer[..n], answers)
+}
+
+// Writes a line with the answer for each line of a text.
+pub fn replay_lines<A: Answers>(rt: &impl Print, text: &[u8], answers: &mut A) -> io::Result<()> {
+    for line in parts_of(text, b'\n') {
+        answers.answer(rt, line)?;
+        println!(rt)?;
+    }
+    Ok(())
 }
 
 // Reads until buffer is full, the input ends or a read fails, and answers how many bytes it put at
@@ -35,86 +57,71 @@ pub fn read_full<R: Read>(input: &mut R, buffer: &mut [u8]) -> usize
     done
 }
 
-// The first place from `at` on where the mark stands, or the length.
-fn mark_from(text: &[u8], at: usize, mark: u8) -> usize
-    requires { at ≤ length text.now }
-    ensures { (at ≤ result) × (result ≤ length text.now) }
+// What stands before the first mark of a text, and what stands behind it; all and nothing where it
+// has no mark.
+pub fn cut_at(text: &[u8], mark: u8) -> (&[u8], &[u8])
+    ensures before { result.0.now ≡ take (mark_at text.now mark) text.now }
+    ensures behind { result.1.now ≡ drop (mark_at text.now mark + 1) text.now }
+    ensures shorter { length result.1.now ≤ length text.now - 1 }
 {
-    let mut i = at;
-    while i < text.len() {
-        if text[i] == mark {
-            return i;
-        }
-        i += 1;
-    }
-    i
-}
-
-// The part of text from `at` up to the next mark, or to its end; empty where `at` is past the end.
-pub fn part_at(text: &[u8], at: usize, mark: u8) -> &[u8] {
-    if text.len() < at {
-        return &text[0..0];
-    }
-    let end = mark_from(text, at, mark);
-    &text[at..end]
-}
-
-// Where the part after that one starts: behind the mark, or at the end. Less of the text is left
-// there.
-pub fn behind(text: &[u8], at: usize, mark: u8) -> usize
-    ensures { length text.now - result ≤ length text.now - at - 1 }
-{
-    if text.len() < at {
-        return at;
-    }
-    let end = mark_from(text, at, mark);
+    let end = mark_at(text, mark);
     if end < text.len() {
-        return end + 1;
+        return (&text[..end], &text[end + 1..]);
     }
-    end
+    (text, &text[end..])
+}
+
+// Where the first mark of a text stands; its end, where it has none.
+fn mark_at(text: &[u8], mark: u8) -> usize
+    ensures place { result ≡ mark_at text.now mark }
+    ensures bound { result ≤ length text.now }
+{
+    text.iter().take_while(|b| **b != mark).count()
+}
+
+// The parts of a text between its marks. A mark at the end has no part behind it.
+#[derive(Clone, Copy)]
+pub struct Parts<'a> {
+    pub rest: &'a [u8],
+    pub mark: u8,
+}
+
+pub fn parts_of(text: &[u8], mark: u8) -> Parts<'_>
+    ensures rest { result.rest.now ≡ text.now }
+    ensures mark { result.mark ≡ mark }
+{
+    Parts { rest: text, mark }
+}
+
+impl<'a> Iterator for Parts<'a> {
+    type Item = &'a [u8];
+
+    ghost next_gives = { λ s r t. MatchOption r (length s.rest.now ≡ 0) (λ x. (x.now ≡ take (mark_at s.rest.now s.mark) s.rest.now) × (t.rest.now ≡ drop (mark_at s.rest.now s.mark + 1) s.rest.now) × (t.mark ≡ s.mark)) };
+
+    ghost remaining = { λ s. at_most (length s.rest.now) };
+
+    fn next(&mut self) -> Option<&'a [u8]> {
+        if self.rest.is_empty() {
+            return None;
+        }
+        let (part, behind) = cut_at(self.rest, self.mark);
+        self.rest = behind;
+        Some(part)
+    }
 }
 
 // The k-th field of a line, the first is 0; empty where there is none.
 pub fn field(line: &[u8], k: usize) -> &[u8] {
-    let mut at = 0;
-    let mut i = 0;
-    while i < k {
-        if line.len() <= at {
-            return &line[0..0];
-        }
-        at = behind(line, at, b'\t');
-        i += 1;
-    }
-    part_at(line, at, b'\t')
+    line.split(|b| *b == b'\t').nth(k).unwrap_or(&[])
 }
 
-// The first byte of text; 0 where it has none.
-pub fn head(text: &[u8]) -> u8 {
-    if text.len() == 0 {
-        return 0;
+// The first byte of text, 0 where it has none, and the text without it.
+pub fn opened(text: &[u8]) -> (u8, &[u8])
+    ensures first { result.0 ≡ slice_index text.now 0 }
+    ensures rest { result.1.now ≡ drop 1 text.now }
+{
+    match text {
+        [] => (0, text),
+        [first, rest @ ..] => (*first, rest),
     }
-    text[0]
-}
-
-// The text without its first byte.
-pub fn tail(text: &[u8]) -> &[u8] {
-    if text.len() == 0 {
-        return text;
-    }
-    &text[1..]
-}
-
-// Whether text and name are the same bytes.
-pub fn is(text: &[u8], name: &[u8]) -> bool {
-    if text.len() != name.len() {
-        return false;
-    }
-    let mut i = 0;
-    while i < text.len() {
-        if text[i] != name[i] {
-            return false;
-        }
-        i += 1;
-    }
-    true
 }

@@ -1,25 +1,21 @@
 // Numbers, cells and bytes, read from the text of a field.
-ghost use Rattle.std.specs.Prelude.{◌≤◌, length};
+ghost use Rattle.std.specs.Prelude.{◌≤◌, ◌↔◌, IsTrue, length};
 ghost use Rattle.io.specs.Counts.{IsPrefixLen};
 
-use crate::input::{behind, is, part_at};
+use crate::input::{cut_at, parts_of};
 use crate::output::unread;
-
-const LARGEST: usize = 18446744073709551615;
 
 // A decimal number. `*`, and any number above the largest, give the largest.
 pub fn number(rt: &impl Print, text: &[u8]) -> usize {
-    if is(text, b"*") {
-        return LARGEST;
+    if matches!(text, b"*") {
+        return usize::MAX;
     }
-    if text.len() == 0 {
+    if text.is_empty() {
         unread(rt);
     }
-    let mut n = 0;
-    let mut i = 0;
-    while i < text.len() {
-        n = decimal_more(rt, n, text[i]);
-        i += 1;
+    let mut n = 0usize;
+    for b in text {
+        n = n.saturating_mul(10).saturating_add(decimal_digit(rt, *b));
     }
     n
 }
@@ -29,11 +25,39 @@ pub fn number(rt: &impl Print, text: &[u8]) -> usize {
 pub fn lent(rt: &impl Print, text: &[u8], most: usize) -> usize
     ensures { result ≤ most }
 {
-    let n = number(rt, text);
-    if n < most {
-        return n;
+    number(rt, text).min(most)
+}
+
+// The front of a row, as far as it is filled.
+#[derive(Drop)]
+struct Front<'a, T> {
+    row: &'a mut [T],
+    used: usize,
+    ghost fits: { used ≤ length row.now },
+}
+
+impl<'a, T: Copy> Front<'a, T> {
+    // Puts x behind what is there; whether there was room.
+    fn push(&mut self, x: T) -> bool {
+        if self.is_full() {
+            return false;
+        }
+        self.row[self.used] = x;
+        self.used += 1;
+        true
     }
-    most
+
+    fn is_full(&self) -> bool
+        ensures { IsTrue result ↔ length self.now.row.now ≤ self.now.used }
+    {
+        self.row.len() <= self.used
+    }
+}
+
+// What a row is read into: cells or bytes, each in a spelling of its own.
+trait Item: Copy {
+    // Puts what a run stands for behind what a front holds.
+    fn put_run(rt: &impl Print, run: &[u8], front: &mut Front<'_, Self>);
 }
 
 // Cells such as `E01.20*3`, `-` for none. They go to the front of row; the answer is how many there
@@ -41,19 +65,7 @@ pub fn lent(rt: &impl Print, text: &[u8], most: usize) -> usize
 pub fn read_cells(rt: &impl Print, text: &[u8], row: &mut [u32]) -> usize
     ensures { IsPrefixLen result row.new }
 {
-    if is(text, b"-") {
-        return 0;
-    }
-    if text.len() == 0 {
-        unread(rt);
-    }
-    let mut n = 0;
-    let mut at = 0;
-    while at < text.len() {
-        n = read_run(rt, part_at(text, at, b'.'), row, n);
-        at = behind(text, at, b'.');
-    }
-    n
+    read_row(rt, text, row)
 }
 
 // Bytes such as `e0b881*2.61`, `-` for none. They go to the front of row; the answer is how many
@@ -61,72 +73,52 @@ pub fn read_cells(rt: &impl Print, text: &[u8], row: &mut [u32]) -> usize
 pub fn read_bytes(rt: &impl Print, text: &[u8], row: &mut [u8]) -> usize
     ensures { IsPrefixLen result row.new }
 {
-    if is(text, b"-") {
-        return 0;
-    }
-    if text.len() == 0 {
-        unread(rt);
-    }
-    let mut n = 0;
-    let mut at = 0;
-    while at < text.len() {
-        n = read_byte_run(rt, part_at(text, at, b'.'), row, n);
-        at = behind(text, at, b'.');
-    }
-    n
+    read_row(rt, text, row)
 }
 
-// n with one more decimal digit.
-fn decimal_more(rt: &impl Print, n: usize, b: u8) -> usize {
-    let d = decimal_digit(rt, b);
-    if LARGEST / 10 < n {
-        return LARGEST;
+fn read_row<T: Item>(rt: &impl Print, text: &[u8], row: &mut [T]) -> usize
+    ensures { result ≤ length row.new }
+{
+    let most = row.len();
+    let mut front = Front { row, used: 0 };
+    put_runs(rt, text, &mut front);
+    front.used.min(most)
+}
+
+fn put_runs<T: Item>(rt: &impl Print, text: &[u8], front: &mut Front<'_, T>) {
+    if matches!(text, b"-") {
+        return;
     }
-    let tens = n * 10;
-    if LARGEST - tens < d {
-        return LARGEST;
+    if text.is_empty() {
+        unread(rt);
     }
-    tens + d
+    for run in parts_of(text, b'.') {
+        T::put_run(rt, run, front);
+    }
 }
 
 fn decimal_digit(rt: &impl Print, b: u8) -> usize {
-    if b < b'0' {
-        unread(rt);
-        return 0;
+    match b {
+        b'0'..=b'9' => usize::from(b - b'0'),
+        _ => {
+            unread(rt);
+            0
+        }
     }
-    if b'9' < b {
-        unread(rt);
-        return 0;
-    }
-    (b - b'0') as usize
 }
 
 fn hex_digit(rt: &impl Print, b: u8) -> u8
     ensures { result ≤ 15 }
 {
-    if b < b'0' {
-        unread(rt);
-        return 0;
+    match b {
+        b'0'..=b'9' => b - b'0',
+        b'A'..=b'F' => b - b'A' + 10,
+        b'a'..=b'f' => b - b'a' + 10,
+        _ => {
+            unread(rt);
+            0
+        }
     }
-    if b <= b'9' {
-        return b - b'0';
-    }
-    if b < b'A' {
-        unread(rt);
-        return 0;
-    }
-    if b <= b'F' {
-        return b - b'A' + 10;
-    }
-    if b < b'a' {
-        unread(rt);
-        return 0;
-    }
-    if b <= b'f' {
-        return b - b'a' + 10;
-    }
-    unread(rt);
-    0
 }
 
 // x with one more hexadecimal digit.
@@ -136,95 +128,66 @@ fn hex_more(rt: &impl Print, x: u32, b: u8) -> u32 {
         unread(rt);
         return x;
     }
-    x * 16 + d as u32
+    x * 16 + u32::from(d)
 }
 
 fn cell(rt: &impl Print, text: &[u8]) -> u32 {
-    if text.len() == 0 {
+    if text.is_empty() {
         unread(rt);
     }
     let mut x = 0;
-    let mut i = 0;
-    while i < text.len() {
-        x = hex_more(rt, x, text[i]);
-        i += 1;
+    for b in text {
+        x = hex_more(rt, x, *b);
     }
     x
 }
 
-// How often what stands before the `*` of a run is meant; once where it has none.
-fn times(rt: &impl Print, run: &[u8]) -> usize {
-    let at = behind(run, 0, b'*');
-    if at < run.len() {
-        return number(rt, part_at(run, at, b'*'));
+// What a run repeats, and how often: once where it doesn't say.
+fn repeated<'a>(rt: &impl Print, run: &'a [u8]) -> (&'a [u8], usize) {
+    let (what, behind) = cut_at(run, b'*');
+    if behind.is_empty() {
+        return (what, 1);
     }
-    1
+    (what, number(rt, cut_at(behind, b'*').0))
 }
 
-// Puts the cells of a run behind the first n of row.
-fn read_run(rt: &impl Print, run: &[u8], row: &mut [u32], n: usize) -> usize
-    requires { n ≤ length row.old }
-    ensures { result ≤ length row.new }
-{
-    let x = cell(rt, part_at(run, 0, b'*'));
-    fill(rt, row, n, x, times(rt, run))
+impl Item for u32 {
+    fn put_run(rt: &impl Print, run: &[u8], front: &mut Front<'_, u32>) {
+        let x = cell(rt, cut_at(run, b'*').0);
+        let (_, times) = repeated(rt, run);
+        for _ in 0..times {
+            if !front.push(x) {
+                unread(rt);
+                return;
+            }
+        }
+    }
 }
 
-fn fill(rt: &impl Print, row: &mut [u32], n: usize, x: u32, count: usize) -> usize
-    requires { n ≤ length row.old }
-    ensures { result ≤ length row.new }
-{
-    let mut at = n;
-    let mut left = count;
-    while 0 < left {
-        if row.len() <= at {
-            unread(rt);
-            return at;
+impl Item for u8 {
+    fn put_run(rt: &impl Print, run: &[u8], front: &mut Front<'_, u8>) {
+        let (digits, times) = repeated(rt, run);
+        for _ in 0..times {
+            if front.is_full() {
+                unread(rt);
+                return;
+            }
+            put_bytes(rt, digits, front);
         }
-        row[at] = x;
-        at += 1;
-        left -= 1;
     }
-    at
 }
 
-// Puts the bytes of a run behind the first n of row.
-fn read_byte_run(rt: &impl Print, run: &[u8], row: &mut [u8], n: usize) -> usize
-    requires { n ≤ length row.old }
-    ensures { result ≤ length row.new }
-{
-    let digits = part_at(run, 0, b'*');
-    let mut at = n;
-    let mut left = times(rt, run);
-    while 0 < left {
-        if row.len() <= at {
+fn put_bytes(rt: &impl Print, digits: &[u8], front: &mut Front<'_, u8>) {
+    for pair in digits.chunks(2) {
+        let [high, low] = pair else {
             unread(rt);
-            return at;
+            return;
+        };
+        if front.is_full() {
+            unread(rt);
+            return;
         }
-        at = put_bytes(rt, digits, row, at);
-        left -= 1;
+        let b = hex_digit(rt, *high) * 16 + hex_digit(rt, *low);
+        front.push(b);
     }
-    at
-}
-
-fn put_bytes(rt: &impl Print, digits: &[u8], row: &mut [u8], n: usize) -> usize
-    requires { n ≤ length row.old }
-    ensures { result ≤ length row.new }
-{
-    let mut at = n;
-    let mut i = 0;
-    while i < digits.len() {
-        if digits.len() - i < 2 {
-            unread(rt);
-            return at;
-        }
-        if row.len() <= at {
-            unread(rt);
-            return at;
-        }
-        row[at] = hex_digit(rt, digits[i]) * 16 + hex_digit(rt, digits[i + 1]);
-        at += 1;
-        i += 2;
-    }
-    at
 }

@@ -15,44 +15,46 @@ use word_list_plants::read_image_in;
 use word_list_plants_write::write_image_in;
 use word_list_write::write_image;
 
-#[derive(Clone, Copy)]
-pub enum Whose {
-    Plain,
-    Of(Plant),
-}
+// The plant whose words are meant; none in a plain pool.
+pub type Whose = Option<Plant>;
 
 pub fn add(whose: Whose, pool: &mut [u32], word: &[u32], class: u16) -> Result<usize, Refusal> {
     match whose {
-        Whose::Plain => add_class(pool, word, class),
-        Whose::Of(plant) => add_in(pool, plant, word, class),
+        None => add_class(pool, word, class),
+        Some(plant) => add_in(pool, plant, word, class),
     }
 }
 
 pub fn take(whose: Whose, pool: &mut [u32], word: &[u32]) -> Result<usize, Refusal> {
     match whose {
-        Whose::Plain => remove(pool, word),
-        Whose::Of(plant) => remove_in(pool, plant, word),
+        None => remove(pool, word),
+        Some(plant) => remove_in(pool, plant, word),
     }
 }
 
 pub fn held(whose: Whose, pool: &[u32], word: &[u32]) -> Result<Option<u16>, Refusal> {
     match whose {
-        Whose::Plain => contain(pool, word),
-        Whose::Of(plant) => contain_in(pool, plant, word),
+        None => contain(pool, word),
+        Some(plant) => contain_in(pool, plant, word),
     }
 }
 
-pub fn lengths(whose: Whose, pool: &[u32], text: &[u32], out: &mut [u32]) -> Result<usize, Refusal> {
+pub fn lengths(
+    whose: Whose,
+    pool: &[u32],
+    text: &[u32],
+    out: &mut [u32],
+) -> Result<usize, Refusal> {
     match whose {
-        Whose::Plain => prefix_lengths(pool, text, out),
-        Whose::Of(plant) => prefix_lengths_in(pool, plant, text, out),
+        None => prefix_lengths(pool, text, out),
+        Some(plant) => prefix_lengths_in(pool, plant, text, out),
     }
 }
 
 pub fn amount(whose: Whose, pool: &[u32]) -> Result<usize, Refusal> {
     match whose {
-        Whose::Plain => amount_of_words(pool),
-        Whose::Of(plant) => amount_of_words_in(pool, plant),
+        None => amount_of_words(pool),
+        Some(plant) => amount_of_words_in(pool, plant),
     }
 }
 
@@ -65,8 +67,8 @@ pub fn ends(
     mode: Mode,
 ) -> Result<Ends, Refusal> {
     match whose {
-        Whose::Plain => cut(text, pool, out, scratch, mode),
-        Whose::Of(plant) => cut_in(text, pool, plant, out, scratch, mode),
+        None => cut(text, pool, out, scratch, mode),
+        Some(plant) => cut_in(text, pool, plant, out, scratch, mode),
     }
 }
 
@@ -79,21 +81,21 @@ pub fn reasons(
     mode: Mode,
 ) -> Result<Ends, Refusal> {
     match whose {
-        Whose::Plain => cut_reasons(text, pool, out, scratch, mode),
-        Whose::Of(plant) => cut_reasons_in(text, pool, plant, out, scratch, mode),
+        None => cut_reasons(text, pool, out, scratch, mode),
+        Some(plant) => cut_reasons_in(text, pool, plant, out, scratch, mode),
     }
 }
 
 pub fn read(whose: Whose, pool: &mut [u32], image: &[u8]) -> Result<usize, Refusal> {
     match whose {
-        Whose::Plain => read_image(pool, image),
-        Whose::Of(plant) => read_image_in(pool, plant, image),
+        None => read_image(pool, image),
+        Some(plant) => read_image_in(pool, plant, image),
     }
 }
 
 pub fn write(whose: Whose, pool: &[u32], out: &mut [u8]) -> Result<usize, Refusal> {
     match whose {
-        Whose::Plain => write_image(pool, out),
-        Whose::Of(plant) => write_image_in(pool, plant, out),
+        None => write_image(pool, out),
+        Some(plant) => write_image_in(pool, plant, out),
     }
 }

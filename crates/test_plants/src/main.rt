@@ -7,19 +7,13 @@
 
 mod calls;
 mod cuts;
-mod images;
 mod steps;
-mod told;
 
 ghost use Rattle.std.specs.Prelude.{◌≤◌, length};
 
-use crate::calls::{Whose, amount};
-use crate::steps::step;
-use crate::told::tell;
-use test_lines::{
-    behind, field, first, head, is, lent, part_at, print, print_number, read_cells, read_input,
-    tail,
-};
+use crate::calls::amount;
+use std::io;
+use test_lines::{Answers, Told, field, first, lent, opened, parts_of, read_cells, replay};
 use trie_plants::Plant;
 
 const INPUT: usize = 327680;
@@ -29,99 +23,95 @@ const POOL: usize = 24576;
 // More than the longest text that is accepted.
 const CELLS: usize = 70000;
 
-fn main(rt: HostRuntime) {
-    let mut input = [0u8; INPUT];
-    let mut pool = [0u32; POOL];
-    let mut cells = [0u32; CELLS];
-    let n = read_input(&rt, &mut rt.stdin(), &mut input);
-    replay(&rt, &input[..n], &mut pool, &mut cells);
+const OUT: usize = 4096;
+
+const SCRATCH: usize = 16384;
+
+const IMAGE: usize = 8192;
+
+// A cell that no dictionary has.
+const NO_CELL: u32 = u32::MAX;
+
+fn main(rt: HostRuntime) -> io::Result<()> {
+    let mut input = vec![in rt.alloc(); 0u8; INPUT]?;
+    let mut rows = Rows {
+        pool: vec![in rt.alloc(); 0u32; POOL]?,
+        work: Work {
+            cells: vec![in rt.alloc(); 0u32; CELLS]?,
+            out: vec![in rt.alloc(); 0u32; OUT]?,
+            scratch: vec![in rt.alloc(); 0u32; SCRATCH]?,
+            image: vec![in rt.alloc(); 0u8; IMAGE]?,
+        },
+    };
+    replay(&rt, &mut rt.stdin(), &mut input, &mut rows)
 }
 
-fn replay(rt: &impl Print, input: &[u8], pool: &mut [u32], cells: &mut [u32]) {
-    let mut at = 0;
-    while at < input.len() {
-        answer(rt, part_at(input, at, b'\n'), pool, cells);
-        print(rt, b"\n");
-        at = behind(input, at, b'\n');
-    }
+#[derive(Drop)]
+struct Rows {
+    pool: Vec<u32>,
+    work: Work,
 }
 
-fn answer(rt: &impl Print, line: &[u8], pool: &mut [u32], cells: &mut [u32]) {
-    let op = field(line, 0);
-    if is(op, b"plants") {
-        let n = lent(rt, field(line, 1), pool.len());
-        smear(pool);
-        print(rt, b"ok ");
-        script(rt, field(line, 2), n, pool, cells);
-        return;
-    }
-    if is(op, b"halves") {
-        let n = read_cells(rt, field(line, 1), pool);
-        halves(rt, first(pool, n));
-        return;
-    }
-    print(rt, b"?");
+// What the steps on a pool work with.
+#[derive(Drop)]
+struct Work {
+    cells: Vec<u32>,
+    out: Vec<u32>,
+    scratch: Vec<u32>,
+    image: Vec<u8>,
 }
 
-// Cells that no dictionary has.
-fn smear(pool: &mut [u32]) {
-    let mut k = 0;
-    while k < pool.len() {
-        pool[k] = 4294967295;
-        k += 1;
-    }
-}
-
-// plants pool cells, script => ok answers
-fn script(rt: &impl Print, steps: &[u8], lent: usize, pool: &mut [u32], cells: &mut [u32])
-    requires { lent ≤ length pool.old }
-{
-    let mut n = lent;
-    let mut at = 0;
-    while at < steps.len() {
-        if 0 < at {
-            print(rt, b";");
+impl Answers for Rows {
+    fn answer(&mut self, rt: &impl Print, line: &[u8]) -> io::Result<()> {
+        match field(line, 0) {
+            b"plants" => self.script(rt, line),
+            b"halves" => {
+                let n = read_cells(rt, field(line, 1), &mut self.pool);
+                halves(rt, &self.pool[..n])
+            }
+            _ => print!(rt; "?"),
         }
-        n = turn(rt, part_at(steps, at, b';'), n, pool, cells);
-        at = behind(steps, at, b';');
     }
 }
 
-// Makes a step with the first n cells of the pool lent, and answers how many are lent from then on.
-fn turn(rt: &impl Print, text: &[u8], n: usize, pool: &mut [u32], cells: &mut [u32]) -> usize
-    requires { n ≤ length pool.old }
-    ensures { result ≤ length pool.new }
-{
-    if head(text) == b'l' {
-        let most = lent(rt, tail(text), pool.len());
-        clear_from(pool, n / 8 * 8, most);
-        print_number(rt, most);
-        return most;
+impl Rows {
+    // plants pool cells, script => ok answers
+    fn script(&mut self, rt: &impl Print, line: &[u8]) -> io::Result<()> {
+        let mut n = lent(rt, field(line, 1), self.pool.len());
+        self.pool.fill(NO_CELL);
+        print!(rt; "ok ")?;
+        for (i, text) in parts_of(field(line, 2), b';').enumerate() {
+            if i > 0 {
+                print!(rt; ";")?;
+            }
+            n = self.turn(rt, text, n)?;
+        }
+        Ok(())
     }
-    step(rt, text, &mut pool[0..n], cells);
-    n
-}
 
-// Sets the cells from `start` up to `end` to 0, where there are any.
-fn clear_from(pool: &mut [u32], start: usize, end: usize)
-    requires { end ≤ length pool.old }
-{
-    let mut k = start;
-    while k < end {
-        pool[k] = 0;
-        k += 1;
+    // Makes a step with the first n cells of the pool lent, and answers how many are lent from then
+    // on.
+    fn turn(&mut self, rt: &impl Print, text: &[u8], n: usize) -> io::Result<usize> {
+        let room = n.min(self.pool.len());
+        let (op, given) = opened(text);
+        if op == b'l' {
+            let most = lent(rt, given, self.pool.len());
+            let whole = room / 8 * 8;
+            if whole < most {
+                self.pool[whole..most].fill(0);
+            }
+            print!(rt; "{most}")?;
+            return Ok(most);
+        }
+        self.work.step(rt, text, &mut self.pool[..room])?;
+        Ok(room)
     }
 }
 
 // halves the pool's cells => ok answers of word count: plain, of plant A, of plant B
-fn halves(rt: &impl Print, pool: &[u32]) {
-    print(rt, b"ok ");
-    let plain = amount(Whose::Plain, pool);
-    tell(rt, plain);
-    print(rt, b";");
-    let a = amount(Whose::Of(Plant::A), pool);
-    tell(rt, a);
-    print(rt, b";");
-    let b = amount(Whose::Of(Plant::B), pool);
-    tell(rt, b);
+fn halves(rt: &impl Print, pool: &[u32]) -> io::Result<()> {
+    let plain = amount(None, pool);
+    let a = amount(Some(Plant::A), pool);
+    let b = amount(Some(Plant::B), pool);
+    print!(rt; "ok {};{};{}", Told(plain), Told(a), Told(b))
 }

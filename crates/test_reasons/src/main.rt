@@ -5,15 +5,14 @@
 // leftovers. Where a call leaves a cell otherwise than documents 01 and 02 say, a `?` is written.
 #![tactic(auto)]
 
-ghost use Rattle.std.specs.Prelude.{◌≤◌};
+ghost use Rattle.std.specs.Prelude.{◌≤◌, length};
 
 use newmm_reasons::cut_reasons;
 use newmm_rules::{Ends, Mode};
-use test_lines::{
-    behind, field, first, is, lent, part_at, print, print_number, print_refusal, read_cells,
-    read_input,
-};
-use test_rows::{Named, expect_leftovers, expect_zero, mode_of, scratch_cells, smear};
+use refusal::Refusal;
+use std::io;
+use test_lines::{Answers, Pairs, Refused, field, first, lent, read_cells, replay};
+use test_rows::{expect_leftovers, expect_zero, mode_of, scratch_cells, smear};
 use test_words::hold;
 
 const INPUT: usize = 589824;
@@ -29,169 +28,76 @@ const PAIRS: usize = 140001;
 
 const SCRATCH: usize = 589952;
 
-fn main(rt: HostRuntime) {
-    let mut input = [0u8; INPUT];
-    let mut pool = [0u32; POOL];
-    let mut text = [0u32; TEXT];
-    let mut pairs = [0u32; PAIRS];
-    let mut scratch = [0u32; SCRATCH];
-    let n = read_input(&rt, &mut rt.stdin(), &mut input);
-    replay(
-        &rt,
-        &input[..n],
-        &mut pool,
-        &mut text,
-        &mut pairs,
-        &mut scratch,
-    );
+fn main(rt: HostRuntime) -> io::Result<()> {
+    let mut input = vec![in rt.alloc(); 0u8; INPUT]?;
+    let mut rows = Rows {
+        pool: vec![in rt.alloc(); 0u32; POOL]?,
+        text: vec![in rt.alloc(); 0u32; TEXT]?,
+        pairs: vec![in rt.alloc(); 0u32; PAIRS]?,
+        scratch: vec![in rt.alloc(); 0u32; SCRATCH]?,
+    };
+    replay(&rt, &mut rt.stdin(), &mut input, &mut rows)
 }
 
-fn replay(
-    rt: &impl Print,
-    input: &[u8],
-    pool: &mut [u32],
-    text: &mut [u32],
-    pairs: &mut [u32],
-    scratch: &mut [u32],
-) {
-    let mut at = 0;
-    while at < input.len() {
-        answer(rt, part_at(input, at, b'\n'), pool, text, pairs, scratch);
-        print(rt, b"\n");
-        at = behind(input, at, b'\n');
-    }
+#[derive(Drop)]
+struct Rows {
+    pool: Vec<u32>,
+    text: Vec<u32>,
+    pairs: Vec<u32>,
+    scratch: Vec<u32>,
 }
 
-fn answer(
-    rt: &impl Print,
-    line: &[u8],
-    pool: &mut [u32],
-    text: &mut [u32],
-    pairs: &mut [u32],
-    scratch: &mut [u32],
-) {
-    let op = field(line, 0);
-    if is(op, b"reasons") {
-        let cells = hold(rt, field(line, 2), text, pool);
-        lend(rt, line, first(pool, cells), text, pairs, scratch);
-        return;
-    }
-    if is(op, b"reasons_pool") {
-        let cells = read_cells(rt, field(line, 2), pool);
-        lend(rt, line, first(pool, cells), text, pairs, scratch);
-        return;
-    }
-    print(rt, b"?");
-}
-
-// reasons mode, words, scalars, scratch cells, records => ok end:reason,.. edges
-// reasons_pool mode, the pool's cells, scalars, scratch cells, records => the same
-fn lend(
-    rt: &impl Print,
-    line: &[u8],
-    pool: &[u32],
-    text: &mut [u32],
-    pairs: &mut [u32],
-    scratch: &mut [u32],
-) {
-    let n = read_cells(rt, field(line, 3), text);
-    let cells = scratch_cells(rt, field(line, 4), n, scratch.len());
-    let records = lent(rt, field(line, 5), pairs.len() / 2);
-    let room = pair_cells(records, pairs.len());
-    let named = mode_of(field(line, 1));
-    match named {
-        Named::In(mode) => call(
+impl Answers for Rows {
+    // reasons mode, words, scalars, scratch cells, records => ok end:reason,.. edges
+    // reasons_pool mode, the pool's cells, scalars, scratch cells, records => the same
+    fn answer(&mut self, rt: &impl Print, line: &[u8]) -> io::Result<()> {
+        let cells = match field(line, 0) {
+            b"reasons" => hold(rt, field(line, 2), &mut self.text, &mut self.pool),
+            b"reasons_pool" => read_cells(rt, field(line, 2), &mut self.pool),
+            _ => return print!(rt; "?"),
+        };
+        let n = read_cells(rt, field(line, 3), &mut self.text);
+        let room = scratch_cells(rt, field(line, 4), n, self.scratch.len());
+        let records = lent(rt, field(line, 5), self.pairs.len() / 2);
+        let Some(mode) = mode_of(field(line, 1)) else {
+            return print!(rt; "?");
+        };
+        let told = self.pairs.len().min(2 * records + 1);
+        tell_reasons(
             rt,
-            first(text, n),
-            pool,
-            &mut pairs[0..room],
-            &mut scratch[0..cells],
+            &self.text[..n],
+            first(&self.pool, cells),
+            &mut self.pairs[..told],
+            &mut self.scratch[..room],
             mode,
-        ),
-        Named::Nothing => print(rt, b"?"),
+        )
     }
 }
 
-// The cells of so many records, and one more; at most `most`.
-fn pair_cells(records: usize, most: usize) -> usize
-    ensures { result ≤ most }
-{
-    if records < most / 2 {
-        return 2 * records + 1;
-    }
-    most
-}
-
-// The cells of so many pairs; at most `most`.
-fn told_cells(records: usize, most: usize) -> usize
-    ensures { result ≤ most }
-{
-    if records <= most / 2 {
-        return 2 * records;
-    }
-    most
-}
-
-fn call(
+fn tell_reasons(
     rt: &impl Print,
     text: &[u32],
     pool: &[u32],
     pairs: &mut [u32],
     scratch: &mut [u32],
     mode: Mode,
-) {
+) -> io::Result<()> {
     smear(pairs);
     smear(scratch);
-    let answer = cut_reasons(text, pool, pairs, scratch, mode);
-    match answer {
-        Ok(Ends { ends: n, edges }) => {
-            let cells = told_cells(n, pairs.len());
+    match cut_reasons(text, pool, pairs, scratch, mode) {
+        Ok(Ends { ends, edges }) => {
+            let told = first(pairs, ends.saturating_mul(2));
             expect_zero(rt, scratch);
-            expect_leftovers(rt, pairs, cells);
-            print(rt, b"ok ");
-            print_pairs(rt, first(pairs, cells));
-            print(rt, b" ");
-            print_number(rt, edges);
+            expect_leftovers(rt, pairs, told.len());
+            print!(rt; "ok {} {edges}", Pairs(told, ','))
         }
         Err(r) => {
-            let number = r.number();
-            if number == 6 {
-                expect_zero(rt, scratch);
-            } else {
-                expect_leftovers(rt, scratch, 0);
+            match r {
+                Refusal::OutputTooShort(_) => expect_zero(rt, scratch),
+                _ => expect_leftovers(rt, scratch, 0),
             }
             expect_leftovers(rt, pairs, 0);
-            print_refusal(rt, r);
+            print!(rt; "{}", Refused(r))
         }
     }
-}
-
-fn number(x: u32) -> usize {
-    x as usize
-}
-
-// Pairs, `-` for none.
-fn print_pairs(rt: &impl Print, pairs: &[u32]) {
-    if pairs.len() == 0 {
-        print(rt, b"-");
-        return;
-    }
-    let mut at = 0;
-    while at < pairs.len() {
-        print_between(rt, at);
-        print_number(rt, number(pairs[at]));
-        at += 1;
-    }
-}
-
-// What stands before the cell at a place: a colon in a pair, a comma between two.
-fn print_between(rt: &impl Print, at: usize) {
-    if at == 0 {
-        return;
-    }
-    if at % 2 == 1 {
-        print(rt, b":");
-        return;
-    }
-    print(rt, b",");
 }

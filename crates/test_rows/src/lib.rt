@@ -1,6 +1,7 @@
 // Rows that a test lends: full of leftovers before a call, and looked at after it.
-//   mode_of(name)                    the mode that the field of a line names
+//   mode_of(name) -> Option<Mode>    the mode that the field of a line names
 //   scratch_cells(text, n, most)     how many scratch cells the field of a line asks for
+//   Leftover                         what an earlier call may have left in a cell, for each type
 //   smear(row)                       fills a row with what an earlier call may have left
 //   expect_leftovers(row, start)     writes a `?` where a cell from `start` on is not that
 //   expect_zero(row)                 writes a `?` where a cell isn't zero
@@ -11,106 +12,92 @@ ghost use Rattle.std.specs.Prelude.{◌≤◌};
 
 use newmm_answers::scratch_for;
 use newmm_rules::Mode;
-use test_lines::{is, lent, print};
+use test_lines::lent;
 
 // As many scratch cells as a text of n characters needs for `*`, at most `most`.
 pub fn scratch_cells(rt: &impl Print, text: &[u8], n: usize, most: usize) -> usize
     ensures { result ≤ most }
 {
-    if is(text, b"*") {
-        if n <= 65536 {
-            let needed = scratch_for(n);
-            if needed < most {
-                return needed;
-            }
-        }
-        return most;
+    if matches!(text, b"*") && n <= 65536 {
+        return scratch_for(n).min(most);
     }
     lent(rt, text, most)
 }
 
-// What a line calls its mode.
-#[derive(Clone, Copy)]
-pub enum Named {
-    In(Mode),
-    Nothing,
+pub fn mode_of(name: &[u8]) -> Option<Mode> {
+    match name {
+        b"plain" => Some(Mode::Plain),
+        b"safe" => Some(Mode::Safe),
+        b"sheet" => Some(Mode::Sheet),
+        _ => None,
+    }
 }
 
-pub fn mode_of(name: &[u8]) -> Named {
-    if is(name, b"plain") {
-        return Named::In(Mode::Plain);
-    }
-    if is(name, b"safe") {
-        return Named::In(Mode::Safe);
-    }
-    if is(name, b"sheet") {
-        return Named::In(Mode::Sheet);
-    }
-    Named::Nothing
+// Cells of a row that is lent.
+pub trait Leftover: Copy + PartialEq + Drop {
+    // What an earlier call may have left at place k.
+    fn leftover(k: usize) -> Self;
 }
 
-// What an earlier call may have left: positions, and cells that are no position.
-fn leftover(k: usize) -> u32 {
-    if k % 2 == 0 {
-        return 4294967295;
+// Positions, and cells that are no position.
+impl Leftover for u32 {
+    fn leftover(k: usize) -> u32 {
+        if k % 2 == 0 { u32::MAX } else { 3 }
     }
-    3
 }
 
-pub fn smear(row: &mut [u32]) {
-    let mut k = 0;
-    while k < row.len() {
-        row[k] = leftover(k);
-        k += 1;
+impl Leftover for u64 {
+    fn leftover(k: usize) -> u64 {
+        if k % 2 == 0 { u64::MAX } else { 3 }
+    }
+}
+
+impl Leftover for u8 {
+    fn leftover(_: usize) -> u8 {
+        165
+    }
+}
+
+pub fn smear<T: Leftover>(row: &mut [T]) {
+    for (k, cell) in row.iter_mut().enumerate() {
+        *cell = T::leftover(k);
     }
 }
 
 // Whether each cell from `start` on is what `smear` put there.
-fn is_left(row: &[u32], start: usize) -> bool {
-    let mut k = start;
-    while k < row.len() {
-        if row[k] != leftover(k) {
-            return false;
-        }
-        k += 1;
-    }
-    true
+fn is_left<T: Leftover>(row: &[T], start: usize) -> bool {
+    row.iter()
+        .enumerate()
+        .skip(start)
+        .all(|(k, x)| *x == T::leftover(k))
 }
 
 fn is_zero(row: &[u32]) -> bool {
-    let mut k = 0;
-    while k < row.len() {
-        if row[k] != 0 {
-            return false;
-        }
-        k += 1;
-    }
-    true
+    row.iter().all(|x| *x == 0)
 }
 
 // Writes a `?` where a cell from `start` on isn't what `smear` put there.
-pub fn expect_leftovers(rt: &impl Print, row: &[u32], start: usize) {
+pub fn expect_leftovers<T: Leftover>(rt: &impl Print, row: &[T], start: usize) {
     if !is_left(row, start) {
-        print(rt, b"?");
+        let _ = print!(rt; "?");
     }
 }
 
 // Writes a `?` where a cell isn't zero.
 pub fn expect_zero(rt: &impl Print, row: &[u32]) {
     if !is_zero(row) {
-        print(rt, b"?");
+        let _ = print!(rt; "?");
     }
 }
 
 // Writes whether the cells are as they were lent, or all zero; a `?` where they are neither.
 pub fn print_left(rt: &impl Print, row: &[u32]) {
-    if is_left(row, 0) {
-        print(rt, b"kept");
-        return;
-    }
-    if is_zero(row) {
-        print(rt, b"zero");
-        return;
-    }
-    print(rt, b"?");
+    let state = if is_left(row, 0) {
+        "kept"
+    } else if is_zero(row) {
+        "zero"
+    } else {
+        "?"
+    };
+    let _ = print!(rt; "{state}");
 }

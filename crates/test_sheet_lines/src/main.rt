@@ -2,50 +2,51 @@
 // program writes.
 #![tactic(auto)]
 
-ghost use Rattle.std.specs.Prelude.{◌<◌};
+ghost use Rattle.std.specs.Prelude.{◌<◌, ◌≤◌, length};
 
 use sheet_bytes::{front, keep};
 use sheet_input::{feed, finish};
 use sheet_steps::{LINE, POOL, POSITIONS, REPLY, SCRATCH, TEXT};
-use test_lines::{behind, field, is, lent, part_at, print, read_bytes, read_input};
+use std::io;
+use test_lines::{Answers, Bytes, field, lent, read_bytes, replay};
 
 const INPUT: usize = 524288;
 
-// The bytes of one run, and what it writes, as bytes and in hexadecimal.
+// The bytes of one run, and twice as many as are shown of what it writes.
 const RUN: usize = 262144;
 
-fn main(rt: HostRuntime) {
-    let mut input = [0u8; INPUT];
-    let mut run = [0u8; RUN];
-    let mut written = [0u8; RUN];
-    let n = read_input(&rt, &mut rt.stdin(), &mut input);
-    replay(&rt, &input[..n], &mut run, &mut written);
+fn main(rt: HostRuntime) -> io::Result<()> {
+    let mut input = vec![in rt.alloc(); 0u8; INPUT]?;
+    let mut rows = Rows {
+        run: vec![in rt.alloc(); 0u8; RUN]?,
+        written: vec![in rt.alloc(); 0u8; RUN]?,
+    };
+    replay(&rt, &mut rt.stdin(), &mut input, &mut rows)
 }
 
-fn replay(rt: &impl Print, input: &[u8], run: &mut [u8], written: &mut [u8]) {
-    let mut at = 0;
-    while at < input.len() {
-        answer(rt, part_at(input, at, b'\n'), run, written);
-        print(rt, b"\n");
-        at = behind(input, at, b'\n');
-    }
+#[derive(Drop)]
+struct Rows {
+    run: Vec<u8>,
+    written: Vec<u8>,
 }
 
-// program bytes, most bytes at a time => ok bytes
-fn answer(rt: &impl Print, line: &[u8], run: &mut [u8], written: &mut [u8]) {
-    if !is(field(line, 0), b"program") {
-        print(rt, b"?");
-        return;
+impl Answers for Rows {
+    // program bytes, most bytes at a time => ok bytes, `-` for none
+    fn answer(&mut self, rt: &impl Print, line: &[u8]) -> io::Result<()> {
+        if !matches!(field(line, 0), b"program") {
+            return print!(rt; "?");
+        }
+        let n = read_bytes(rt, field(line, 1), &mut self.run);
+        let most = lent(rt, field(line, 2), self.run.len());
+        if most == 0 {
+            return print!(rt; "?");
+        }
+        let k = program(&self.run[..n], most, &mut self.written);
+        match front(&self.written, k) {
+            [] => print!(rt; "ok -"),
+            bytes => print!(rt; "ok {}", Bytes(front(bytes, RUN / 2))),
+        }
     }
-    let n = read_bytes(rt, field(line, 1), run);
-    let most = lent(rt, field(line, 2), run.len());
-    if most == 0 {
-        print(rt, b"?");
-        return;
-    }
-    let k = program(&run[..n], most, written);
-    print(rt, b"ok ");
-    print_bytes(rt, front(written, k), run);
 }
 
 // A run from a fresh pool. Answers how many bytes are written.
@@ -59,7 +60,7 @@ fn program(bytes: &[u8], most: usize, written: &mut [u8]) -> usize
     let mut ends = [0u32; TEXT];
     let mut scratch = [0u32; SCRATCH];
     let mut out = [0u8; REPLY];
-    trie_char::fresh(&mut pool);
+    let _ = trie_char::fresh(&mut pool);
     feed_all(
         bytes,
         most,
@@ -90,37 +91,16 @@ fn feed_all(
 {
     let mut used = 0;
     let mut kept = 0;
-    let mut at = 0;
-    while at < bytes.len() {
-        let part = front(&bytes[at..], most);
+    let mut rest = bytes;
+    while !rest.is_empty() {
+        let part = front(rest, most);
         let fed = feed(
             part, line, kept, pool, scalars, positions, ends, scratch, out,
         );
         used = keep(written, used, front(out, fed.written));
         kept = fed.kept;
-        at += fed.taken;
+        rest = &rest[fed.taken..];
     }
     let n = finish(line, kept, pool, scalars, positions, ends, scratch, out);
     keep(written, used, front(out, n))
-}
-
-// The bytes in hexadecimal, two digits each, `-` for none.
-fn print_bytes(rt: &impl Print, bytes: &[u8], space: &mut [u8]) {
-    if bytes.len() == 0 {
-        print(rt, b"-");
-        return;
-    }
-    let mut digits = [0u8; 16];
-    let mut used = 0;
-    let mut i = 0;
-    while i < bytes.len() {
-        let k = io::hex(wide(bytes[i]), 2, &mut digits);
-        used = keep(space, used, &digits[..k]);
-        i += 1;
-    }
-    print(rt, front(space, used));
-}
-
-fn wide(b: u8) -> u64 {
-    b as u64
 }

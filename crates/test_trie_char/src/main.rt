@@ -1,13 +1,15 @@
 // Replays the test vectors of `trie_char`: a line with the answer for each line of standard input.
 #![tactic(auto)]
 
-use cells::wide;
+ghost use Rattle.std.specs.Prelude.{◌≤◌, length};
+
 use refusal::Refusal;
+use std::io;
 use test_lines::{
-    behind, field, first, head, is, lent, part_at, print, print_cells, print_number, print_numbers,
-    print_refusal, read_cells, read_input, tail,
+    Answers, Cells, Joined, Refused, Told, field, first, lent, opened, parts_of, read_cells, replay,
 };
-use test_words::{has_class, hold, read_class, read_word};
+use test_words::{hold, read_class, read_word};
+use trie_char_read::{amount_of_words, contain, prefix_lengths};
 
 const INPUT: usize = 393216;
 
@@ -17,208 +19,155 @@ const CELLS: usize = 100000;
 
 const OUT: usize = 256;
 
-fn main(rt: HostRuntime) {
-    let mut input = [0u8; INPUT];
-    let mut pool = [0u32; POOL];
-    let mut cells = [0u32; CELLS];
-    let mut out = [0u32; OUT];
-    let n = read_input(&rt, &mut rt.stdin(), &mut input);
-    replay(&rt, &input[..n], &mut pool, &mut cells, &mut out);
+// A cell that no dictionary has.
+const NO_CELL: u32 = u32::MAX;
+
+fn main(rt: HostRuntime) -> io::Result<()> {
+    let mut input = vec![in rt.alloc(); 0u8; INPUT]?;
+    let mut rows = Rows {
+        pool: vec![in rt.alloc(); 0u32; POOL]?,
+        cells: vec![in rt.alloc(); 0u32; CELLS]?,
+        out: vec![in rt.alloc(); 0u32; OUT]?,
+    };
+    replay(&rt, &mut rt.stdin(), &mut input, &mut rows)
 }
 
-fn replay(rt: &impl Print, input: &[u8], pool: &mut [u32], cells: &mut [u32], out: &mut [u32]) {
-    let mut at = 0;
-    while at < input.len() {
-        answer(rt, part_at(input, at, b'\n'), pool, cells, out);
-        print(rt, b"\n");
-        at = behind(input, at, b'\n');
-    }
+#[derive(Drop)]
+struct Rows {
+    pool: Vec<u32>,
+    cells: Vec<u32>,
+    out: Vec<u32>,
 }
 
-fn answer(rt: &impl Print, line: &[u8], pool: &mut [u32], cells: &mut [u32], out: &mut [u32]) {
-    let op = field(line, 0);
-    if is(op, b"dict") {
-        dict(rt, line, pool, cells, out);
-        return;
-    }
-    if is(op, b"prefix") {
-        prefix(rt, line, pool, cells, out);
-        return;
-    }
-    if is(op, b"pool") {
-        given(rt, line, pool);
-        return;
-    }
-    print(rt, b"?");
-}
-
-// Cells that no dictionary has.
-fn smear(pool: &mut [u32]) {
-    let mut k = 0;
-    while k < pool.len() {
-        pool[k] = 4294967295;
-        k += 1;
-    }
-}
-
-// dict pool cells, script => ok answers
-fn dict(rt: &impl Print, line: &[u8], pool: &mut [u32], cells: &mut [u32], out: &mut [u32]) {
-    let n = lent(rt, field(line, 1), pool.len());
-    smear(pool);
-    print(rt, b"ok ");
-    script(rt, field(line, 2), &mut pool[0..n], cells, out);
-}
-
-fn script(rt: &impl Print, steps: &[u8], pool: &mut [u32], cells: &mut [u32], out: &mut [u32]) {
-    let mut at = 0;
-    while at < steps.len() {
-        if 0 < at {
-            print(rt, b";");
+impl Answers for Rows {
+    fn answer(&mut self, rt: &impl Print, line: &[u8]) -> io::Result<()> {
+        match field(line, 0) {
+            b"dict" => self.dict(rt, line),
+            b"prefix" => self.prefix(rt, line),
+            b"pool" => self.given(rt, line),
+            _ => print!(rt; "?"),
         }
-        step(rt, part_at(steps, at, b';'), pool, cells, out);
-        at = behind(steps, at, b';');
     }
 }
 
-fn step(rt: &impl Print, text: &[u8], pool: &mut [u32], cells: &mut [u32], out: &mut [u32]) {
-    let op = head(text);
-    if op == b'f' {
-        let answer = trie_char::fresh(pool);
-        told(rt, answer);
-        return;
+impl Rows {
+    // dict pool cells, script => ok answers
+    fn dict(&mut self, rt: &impl Print, line: &[u8]) -> io::Result<()> {
+        let n = lent(rt, field(line, 1), self.pool.len());
+        self.pool.fill(NO_CELL);
+        print!(rt; "ok ")?;
+        let pool = &mut self.pool[..n];
+        script(rt, field(line, 2), pool, &mut self.cells, &mut self.out)
     }
-    if op == b'#' {
-        let answer = trie_char_read::amount_of_words(pool);
-        told(rt, answer);
-        return;
+
+    // prefix words, scalars, out cells => ok lengths
+    fn prefix(&mut self, rt: &impl Print, line: &[u8]) -> io::Result<()> {
+        self.pool.fill(NO_CELL);
+        let held = hold(rt, field(line, 1), &mut self.cells, &mut self.pool);
+        let n = read_cells(rt, field(line, 2), &mut self.cells);
+        let room = lent(rt, field(line, 3), self.out.len());
+        let out = &mut self.out[..room];
+        match prefix_lengths(first(&self.pool, held), &self.cells[..n], out) {
+            Ok(count) => print!(rt; "ok {}", Joined(first(out, count), ',')),
+            Err(r) => print!(rt; "{}", Refused(r)),
+        }
     }
-    if op == b'n' {
-        in_use(rt, pool);
-        return;
+
+    // pool cells => ok words, or a refusal
+    fn given(&mut self, rt: &impl Print, line: &[u8]) -> io::Result<()> {
+        let n = read_cells(rt, field(line, 1), &mut self.pool);
+        match amount_of_words(&self.pool[..n]) {
+            Ok(words) => print!(rt; "ok {words}"),
+            Err(r) => print!(rt; "{}", Refused(r)),
+        }
     }
-    if op == b'c' {
-        print_cells(rt, pool);
-        return;
+}
+
+// Steps joined by `;`: each is an operator and what it is given.
+fn script(
+    rt: &impl Print,
+    steps: &[u8],
+    pool: &mut [u32],
+    cells: &mut [u32],
+    out: &mut [u32],
+) -> io::Result<()> {
+    for (i, text) in parts_of(steps, b';').enumerate() {
+        if i > 0 {
+            print!(rt; ";")?;
+        }
+        step(rt, text, pool, cells, out)?;
     }
-    let word = tail(text);
-    let n = read_word(rt, word, cells);
-    if has_class(word) {
-        class_step(rt, op, pool, first(cells, n), read_class(rt, word));
-        return;
+    Ok(())
+}
+
+fn step(
+    rt: &impl Print,
+    text: &[u8],
+    pool: &mut [u32],
+    cells: &mut [u32],
+    out: &mut [u32],
+) -> io::Result<()> {
+    let (op, given) = opened(text);
+    match op {
+        b'f' => {
+            let answer = trie_char::fresh(pool);
+            print!(rt; "{}", Told(answer))
+        }
+        b'#' => print!(rt; "{}", Told(amount_of_words(pool))),
+        b'n' => tell_nodes(rt, pool),
+        b'c' => print!(rt; "{}", Cells(pool)),
+        _ => {
+            let n = read_word(rt, given, cells);
+            word_step(rt, op, pool, &cells[..n], read_class(rt, given), out)
+        }
     }
-    word_step(rt, op, pool, first(cells, n), out);
 }
 
 // Only an add gives a class.
-fn class_step(rt: &impl Print, op: u8, pool: &mut [u32], word: &[u32], class: u16) {
-    if op == b'+' {
-        let answer = trie_char::add_class(pool, word, class);
-        told(rt, answer);
-        return;
+fn word_step(
+    rt: &impl Print,
+    op: u8,
+    pool: &mut [u32],
+    word: &[u32],
+    class: Option<u16>,
+    out: &mut [u32],
+) -> io::Result<()> {
+    match (op, class) {
+        (b'+', Some(class)) => {
+            let answer = trie_char::add_class(pool, word, class);
+            print!(rt; "{}", Told(answer))
+        }
+        (b'+', None) => {
+            let answer = trie_char::add(pool, word);
+            print!(rt; "{}", Told(answer))
+        }
+        (b'-', None) => {
+            let answer = trie_char::remove(pool, word);
+            print!(rt; "{}", Told(answer))
+        }
+        (b'?', None) => tell_word(rt, contain(pool, word)),
+        (b'p', None) => match prefix_lengths(pool, word, out) {
+            Ok(n) => print!(rt; "{}", Joined(first(out, n), '.')),
+            Err(r) => print!(rt; "{}", Told(Err(r))),
+        },
+        _ => print!(rt; "?"),
     }
-    print(rt, b"?");
-}
-
-fn word_step(rt: &impl Print, op: u8, pool: &mut [u32], word: &[u32], out: &mut [u32]) {
-    if op == b'+' {
-        let answer = trie_char::add(pool, word);
-        told(rt, answer);
-        return;
-    }
-    if op == b'-' {
-        let answer = trie_char::remove(pool, word);
-        told(rt, answer);
-        return;
-    }
-    if op == b'?' {
-        held(rt, pool, word);
-        return;
-    }
-    if op == b'p' {
-        lengths(rt, pool, word, out);
-        return;
-    }
-    print(rt, b"?");
-}
-
-// A report, or a refusal as a script tells it.
-fn told(rt: &impl Print, answer: Result<usize, Refusal>) {
-    match answer {
-        Ok(n) => print_number(rt, n),
-        Err(r) => refused(rt, r),
-    }
-}
-
-fn refused(rt: &impl Print, r: Refusal) {
-    print(rt, b"!");
-    print_number(rt, r.number() as usize);
-    print(rt, b".");
-    print_number(rt, r.detail());
 }
 
 // Whether the word is held, and its class.
-fn held(rt: &impl Print, pool: &[u32], word: &[u32]) {
-    let answer = trie_char_read::contain(pool, word);
+fn tell_word(rt: &impl Print, answer: Result<Option<u16>, Refusal>) -> io::Result<()> {
     match answer {
-        Ok(None) => print(rt, b"0.0"),
-        Ok(Some(class)) => {
-            print(rt, b"1.");
-            print_number(rt, class as usize);
-        }
-        Err(r) => refused(rt, r),
-    }
-}
-
-fn lengths(rt: &impl Print, pool: &[u32], text: &[u32], out: &mut [u32]) {
-    let answer = trie_char_read::prefix_lengths(pool, text, out);
-    match answer {
-        Ok(n) => print_numbers(rt, first(out, n), b'.'),
-        Err(r) => refused(rt, r),
+        Ok(Some(class)) => print!(rt; "1.{class}"),
+        Ok(None) => print!(rt; "0.0"),
+        Err(r) => print!(rt; "{}", Told(Err(r))),
     }
 }
 
 // The nodes in use, a cell of the root.
-fn in_use(rt: &impl Print, pool: &[u32]) {
-    let answer = trie_char_read::amount_of_words(pool);
-    match answer {
-        Ok(_) => {
-            if 0 < pool.len() {
-                print_number(rt, wide(pool[0]));
-            }
-        }
-        Err(r) => refused(rt, r),
-    }
-}
-
-// prefix words, scalars, out cells => ok lengths
-fn prefix(rt: &impl Print, line: &[u8], pool: &mut [u32], cells: &mut [u32], out: &mut [u32]) {
-    smear(pool);
-    let held = hold(rt, field(line, 1), cells, pool);
-    let n = read_cells(rt, field(line, 2), cells);
-    let room = lent(rt, field(line, 3), out.len());
-    starts(rt, first(pool, held), first(cells, n), &mut out[0..room]);
-}
-
-fn starts(rt: &impl Print, pool: &[u32], text: &[u32], out: &mut [u32]) {
-    let answer = trie_char_read::prefix_lengths(pool, text, out);
-    match answer {
-        Ok(n) => {
-            print(rt, b"ok ");
-            print_numbers(rt, first(out, n), b',');
-        }
-        Err(r) => print_refusal(rt, r),
-    }
-}
-
-// pool cells => ok words, or a refusal
-fn given(rt: &impl Print, line: &[u8], pool: &mut [u32]) {
-    let n = read_cells(rt, field(line, 1), pool);
-    let answer = trie_char_read::amount_of_words(first(pool, n));
-    match answer {
-        Ok(words) => {
-            print(rt, b"ok ");
-            print_number(rt, words);
-        }
-        Err(r) => print_refusal(rt, r),
+fn tell_nodes(rt: &impl Print, pool: &[u32]) -> io::Result<()> {
+    match (amount_of_words(pool), pool.first()) {
+        (Ok(_), Some(nodes)) => print!(rt; "{nodes}"),
+        (Ok(_), None) => Ok(()),
+        (Err(r), _) => print!(rt; "{}", Told(Err(r))),
     }
 }

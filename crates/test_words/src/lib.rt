@@ -6,7 +6,7 @@ ghost use Rattle.std.specs.Prelude.{◌≤◌, length};
 ghost use Rattle.io.specs.Counts.{IsPrefixLen};
 
 use refusal::Refusal;
-use test_lines::{behind, number, part_at, print, read_cells};
+use test_lines::{cut_at, number, parts_of, read_cells};
 
 // Makes a dictionary of the words at the front of pool, with a node for each character of each, and
 // answers how many cells it has. Where the words don't fit it writes a `?`. The cells of row are
@@ -15,9 +15,9 @@ pub fn hold(rt: &impl Print, words: &[u8], row: &mut [u32], pool: &mut [u32]) ->
     ensures { result ≤ length pool.new }
 {
     let cells = cells_for(rt, words, row, pool.len());
-    let made = trie_char::fresh(&mut pool[0..cells]);
+    let made = trie_char::fresh(&mut pool[..cells]);
     expect_done(rt, made);
-    add_words(rt, words, row, &mut pool[0..cells]);
+    add_words(rt, words, row, &mut pool[..cells]);
     cells
 }
 
@@ -26,18 +26,12 @@ fn cells_for(rt: &impl Print, words: &[u8], row: &mut [u32], most: usize) -> usi
     ensures { result ≤ most }
 {
     let room = most / 8;
-    let mut nodes = 1;
-    let mut at = 0;
-    while at < words.len() {
-        let n = read_word(rt, part_at(words, at, b','), row);
+    let mut nodes = 1usize;
+    for word in parts_of(words, b',') {
+        nodes = nodes.saturating_add(read_word(rt, word, row));
         if room < nodes {
             return most;
         }
-        if room - nodes < n {
-            return most;
-        }
-        nodes += n;
-        at = behind(words, at, b',');
     }
     if room < nodes {
         return most;
@@ -46,13 +40,11 @@ fn cells_for(rt: &impl Print, words: &[u8], row: &mut [u32], most: usize) -> usi
 }
 
 fn add_words(rt: &impl Print, words: &[u8], row: &mut [u32], pool: &mut [u32]) {
-    let mut at = 0;
-    while at < words.len() {
-        let word = part_at(words, at, b',');
+    for word in parts_of(words, b',') {
         let n = read_word(rt, word, row);
-        let added = trie_char::add_class(pool, &row[..n], read_class(rt, word));
+        let class = read_class(rt, word).unwrap_or(0);
+        let added = trie_char::add_class(pool, &row[..n], class);
         expect_done(rt, added);
-        at = behind(words, at, b',');
     }
 }
 
@@ -60,31 +52,26 @@ fn add_words(rt: &impl Print, words: &[u8], row: &mut [u32], pool: &mut [u32]) {
 pub fn read_word(rt: &impl Print, word: &[u8], row: &mut [u32]) -> usize
     ensures { IsPrefixLen result row.new }
 {
-    read_cells(rt, part_at(word, 0, b':'), row)
+    read_cells(rt, cut_at(word, b':').0, row)
 }
 
-// Whether a word has a class behind it.
-pub fn has_class(word: &[u8]) -> bool {
-    behind(word, 0, b':') < word.len()
-}
-
-// The class behind a word, 0 where it has none. Where it is no number up to 65,535 a `?` is
-// written.
-pub fn read_class(rt: &impl Print, word: &[u8]) -> u16 {
-    if !has_class(word) {
-        return 0;
+// The class behind a word. Where it is no number up to 65,535 a `?` is written, and it is 0.
+pub fn read_class(rt: &impl Print, word: &[u8]) -> Option<u16> {
+    let (_, behind) = cut_at(word, b':');
+    if behind.is_empty() {
+        return None;
     }
-    let class = number(rt, part_at(word, behind(word, 0, b':'), b':'));
-    if 65535 < class {
-        print(rt, b"?");
-        return 0;
+    match u16::try_from(number(rt, cut_at(behind, b':').0)) {
+        Ok(class) => Some(class),
+        Err(_) => {
+            let _ = print!(rt; "?");
+            Some(0)
+        }
     }
-    class as u16
 }
 
-fn expect_done(rt: &impl Print, a: Result<usize, Refusal>) {
-    match a {
-        Ok(_) => {}
-        Err(_) => print(rt, b"?"),
+fn expect_done(rt: &impl Print, done: Result<usize, Refusal>) {
+    if done.is_err() {
+        let _ = print!(rt; "?");
     }
 }

@@ -1,5 +1,0 @@
-use Rattle.std.proofs.Common.{◌-◌, arith, length-set}
-use Rattle.test_char_string.proofs.count_up.Goals as goal
-
-pub loop-i-preserved : goal.loop-i-preserved
-loop-i-preserved c = (simp length-set (omega arith), simp length-set (omega arith))

@@ -1,8 +1,0 @@
-use Prim.Native.Nat.{◌-◌}
-use Rattle.test_reasons.proofs.print_pairs.Goals as goal
-
-pub loop-at-init : goal.loop-at-init
-loop-at-init g c = tt
-
-pub loop-at-preserved : goal.loop-at-preserved
-loop-at-preserved g c = tt
