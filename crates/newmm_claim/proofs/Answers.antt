@@ -22,7 +22,7 @@ use Rattle.newmm_answers.specs.inner.Passing.{Passes}
 use Rattle.newmm_answers.proofs.Checks.{known, room}
 use Rattle.newmm_word_step.specs.inner.Walks.{given_by}
 use Rattle.newmm_claim.specs.declared.Verdict as declared
-use Rattle.newmm_claim.specs.Answers.{verdict_told, claim_told, claim, Claims}
+use Rattle.newmm_claim.specs.Answers.{ClaimAnswer, verdict_told, claim_told, claim, Claims}
 use Rattle.newmm_claim.specs.inner.Judging.{Judges}
 
 -- ---- a call that passes
@@ -40,28 +40,21 @@ module _ (text pool : List ℕ) {cells n : ℕ} (p : Passes text (meaning pool) 
       }
 
 module _ (text pool claimed scratch : List ℕ) {n : ℕ} (p : Passes text (meaning pool) (length scratch)) (nodes : n ≡ min (length pool / 8) 1048576) where
-  all_zero : (row : List ℕ) (k : ℕ) → length row ≡ length scratch → k ≡ length row → replicate {A = ℕ} k 0 ++ drop k row ≡ replicate {A = ℕ} (length scratch) 0
-  all_zero row k long all =
-      ap (λ (j : ℕ). replicate {A = ℕ} j 0 ++ drop j row) all
-      ∙ ap (λ (l : List ℕ). replicate {A = ℕ} (length row) 0 ++ l) (drop-length row)
-      ∙ append-nil (replicate {A = ℕ} (length row) 0)
-      ∙ ap (λ (j : ℕ). replicate {A = ℕ} j 0) long
-
   pub judged : {r : declared.Verdict} → r ≡ verdict_told (verdict (given_by text (take (8 * n) pool)) claimed)
-      → (row : List ℕ) (k : ℕ) {row' : List ℕ} → length row ≡ length scratch → k ≡ length row → row' ≡ replicate {A = ℕ} k 0 ++ drop k row → Claims (claim text pool claimed scratch) (Ok r) row'
-  judged is row k long all e = (
+      → {row' : List ℕ} → row' ≡ replicate {A = ℕ} (length scratch) 0 → Claims (claim text pool claimed scratch) (Ok r) row'
+  judged is e = (
     ap Ok (is ∙ ap (λ (f : Words). verdict_told (verdict (given f text) claimed)) (sym (held_part pool n nodes (known_is pool (known p)))))
         ∙ sym (ap (λ (x : Result ℕ Refusal). claim_told x (verdict (given (held (meaning pool)) text) claimed)) p.accepted),
-    e ∙ all_zero row k long all ∙ sym (ap (λ (x : Result ℕ Refusal). cleared x scratch) p.accepted),
+    e ∙ sym (ap (λ (x : Result ℕ Refusal). cleared x scratch) p.accepted),
   )
 
 -- ---- a call that does not
 
-pub early_claims : (text pool claimed scratch : List ℕ) {a : Result ℕ Refusal} {r : Refusal} → a ≡ answer (first_causes text (meaning pool) (length scratch)) (length text) → a ≡ Err r
-    → Claims (claim text pool claimed scratch) (Err r) scratch
-early_claims text pool claimed scratch {a} {r} is no' =
+pub early_claims : (text pool claimed scratch : List ℕ) {r : Refusal} → Err r ≡ answer (first_causes text (meaning pool) (length scratch)) (length text) → {a : ClaimAnswer} → a ≡ Err r
+    → Claims (claim text pool claimed scratch) a scratch
+early_claims text pool claimed scratch {r} is handed =
     let refused : answer (first_causes text (meaning pool) (length scratch)) 0 ≡ Err r =
-    sym (still (first_causes text (meaning pool) (length scratch)) (length text) 0 (sym is ∙ no')) in (
-      sym (ap (λ (x : Result ℕ Refusal). claim_told x (verdict (given (held (meaning pool)) text) claimed)) refused),
+    sym (still (first_causes text (meaning pool) (length scratch)) (length text) 0 (sym is)) in (
+      handed ∙ sym (ap (λ (x : Result ℕ Refusal). claim_told x (verdict (given (held (meaning pool)) text) claimed)) refused),
       sym (ap (λ (x : Result ℕ Refusal). cleared x scratch) refused),
     )

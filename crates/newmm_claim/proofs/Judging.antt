@@ -52,8 +52,10 @@ module _ {g : Given} {claimed : List ℕ} {b k : ℕ} (j : Judging g claimed b k
       j.rest ∙ ap (verdict_from g k b) (drop_of_length-le claimed {i = k} all)
       ∙ ap (λ (u : Bool). cond u right (wrong k)) h
 
-  pub judge_short : b < size g → length claimed ≤ k → Wrong k ≡ verdict_told (verdict g claimed)
-  judge_short h all = sym (ap verdict_told (none_left all false (ne_eqb b (size g) (λ q. omega arith))))
+  pub judge_short : k ≤ length claimed → b < size g → length claimed ≤ k → Wrong (length claimed) ≡ verdict_told (verdict g claimed)
+  judge_short upto h all =
+      let z : length claimed ≡ k = omega arith in
+      ap Wrong z ∙ sym (ap verdict_told (none_left all false (ne_eqb b (size g) (λ q. omega arith))))
 
   module _ (through : size g ≤ b) where
     pub judge_right : length claimed ≤ k → Right ≡ verdict_told (verdict g claimed)
@@ -70,7 +72,3 @@ module _ {g : Given} {claimed : List ℕ} {b k : ℕ} (j : Judging g claimed b k
 -- what the call on a token asks
 pub place_of : {text pool flags : List ℕ} {b : ℕ} → Judges text pool flags → b < length text → Place text pool flags b
 place_of j h = record { inside = h; root_is = j.root_is; flags_are = j.flags_are }
-
--- less of the text is left
-pub onward : (g : Given) (b e : ℕ) {t : Bool} → t ≡ token_right g b e → t ≡ true → b < e
-onward g b e r s = (spans (right_token g b e (sym r ∙ s))).0

@@ -1,5 +1,8 @@
 use native.Mathlib.Omega.{arith}
-use mathlib.Core.Path.{refl, sym}
+use Prim.Native.Nat.{ℕ}
+use mathlib.Core.Path.{◌≡◌, refl, sym, ◌∙◌, ap}
+use lib.ListN.{length, replicate}
+use Rattle.std.proofs.lemmas.Grind.{common_steps}
 use lib.Seq.{length-take-le}
 use Rattle.trie_check.proofs.Parts.{long}
 use Rattle.newmm_claim.proofs.Answers.{flags_fit, judges, judged}
@@ -26,6 +29,7 @@ judge-r-requires c =
 
 pub returns : goal.returns
 returns c =
+    let e : c.fill.new.self ≡ replicate (length c.tcc_flags.new.row) 0 = grind (arith, common_steps) in
     judged c.args.text.now c.args.pool.now c.args.claimed.now c.args.scratch.now
-    c.requires c.capacity-cells.ensures c.judge-r.ensures c.tcc_flags.new.row _
-    c.tcc_flags.auto.row refl c.clear_first.ensures
+    c.requires c.capacity-cells.ensures c.judge-r.ensures
+    (e ∙ ap (λ (k : ℕ). replicate {A = ℕ} k 0) c.tcc_flags.auto.row)

@@ -5,14 +5,14 @@ use Rattle.newmm_claim.proofs.token_right.Goals as goal
 pub returns-in-Here : goal.returns-in-Here
 returns-in-Here c =
     word_here (given_by c.args.text.now c.args.pool.now) c.args.b c.args.e
-    c.words_at-found.ensures c.in-Here.is
+    c.words_at.ensures c.in-Here.is
 
 pub returns-in-Elsewhere : goal.returns-in-Elsewhere
 returns-in-Elsewhere c =
     word_elsewhere (given_by c.args.text.now c.args.pool.now) c.args.b c.args.e
-    c.words_at-found.ensures c.in-Elsewhere.is
+    c.words_at.ensures c.in-Elsewhere.is
 
 pub returns-in-Nowhere : goal.returns-in-Nowhere
 returns-in-Nowhere c =
-    no_word (given_by c.args.text.now c.args.pool.now) c.args.b c.args.e c.words_at-found.ensures
+    no_word (given_by c.args.text.now c.args.pool.now) c.args.b c.args.e c.words_at.ensures
     c.requires.inside c.in-Nowhere.is c.token_end.ensures
