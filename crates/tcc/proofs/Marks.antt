@@ -6,7 +6,7 @@ use mathlib.Core.Path.{◌≡◌, refl, sym, ◌∙◌, ap}
 use mathlib.Core.Bool.{Bool, true, false, ◌||◌}
 use mathlib.Core.List.{List, [], ◌∷◌, ◌++◌}
 use lib.ListN.{length, get_or, set, drop, replicate, length-append, length-drop, length-set, length-replicate, get_or-replicate, get_or-append}
-use lib.Seq.{get_or-set_same, get_or-set_other, get_or-drop, get_or-append-add, ext_get_or, drop_at}
+use lib.Seq.{get_or-set_same, get_or-set_other, get_or-drop, get_or-append-add, ext_get_or}
 use lib.Dec.{ltb, eqb}
 use borrow.Author.Tests.{ltb-true, ltb-false, eqb-true, eqb-false, ne_eqb}
 use Rattle.tcc_rules.specs.Clusters.{cluster_end}
@@ -145,11 +145,3 @@ marked_all {text} {old} {row} {p} room m h = ext_get_or 0 row (end_flags text ++
         go false b =
             let t = ltb-false (length text) k b in
             m.low k (omega arith) ∙ sym (ends_at text (drop (length text + 1) old) k t)
-
--- a row whose first n cells were cleared
-module _ (old : List ℕ) {row : List ℕ} (n : ℕ) (h : row ≡ replicate n 0 ++ drop n old) where
-  pub cleared_behind : drop n row ≡ drop n old
-  cleared_behind = ap (drop n) h ∙ drop_at (replicate n 0) (drop n old) n (length-replicate {A = ℕ} n 0)
-
-  pub cleared_whole : row ≡ replicate n 0 ++ drop n row
-  cleared_whole = h ∙ ap (λ (l : List ℕ). replicate {A = ℕ} n 0 ++ l) (sym cleared_behind)

@@ -8,7 +8,6 @@ ghost use Rattle.tcc_rules.specs.Clusters.{cluster_ends};
 ghost use Rattle.tcc.specs.Answers.{clusters_answer};
 ghost use Rattle.tcc.specs.Flags.{end_flags};
 
-use cells::clear_first;
 use char_string_scalars::check_text;
 use refusal::Refusal;
 use tcc_match::cluster_end;
@@ -18,6 +17,7 @@ fn count_ends(text: &[u32]) -> usize
 {
     let mut p = 0;
     let mut n = 0;
+    // Kept: (3) a cluster tells where the next one starts: an own iterator would be this loop too.
     while p < text.len() {
         p = cluster_end(text, p);
         n += 1;
@@ -33,6 +33,7 @@ fn put_ends(text: &[u32], out: &mut [u32]) -> usize
 {
     let mut p = 0;
     let mut n = 0;
+    // Kept: (3) as in count_ends.
     while p < text.len() {
         p = cluster_end(text, p);
         out[n] = p as u32;
@@ -67,6 +68,7 @@ pub fn mark_ends(text: &[u32], row: &mut [u32])
         end_flags text.now ++ drop (length text.now + 1) row.old }
 {
     let mut p = 0;
+    // Kept: (3) as in count_ends.
     while p < text.len() {
         p = cluster_end(text, p);
         row[p] = 1;
@@ -80,6 +82,6 @@ pub fn tcc_flags(text: &[u32], row: &mut [u32])
     ensures { row.new ≡
         end_flags text.now ++ drop (length text.now + 1) row.old }
 {
-    clear_first(row, text.len() + 1);
+    row[..text.len() + 1].fill(0);
     mark_ends(text, row);
 }

@@ -129,16 +129,13 @@ impl<'a> Engine<'a> {
     fn first_behind(self, past: usize, text: &[u32], p: usize) -> Option<Won>
         ensures { result ≡ found_in (drop past alternatives) text.now p }
     {
-        let mut k = past;
-        while k < ALTERNATIVES {
-            let here = self.match_alternative(k, text, p);
-            if let Some(end) = here {
+        for k in past..ALTERNATIVES {
+            if let Some(end) = self.match_alternative(k, text, p) {
                 return Some(Won {
                     number: k as u32 + 1,
                     end,
                 });
             }
-            k += 1;
         }
         None
     }

@@ -20,6 +20,7 @@ fn count_clusters(engine: Engine, text: &[u32]) -> usize
 {
     let mut p = 0;
     let mut n = 0;
+    // Kept: (3) a cluster tells where the next one starts: an own iterator would be this loop too.
     while p < text.len() {
         let won = engine.next_cluster(text, p);
         p = won.end;
@@ -40,6 +41,7 @@ fn put_clusters(engine: Engine, text: &[u32], ends: &mut [u32], winners: &mut [u
 {
     let mut p = 0;
     let mut n = 0;
+    // Kept: (3) as in count_clusters.
     while p < text.len() {
         let won = engine.next_cluster(text, p);
         p = won.end;
