@@ -4,12 +4,11 @@
 //   join_cells           two batches in one
 #![tactic(auto)]
 
-ghost use Rattle.std.specs.Prelude.{◌≡◌, false, ◌≤◌, length, take, ltb};
+ghost use Rattle.std.specs.Prelude.{◌≡◌, false, ◌≤◌, length, ltb};
 ghost use Rattle.figures_rules.specs.Figures.{figure_count, join_cell, joined, limit, full};
 ghost use Rattle.figures_rules.specs.Outcomes.{of_cut, of_refused, Reasons};
 ghost use Rattle.figures_cells.specs.inner.Reasons.{reasons_in};
 
-use cells::wide;
 use figures_rules::{FIGURES, MOST_EDGES, TEXTS, TOKENS};
 use newmm_reasons_answers::REASONS;
 
@@ -20,20 +19,18 @@ const MAX_TEXTS: u64 = 4294967295;
 
 const MAX_FIGURE: u64 = 18446744073709551615;
 
-// The figures of a text that was cut, by its characters, the cells of its k tokens and its edges.
-pub fn of_cut(characters: usize, cells: &[u32], k: usize, edges: usize) -> Figures
-    requires { (k ≤ length cells.now) × Reasons (reasons_in (take k cells.now)) }
-    ensures { result ≡ of_cut characters (reasons_in (take k cells.now)) edges }
+// The figures of a text that was cut, by its characters, the cells of its tokens and its edges.
+pub fn of_cut(characters: usize, cells: &[u32], edges: usize) -> Figures
+    requires { Reasons (reasons_in cells.now) }
+    ensures { result ≡ of_cut characters (reasons_in cells.now) edges }
 {
     let n = characters as u64;
-    let tokens = k as u64;
+    let tokens = cells.len() as u64;
     let e = edges as u64;
     let mut one = [1, n, tokens, 0, 0, 0, 0, 0, e, e, 0, 0, 0, 0, 0, 0];
-    let mut i = 0;
-    while i < k {
-        let at = TOKENS + wide(cells[i] % REASONS);
-        one[at] = one[at] + 1;
-        i += 1;
+    for c in cells {
+        let at = TOKENS + (*c % REASONS) as usize;
+        one[at] += 1;
     }
     one
 }
@@ -75,12 +72,10 @@ pub fn is_full(figures: &[u64], more: &[u64]) -> bool
     requires { (length figures.now ≡ figure_count) × (length more.now ≡ figure_count) }
     ensures { result ≡ full figures.now more.now }
 {
-    let mut i = 0;
-    while i < FIGURES {
+    for i in 0..FIGURES {
         if is_cell_full(i, figures[i], more[i]) {
             return true;
         }
-        i += 1;
     }
     false
 }
@@ -104,11 +99,7 @@ pub fn join_cells(figures: &mut [u64], more: &[u64])
         × (full figures.old more.now ≡ false) }
     ensures { figures.new ≡ joined figures.old more.now }
 {
-    let mut i = 0;
-    while i < FIGURES {
-        let x = figures[i];
-        let y = more[i];
-        figures[i] = join_cell(i, x, y);
-        i += 1;
+    for i in 0..FIGURES {
+        figures[i] = join_cell(i, figures[i], more[i]);
     }
 }

@@ -2,6 +2,7 @@
 // gives. The definitions that the contracts and the theorems cite stand in specs/.
 #![tactic(auto)]
 
+// Kept: (1) a host is lent the figures as sixteen cells, so each is a place in them and no field.
 // How many figures there are, and where each of them stands. Tokens by reason 1 to 5 stand in the
 // cells behind the tokens, texts refused with 1 to 6 in the last six.
 pub const FIGURES: usize = 16;
