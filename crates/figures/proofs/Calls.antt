@@ -23,7 +23,7 @@ module _ (a : List ℕ) (c : Call) {one scratch : List ℕ} (is : one ≡ text_f
   pub fed_full : {t : Bool} → t ≡ full a one → t ≡ true → Feeds a c (Err FiguresFull) a c.out scratch
   fed_full f y =
       let e : full a (text_figures c) ≡ true = ap (full a) (sym is) ∙ sym f ∙ y in (
-        sym (ap (λ (b : Bool). cond b (Err FiguresFull) (reasons_answer_of c)) e),
+        sym (ap (λ (b : Bool). cond {A = Result Ends Refusal} b (Err FiguresFull) (reasons_answer_of c)) e),
         (sym (after_full a (text_figures c) e), (sym (ap (λ (b : Bool). cond b c.out (pairs_of c)) e), s)),
       )
 
@@ -31,7 +31,7 @@ module _ (a : List ℕ) (c : Call) {one scratch : List ℕ} (is : one ≡ text_f
       → Feeds a c told new out scratch
   fed_joined f y w n o =
       let e : full a (text_figures c) ≡ false = ap (full a) (sym is) ∙ sym f ∙ y in (
-        w ∙ sym (ap (λ (b : Bool). cond b (Err FiguresFull) (reasons_answer_of c)) e),
+        w ∙ sym (ap (λ (b : Bool). cond {A = Result Ends Refusal} b (Err FiguresFull) (reasons_answer_of c)) e),
         (n ∙ ap (joined a) is ∙ sym (after_joined a (text_figures c) e), (o ∙ sym (ap (λ (b : Bool). cond b c.out (pairs_of c)) e), s)),
       )
 
@@ -41,14 +41,14 @@ module _ (a b : List ℕ) {t : Bool} (f : t ≡ full a b) where
   pub join_full : t ≡ true → Joins a b (Err FiguresFull) a
   join_full y =
       let e : full a b ≡ true = sym f ∙ y in (
-        sym (ap (λ (z : Bool). cond z (Err FiguresFull) (Ok 0)) e),
+        sym (ap (λ (z : Bool). cond {A = Result ℕ Refusal} z (Err FiguresFull) (Ok 0)) e),
         sym (after_full a b e),
       )
 
   pub join_joined : {new : List ℕ} → t ≡ false → new ≡ joined a b → Joins a b (Ok 0) new
   join_joined y n =
       let e : full a b ≡ false = sym f ∙ y in (
-        sym (ap (λ (z : Bool). cond z (Err FiguresFull) (Ok 0)) e),
+        sym (ap (λ (z : Bool). cond {A = Result ℕ Refusal} z (Err FiguresFull) (Ok 0)) e),
         n ∙ sym (after_joined a b e),
       )
 

@@ -90,7 +90,7 @@ number_fits : (rs : List Cause) (n : ℕ) (r : Refusal) → EachText rs → answ
 number_fits [] n r e h = not_both h
 number_fits (q ∷ rs) n r e h = go q.holds h (number_fits rs n r e.1)
   where
-    same : Err q.refusal ≡ Err r → q.refusal ≡ r
+    same : ◌≡◌ {A = Result ℕ Refusal} (Err q.refusal) (Err r) → q.refusal ≡ r
     same k = cc
 
     go : (b : Bool) → cond b (Err q.refusal) (answer rs n) ≡ Err r → (answer rs n ≡ Err r → (1 ≤ number_of r) × (number_of r ≤ 6)) → (1 ≤ number_of r) × (number_of r ≤ 6)

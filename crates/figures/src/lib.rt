@@ -6,10 +6,10 @@ ghost use Rattle.newmm_answers.specs.Calls.{call};
 ghost use Rattle.figures.specs.Calls.{Feeds, FeedsRefused, Joins};
 ghost use Rattle.figures.specs.inner.Counting.{Countable, figures_in};
 
-use cells::{clear_first, wide};
+use cells::clear_first;
 use figures_cells::{Figures, is_full, join_cells, of_cut, of_refused};
 use newmm_many_answers::ends_told;
-use newmm_reasons::put_pairs;
+use newmm_reasons::take_pairs;
 use newmm_rules::{Ends, Mode};
 use newmm_told::tell;
 use refusal::Refusal;
@@ -23,7 +23,7 @@ fn of_told(told: Result<Ends, Refusal>, characters: usize, cells: &[u32]) -> Fig
     ensures { result ≡ figures_in told characters cells.now }
 {
     match told {
-        Ok(Ends { ends: k, edges }) => of_cut(characters, cells, k, edges),
+        Ok(cut) => of_cut(characters, &cells[..cut.ends], cut.edges),
         Err(r) => of_refused(r.number() as usize),
     }
 }
@@ -51,8 +51,7 @@ pub fn feed(
         return Err(Refusal::FiguresFull);
     }
     join_cells(figures, &one);
-    put_pairs(scratch, out, k);
-    clear_first(scratch, k);
+    take_pairs(told, scratch, out);
     told
 }
 
@@ -67,7 +66,7 @@ pub fn feed_refused(figures: &mut Figures, number: u32) -> Result<usize, Refusal
     if LAST_REFUSAL < number {
         return Ok(0);
     }
-    let one = of_refused(wide(number));
+    let one = of_refused(number as usize);
     join(figures, &one)
 }
 

@@ -24,6 +24,8 @@ pub enum Wanted {
     Pairs,
 }
 
+// Kept: (2) break_map's ends have to rise, which is another definition, so one test with a switch
+// is no plainer.
 // The index of the first text end that is below the one before it or over `size`.
 pub fn first_wrong(ends: &[u32], size: usize) -> Option<usize>
     ensures index { unwrap_or result (length ends.now) ≡ first_wrong size ends.now }

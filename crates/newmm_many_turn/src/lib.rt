@@ -40,6 +40,8 @@ fn check_seen<'a>(text: &[u32], view: Option<&'a [u32]>, cells: usize) -> Result
 }
 
 // Sets all cells to 0, which takes no step where they are known to be so.
+// Kept: (5) the row is lent on bare to each call, so a type over it and its flag is taken apart
+// again at once.
 fn blank_all(row: &mut [u32], blank: bool)
     requires { blank ≡ true → Blank row.old }
     ensures { row.new ≡ replicate (length row.old) 0 }
@@ -82,6 +84,7 @@ fn answer_ready(
         text.now out.old scratch.old)
         result out.new scratch.new }
 {
+    // Kept: (7) one match on two names; a trait would repeat the single call's contract for both.
     match wanted {
         Wanted::Ends => cut_ready(text, view, out, scratch, mode),
         Wanted::Pairs => pairs_ready(text, view, out, scratch, mode),

@@ -35,6 +35,7 @@ pub fn check_plant_cut(
     Ok(n)
 }
 
+// Kept: (2) this and newmm::cut are a check and a view before one shared call, newmm::cut_checked.
 // Cuts a text by a plant's words, in a mode: the ends of the tokens, rising, at the front of the
 // output. Answers their number and the number of edges recorded in the whole call. Refusals 2 to 6.
 pub fn cut_in(

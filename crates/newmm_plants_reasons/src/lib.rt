@@ -16,6 +16,7 @@ use trie_check::capacity;
 use trie_plants::{Plant, half_at};
 use trie_pool::NODE;
 
+// Kept: (2) this and newmm_told::tell are a check and a view before one shared call, tell_checked.
 // Tells a text by a plant's words, in a mode, for a row with room for so many records. What is told
 // stands at the front of scratch then, one cell a token; a refused call leaves scratch as a refused
 // cut does.

@@ -1,6 +1,4 @@
 use native.Mathlib.Omega.{arith}
-use mathlib.Core.Path.{◌∙◌, ap}
-use Rattle.figures_rules.specs.Outcomes.{of_refused}
 use Rattle.figures.proofs.Calls.{below, above, a_text}
 use Rattle.figures.proofs.feed_refused.Goals as goal
 
@@ -14,9 +12,9 @@ pub of_refused-one-requires : goal.of_refused-one-requires
 of_refused-one-requires c =
     let h = c.if-number-lt1.false in
     let l = c.if-number-gt-LAST_REFUSAL.false in
-    (omega (arith, c.wide.ensures), omega (arith, c.wide.ensures))
+    (omega arith, omega arith)
 
 pub returns : goal.returns
 returns c =
     a_text c.args.figures.now c.args.number c.if-number-lt1.false c.if-number-gt-LAST_REFUSAL.false
-    (c.of_refused-one.ensures ∙ ap of_refused c.wide.ensures) c.join.ensures
+    c.of_refused-one.ensures c.join.ensures
