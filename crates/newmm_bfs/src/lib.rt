@@ -30,6 +30,9 @@ pub const EDGE_ENDS: usize = 7;
 // the number of strips
 pub const STRIPS: usize = 8;
 
+// Kept: (5) row and m go together, but `bfs_paths_graph`, which docs/TRACE.md names, takes them as
+// they are and may ask no more: a struct over the lent row would be made anew at each call.
+
 // Queues x from v, unless it was queued before; the number of vertices queued then.
 fn queue_up(row: &mut [u32], m: usize, tail: usize, v: usize, x: usize) -> usize
     requires sized { Sized row.old m }

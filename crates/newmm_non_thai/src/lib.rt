@@ -2,8 +2,7 @@
 // once.
 #![tactic(auto)]
 
-ghost use Rattle.std.specs.Prelude.{◌≡◌, Bool, ltb, ℕ};
-ghost use Rattle.std.specs.Prelude.{take_while, length};
+ghost use Rattle.std.specs.Prelude.{◌≡◌, Bool, ltb, ℕ, take_while, length};
 ghost use Rattle.newmm_rules.specs.NonThai.{is_letter, is_digit, is_thai_digit, is_point, is_blank, group_of, number, line_end, non_thai};
 
 // A class of characters, as the pattern has it in brackets.

@@ -86,6 +86,9 @@ fn longest_start(ends: &mut [u32]) -> usize
     start
 }
 
+// Kept: (5) text, pool and row go together, but `segment_single`, which docs/TRACE.md names, takes
+// them as rows and may ask no more: a struct of them would be made anew for each part.
+
 // Where the remaining text, of 140 characters or more, is cut: where its sample has a space,
 // `space_cut` behind the index of the last one in the sample. That is 1 where the index isn't
 // shifted by the sample's begin, and 101 where it is: more could lie behind the text's end.

@@ -18,6 +18,8 @@ pub fn is_short(word: &[u32]) -> bool
 }
 
 // Whether a word starts at p at which the search for a token's end stops.
+// Kept: (5) text, pool and flags go together, but `token_end`, which docs/TRACE.md names, takes them
+// as rows and may ask no more: a struct of them would be made anew at each call.
 pub fn starts_word(text: &[u32], pool: &[u32], flags: &[u32], p: usize) -> bool
     requires { Place text.now pool.now flags.now p }
     ensures { result ≡ starts_word (given_by text.now pool.now) p }

@@ -12,13 +12,15 @@ ghost use Rattle.newmm_one_cut.specs.inner.Strips.{Fresh};
 ghost use Rattle.newmm_segment.specs.inner.Written.{Ready, Written};
 ghost use Rattle.newmm_tell.specs.inner.Telling.{CutPart, cells_as_many};
 
-use cells::clear_from;
 use newmm_bfs::{CLUSTER_ENDS, EDGE_ENDS, STRIPS};
 use newmm_one_cut::cut_marked;
 use newmm_reason_at::reason_at;
 use newmm_reasons_answers::REASONS;
 use newmm_rules::{Ends, MAX_GRAPH_SIZE, Mode, TEXT_SCAN_END};
 use newmm_segment::{PartWriter, in_parts, space_cut};
+
+// Kept: (6) the flags stand in the same row behind the ends, so the row is lent whole with their
+// number.
 
 // Tells each of the k tokens of a part whose ends stand at the front of the row, and the flags of
 // its cluster ends in their strip.
@@ -47,7 +49,7 @@ fn tell_strips(part: &[u32], pool: &[u32], row: &mut [u32], start: usize) -> End
 {
     let r = cut_marked(part, pool, row);
     tell(part, pool, row, r.ends, start);
-    clear_from(row, r.ends);
+    row[r.ends..].fill(0);
     r
 }
 

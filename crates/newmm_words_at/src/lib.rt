@@ -9,6 +9,7 @@ use newmm_word_step::{Step, word_limit, word_step};
 
 // Of the words that start at a place and end at a cluster end: one ends where the token does; they
 // end elsewhere; there is none.
+// Kept: (1) three outcomes, so an Option of an enum of two is no plainer.
 #[derive(Clone, Copy, Debug, PartialEq, Eq)]
 pub enum Found {
     Here,
