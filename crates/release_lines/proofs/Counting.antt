@@ -21,9 +21,8 @@ use Rattle.sheet_replies.specs.declared.Asked.{Asked}
 use Rattle.sheet_replies.specs.declared.Asked.TheVariants.{Nothing, Add, Remove, Cut}
 use Rattle.sheet_replies.specs.Replies as lines
 use Rattle.sheet_replies.proofs.Replying.{out_text}
-use Rattle.why_replies.specs.declared.Cutting.{Cutting}
-use Rattle.why_replies.specs.declared.Cutting.TheVariants as cuttings
-use Rattle.why_replies.specs.Replies.{asked, cutting_by}
+use Rattle.std.specs.Prelude.{Option, None, Some}
+use Rattle.why_replies.specs.Replies.{Cutting, asked, cutting_by}
 use Rattle.why_replies.proofs.Asking.{cut_is, not_cut_is}
 use Rattle.release_lines.specs.Counting.{fed_full, refused_full, figures_by, full_by, figures_after, full_after}
 
@@ -76,18 +75,18 @@ module _ (text scalars positions : List ℕ) {scalars₁ positions₁ : List ℕ
 
 -- ---- a line
 
-no_mode : (mode : Mode) → cuttings.Nothing ≡ cuttings.By mode → ⊥
+no_mode : (mode : Mode) → ◌≡◌ {A = Cutting} None (Some mode) → ⊥
 no_mode mode h = let z : ◌≡◌ {A = ℕ} 0 1 = cc in omega arith
 
 module _ (figures text pool pairs scratch : List ℕ) (room : Room) where
-  same_figures : (k : Asked) → cuttings.Nothing ≡ cutting_by k → figures ≡ figures_after k figures text pool pairs scratch room
+  same_figures : (k : Asked) → None ≡ cutting_by k → figures ≡ figures_after k figures text pool pairs scratch room
   unfolding figures_after
   same_figures Nothing h = refl
   same_figures Add h = refl
   same_figures Remove h = refl
   same_figures (Cut mode) h = absurd (no_mode mode h)
 
-  never_full : (k : Asked) → cuttings.Nothing ≡ cutting_by k → false ≡ full_after k figures text pool pairs scratch room
+  never_full : (k : Asked) → None ≡ cutting_by k → false ≡ full_after k figures text pool pairs scratch room
   unfolding full_after
   never_full Nothing h = refl
   never_full Add h = refl
@@ -102,10 +101,10 @@ Counted full k figures figures₁ text pool pool₁ pairs scratch room =
 
 module _ (line : List ℕ) {c : Cutting} (is : c ≡ cutting_by (asked line)) (figures pool pairs scratch : List ℕ) (room : Room) where
   -- no text is counted
-  pub none_counted : c ≡ cuttings.Nothing → (pool₁ : List ℕ) → lines.PoolAfter (lines.asked line) (lines.text_of line) pool pool₁ room
+  pub none_counted : c ≡ None → (pool₁ : List ℕ) → lines.PoolAfter (lines.asked line) (lines.text_of line) pool pool₁ room
       → Counted false (asked line) figures figures (lines.text_of line) pool pool₁ pairs scratch room
   none_counted h pool₁ p =
-      let none : cuttings.Nothing ≡ cutting_by (asked line) = sym h ∙ is in (
+      let none : None ≡ cutting_by (asked line) = sym h ∙ is in (
         never_full figures (lines.text_of line) pool pairs scratch room (asked line) none,
         (
           same_figures figures (lines.text_of line) pool pairs scratch room (asked line) none,
@@ -114,7 +113,7 @@ module _ (line : List ℕ) {c : Cutting} (is : c ≡ cutting_by (asked line)) (f
       )
 
   -- the text is counted
-  pub text_counted : {mode : Mode} → c ≡ cuttings.By mode → {text : List ℕ} → text ≡ lines.text_of line → {full : Bool} {figures₁ : List ℕ}
+  pub text_counted : {mode : Mode} → c ≡ Some mode → {text : List ℕ} → text ≡ lines.text_of line → {full : Bool} {figures₁ : List ℕ}
       → full ≡ full_by (decoded text room) figures (call (scalars_of text) pool pairs scratch mode)
       → figures₁ ≡ figures_by (decoded text room) figures (call (scalars_of text) pool pairs scratch mode)
       → Counted full (asked line) figures figures₁ (lines.text_of line) pool pool pairs scratch room

@@ -13,7 +13,7 @@ use figures_cells::Figures;
 use newmm_rules::{Ends, Mode};
 use refusal::Refusal;
 use sheet_replies::answer_line;
-use why_replies::{Cutting, cutting_in, text_in};
+use why_replies::{cutting_in, text_in};
 
 // The refusal of figures that are full.
 const FULL: u8 = 13;
@@ -90,11 +90,11 @@ pub fn count_line(
 {
     let cutting = cutting_in(line);
     match cutting {
-        Cutting::Nothing => {
+        None => {
             let _ = answer_line(line, pool, scalars, positions, pairs, scratch);
             false
         }
-        Cutting::By(mode) => count_text(
+        Some(mode) => count_text(
             text_in(line),
             figures,
             pool,

@@ -5,12 +5,11 @@ use mathlib.Core.Path.{◌≡◌}
 use mathlib.Core.List.{List}
 use Rattle.sheet_input.specs.declared.Fed.{Fed}
 use Rattle.sheet_replies.specs.declared.Asked.{Asked}
-use Rattle.why_replies.specs.Replies.{RowsAfter}
+use Rattle.why_replies.specs.Replies.{Cutting, RowsAfter}
 use Rattle.why_input.proofs.step.Kinds as step_kinds
 use Rattle.why_input.proofs.step.Reads as step_contract
 use Rattle.why_input.proofs.last.Kinds as last_kinds
 use Rattle.why_input.proofs.last.Reads as last_contract
-use Rattle.why_replies.specs.declared.Cutting.{Cutting}
 use Rattle.why_replies.proofs.cutting_in.Kinds as cutting_in_kinds
 use Rattle.why_replies.proofs.cutting_in.Reads as cutting_in_contract
 use Rattle.why_replies.proofs.text_in.Kinds as text_in_kinds

@@ -13,29 +13,28 @@ use Rattle.sheet_replies.specs.Replies as lines
 use Rattle.sheet_texts.specs.declared.Reply.{Reply}
 use Rattle.sheet_texts.specs.Texts.{written, amount}
 use Rattle.why_texts.specs.Texts.{why_text}
-use Rattle.why_replies.specs.declared.Cutting.{Cutting}
-use Rattle.why_replies.specs.declared.Cutting.TheVariants as cuttings
-use Rattle.why_replies.specs.Replies.{asked, cutting_by, pairs_after, RowsAfter, explained_by}
+use Rattle.std.specs.Prelude.{Option, None, Some}
+use Rattle.why_replies.specs.Replies.{Cutting, asked, cutting_by, pairs_after, RowsAfter, explained_by}
 use Rattle.why_replies.proofs.Asking.{cut_is, not_cut_is}
 
 -- ---- nothing is cut
 
-same_reply : (k : Asked) → cuttings.Nothing ≡ cutting_by k → (text pool : List ℕ) (room : Room) (cells a b : ℕ) → lines.reply_to k text pool room cells a ≡ lines.reply_to k text pool room cells b
+same_reply : (k : Asked) → None ≡ cutting_by k → (text pool : List ℕ) (room : Room) (cells a b : ℕ) → lines.reply_to k text pool room cells a ≡ lines.reply_to k text pool room cells b
 unfolding lines.reply_to
 same_reply Nothing h text pool room cells a b = refl
 same_reply Add h text pool room cells a b = refl
 same_reply Remove h text pool room cells a b = refl
 same_reply (Cut mode) h text pool room cells a b = absurd (let z : ◌≡◌ {A = ℕ} 0 1 = cc in omega arith)
 
-same_ends : (k : Asked) → cuttings.Nothing ≡ cutting_by k → (text pool : List ℕ) (room : Room) (cells : ℕ) (row : List ℕ) → lines.ends_after k text pool room cells row ≡ pairs_after k text pool room cells row
+same_ends : (k : Asked) → None ≡ cutting_by k → (text pool : List ℕ) (room : Room) (cells : ℕ) (row : List ℕ) → lines.ends_after k text pool room cells row ≡ pairs_after k text pool room cells row
 unfolding lines.ends_after pairs_after
 same_ends Nothing h text pool room cells row = refl
 same_ends Add h text pool room cells row = refl
 same_ends Remove h text pool room cells row = refl
 same_ends (Cut mode) h text pool room cells row = absurd (let z : ◌≡◌ {A = ℕ} 0 1 = cc in omega arith)
 
-module _ (line : List ℕ) {c : Cutting} (is : c ≡ cutting_by (asked line)) (h : c ≡ cuttings.Nothing) where
-  none : cuttings.Nothing ≡ cutting_by (asked line)
+module _ (line : List ℕ) {c : Cutting} (is : c ≡ cutting_by (asked line)) (h : c ≡ None) where
+  none : None ≡ cutting_by (asked line)
   none = sym h ∙ is
 
   pub reply_other : (pool : List ℕ) (room : Room) (cells a b : ℕ) {r : Reply} → r ≡ lines.reply_of line pool room cells a → r ≡ lines.reply_to (asked line) (lines.text_of line) pool room cells b
@@ -58,7 +57,7 @@ module _ (line : List ℕ) {c : Cutting} (is : c ≡ cutting_by (asked line)) (h
 
 -- ---- the text is cut
 
-module _ (line : List ℕ) {c : Cutting} {mode : Mode} (is : c ≡ cutting_by (asked line)) (h : c ≡ cuttings.By mode) {text : List ℕ} (t : text ≡ lines.text_of line) where
+module _ (line : List ℕ) {c : Cutting} {mode : Mode} (is : c ≡ cutting_by (asked line)) (h : c ≡ Some mode) {text : List ℕ} (t : text ≡ lines.text_of line) where
   by : Cut mode ≡ asked line
   by = cut_is (asked line) mode (sym h ∙ is)
 

@@ -13,9 +13,8 @@ use Rattle.newmm_rules.specs.declared.Mode.TheVariants.{Sheet}
 use Rattle.sheet_replies.specs.declared.Asked.{Asked}
 use Rattle.sheet_replies.specs.declared.Asked.TheVariants.{Nothing, Add, Remove, Cut}
 use Rattle.sheet_replies.specs.Replies as lines
-use Rattle.why_replies.specs.declared.Cutting.{Cutting}
-use Rattle.why_replies.specs.declared.Cutting.TheVariants as cuttings
-use Rattle.why_replies.specs.Replies.{asks_sheet, asked, cutting_by}
+use Rattle.std.specs.Prelude.{Option, None, Some}
+use Rattle.why_replies.specs.Replies.{Cutting, asks_sheet, asked, cutting_by}
 
 -- ---- `#`, test by test
 
@@ -46,27 +45,27 @@ asks_other line h = sym (ap (λ (b : Bool). cond b (Cut Sheet) (lines.asked line
 
 -- by the mode of `#`, or by what the line program's line asks
 module _ (line : List ℕ) {b : Bool} (is : b ≡ asks_sheet line) where
-  pub cut_sheet : b ≡ true → cuttings.By Sheet ≡ cutting_by (asked line)
+  pub cut_sheet : b ≡ true → Some Sheet ≡ cutting_by (asked line)
   cut_sheet h = ap cutting_by (asked_sheet line (sym is ∙ h))
 
   pub cut_other : b ≡ false → {a k : Asked} → a ≡ lines.asked line → a ≡ k → cutting_by k ≡ cutting_by (asked line)
   cut_other h e f = ap cutting_by (sym f ∙ e ∙ asks_other line (sym is ∙ h))
 
-no_mode : (mode : Mode) → cuttings.Nothing ≡ cuttings.By mode → ⊥
+no_mode : (mode : Mode) → ◌≡◌ {A = Cutting} None (Some mode) → ⊥
 no_mode mode h = let z : ◌≡◌ {A = ℕ} 0 1 = cc in omega arith
 
-same_mode : (mode other : Mode) → cuttings.By mode ≡ cuttings.By other → mode ≡ other
+same_mode : (mode other : Mode) → ◌≡◌ {A = Cutting} (Some mode) (Some other) → mode ≡ other
 same_mode mode other h = cc
 
 -- the text is cut in a mode
-pub cut_is : (k : Asked) (mode : Mode) → cuttings.By mode ≡ cutting_by k → Cut mode ≡ k
+pub cut_is : (k : Asked) (mode : Mode) → Some mode ≡ cutting_by k → Cut mode ≡ k
 cut_is Nothing mode h = absurd (no_mode mode (sym h))
 cut_is Add mode h = absurd (no_mode mode (sym h))
 cut_is Remove mode h = absurd (no_mode mode (sym h))
 cut_is (Cut other) mode h = ap Cut (same_mode mode other h)
 
 -- the text isn't cut: the line asks what it asks the line program
-pub not_cut_is : (line : List ℕ) → cuttings.Nothing ≡ cutting_by (asked line) → lines.asked line ≡ asked line
+pub not_cut_is : (line : List ℕ) → None ≡ cutting_by (asked line) → lines.asked line ≡ asked line
 not_cut_is line h = go (asks_sheet line) refl
   where
     go : (b : Bool) → asks_sheet line ≡ b → lines.asked line ≡ asked line

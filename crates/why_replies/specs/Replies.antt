@@ -1,6 +1,6 @@
 -- 02, ticket 2: what a line of `why_lines` asks, what is written for it, and what becomes of the
 -- rows that are lent.
-use Rattle.std.specs.Prelude.{ℕ, ◌/◌, ◌≡◌, Bool, false, cond, List, eqb, ltb, length, get_or}
+use Rattle.std.specs.Prelude.{ℕ, ◌/◌, ◌≡◌, Bool, false, cond, List, eqb, ltb, length, get_or, Option, None, Some}
 use Rattle.refusal.specs.Answers.{output}
 use Rattle.utf8.specs.Decoding.{scalars_of, Room, room_in}
 use Rattle.utf8.specs.Positions.{positions_of}
@@ -14,8 +14,6 @@ use Rattle.sheet_replies.specs.declared.Asked.{Asked}
 use Rattle.sheet_replies.specs.declared.Asked.TheVariants.{Nothing, Add, Remove, Cut}
 use Rattle.sheet_replies.specs.Replies as lines
 use Rattle.why_texts.specs.Texts.{why_text}
-use Rattle.why_replies.specs.declared.Cutting.{Cutting}
-use Rattle.why_replies.specs.declared.Cutting.TheVariants as cuttings
 
 -- A line of at most 1,024 bytes that starts with `#`.
 abbrev pub asks_sheet : List ℕ → Bool
@@ -26,12 +24,15 @@ asks_sheet line =
 unfoldable pub asked : List ℕ → Asked
 asked line = cond (asks_sheet line) (Cut Sheet) (lines.asked line)
 
--- how the text is cut by what is asked
+-- how the text is cut by what is asked, if it is
+abbrev pub Cutting : Type 0
+Cutting = Option Mode
+
 abbrev pub cutting_by : Asked → Cutting
-cutting_by Nothing = cuttings.Nothing
-cutting_by Add = cuttings.Nothing
-cutting_by Remove = cuttings.Nothing
-cutting_by (Cut mode) = cuttings.By mode
+cutting_by Nothing = None
+cutting_by Add = None
+cutting_by Remove = None
+cutting_by (Cut mode) = Some mode
 
 -- The end and the reason of each token of a cut stand at the front of their row. A row of so many
 -- cells has room for half as many pairs.

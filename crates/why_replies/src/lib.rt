@@ -24,43 +24,29 @@ use sheet_replies::{Asked, MAX_LINE, answer_line, ended};
 use sheet_texts::Reply;
 use why_texts::write_why;
 
-// How a line's text is cut.
-#[derive(Clone, Copy)]
-pub enum Cutting {
-    // It isn't.
-    Nothing,
-    By(Mode),
-}
-
 // The line starts with `#`.
 fn asks_sheet(line: &[u8]) -> bool
     ensures { result ≡ asks_sheet line.now }
 {
-    if line.len() == 0 {
+    if line.is_empty() || MAX_LINE < line.len() {
         return false;
     }
-    if MAX_LINE < line.len() {
-        return false;
-    }
-    if line[0] == b'#' {
-        return true;
-    }
-    false
+    line[0] == b'#'
 }
 
-// How the text is cut by what the line asks.
-pub fn cutting_in(line: &[u8]) -> Cutting
+// How the text is cut by what the line asks; `None` where it isn't.
+pub fn cutting_in(line: &[u8]) -> Option<Mode>
     ensures { result ≡ cutting_by (asked line.now) }
 {
     if asks_sheet(line) {
-        return Cutting::By(Mode::Sheet);
+        return Some(Mode::Sheet);
     }
     let other = sheet_replies::asks(line);
     match other {
-        Asked::Nothing => Cutting::Nothing,
-        Asked::Add => Cutting::Nothing,
-        Asked::Remove => Cutting::Nothing,
-        Asked::Cut(mode) => Cutting::By(mode),
+        Asked::Nothing => None,
+        Asked::Add => None,
+        Asked::Remove => None,
+        Asked::Cut(mode) => Some(mode),
     }
 }
 
@@ -68,7 +54,7 @@ pub fn cutting_in(line: &[u8]) -> Cutting
 pub fn text_in(line: &[u8]) -> &[u8]
     ensures { result.now ≡ text_of line.now }
 {
-    if line.len() == 0 {
+    if line.is_empty() {
         return line;
     }
     &line[1..]
@@ -128,8 +114,8 @@ fn reply_to(
 {
     let cutting = cutting_in(line);
     match cutting {
-        Cutting::Nothing => answer_line(line, pool, scalars, positions, pairs, scratch),
-        Cutting::By(mode) => cut(
+        None => answer_line(line, pool, scalars, positions, pairs, scratch),
+        Some(mode) => cut(
             text_in(line),
             pool,
             scalars,

@@ -12,16 +12,16 @@ slice_bounds-feed-end-in-Ok c =
     lent_size c.args.text.now c.args.scalars.now c.args.positions.now (c.decode-decoded.ensures.value, (c.decode-decoded.ensures.out_after, c.decode-decoded.ensures.positions_after))
     c.in-Ok.is
 
-pub returns-in-Refused : goal.returns-in-Refused
-returns-in-Refused c =
+pub returns-in-Err : goal.returns-in-Err
+returns-in-Err c =
     record {
       value = stopped_full c.args.text.now c.args.scalars.now c.args.positions.now (c.decode-decoded.ensures.value, (c.decode-decoded.ensures.out_after, c.decode-decoded.ensures.positions_after))
           c.args.figures.now c.args.pool.now c.args.pairs.now c.args.scratch.now
-          c.args.mode c.in-Refused.is c.number.ensures c.feed_refused.ensures.0
+          c.args.mode c.in-Err.is c.number.ensures c.feed_refused.ensures.0
           c.is_refused_full.ensures;
       figures_after = stopped_figures c.args.text.now c.args.scalars.now
           c.args.positions.now (c.decode-decoded.ensures.value, (c.decode-decoded.ensures.out_after, c.decode-decoded.ensures.positions_after)) c.args.figures.now c.args.pool.now
-          c.args.pairs.now c.args.scratch.now c.args.mode c.in-Refused.is c.number.ensures
+          c.args.pairs.now c.args.scratch.now c.args.mode c.in-Err.is c.number.ensures
           c.feed_refused.ensures.1;
     }
 

@@ -21,11 +21,11 @@ slice_bounds-cut_reasons-end-in-Ok c =
     lent_size c.args.text.now c.args.scalars.now c.args.positions.now (c.decode-decoded.ensures.value, (c.decode-decoded.ensures.out_after, c.decode-decoded.ensures.positions_after))
     c.in-Ok.is
 
-pub returns-in-Refused : goal.returns-in-Refused
-returns-in-Refused c =
+pub returns-in-Err : goal.returns-in-Err
+returns-in-Err c =
     record {
       value = ended_stop c.args.text.now c.args.scalars.now c.args.positions.now (c.decode-decoded.ensures.value, (c.decode-decoded.ensures.out_after, c.decode-decoded.ensures.positions_after))
-          c.in-Refused.is
+          c.in-Err.is
           (accepts c.args.mode (scalars_of c.args.text.now) (meaning c.args.pool.now)
           (length c.args.scratch.now) (length c.args.pairs.now / 2));
       scalars_after = (decoded_are c.args.text.now c.args.scalars.now c.args.positions.now
@@ -33,13 +33,13 @@ returns-in-Refused c =
       positions_after = (decoded_are c.args.text.now c.args.scalars.now c.args.positions.now
           (c.decode-decoded.ensures.value, (c.decode-decoded.ensures.out_after, c.decode-decoded.ensures.positions_after))).1;
       pairs_after = out_stop c.args.text.now c.args.scalars.now c.args.positions.now (c.decode-decoded.ensures.value, (c.decode-decoded.ensures.out_after, c.decode-decoded.ensures.positions_after))
-          c.in-Refused.is
+          c.in-Err.is
           (accepts c.args.mode (scalars_of c.args.text.now) (meaning c.args.pool.now)
           (length c.args.scratch.now) (length c.args.pairs.now / 2))
           (pairs_of (told_of c.args.mode (held (meaning c.args.pool.now)) (scalars_of c.args.text.now)))
           c.args.pairs.now;
       scratch_after = clear_stop c.args.text.now c.args.scalars.now c.args.positions.now
-          (c.decode-decoded.ensures.value, (c.decode-decoded.ensures.out_after, c.decode-decoded.ensures.positions_after)) c.in-Refused.is
+          (c.decode-decoded.ensures.value, (c.decode-decoded.ensures.out_after, c.decode-decoded.ensures.positions_after)) c.in-Err.is
           (answer (first_causes (scalars_of c.args.text.now) (meaning c.args.pool.now)
           (length c.args.scratch.now)) 0) c.args.scratch.now;
     }
