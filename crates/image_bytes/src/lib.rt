@@ -6,8 +6,6 @@ ghost use Rattle.utf8_sequences.specs.Utf8.{bytes_of};
 ghost use Rattle.image_rules.specs.Records.{le};
 ghost use Rattle.image_bytes.specs.inner.Laying.{laid_at};
 
-use cells::wide;
-
 // The two lowest bytes of a number.
 pub fn put_two(row: &mut [u8], at: usize, v: usize)
     requires { at + 2 ≤ length row.old }
@@ -31,27 +29,19 @@ pub fn put_bytes(row: &mut [u8], at: usize, part: &[u8])
     requires { at + length part.now ≤ length row.old }
     ensures { row.new ≡ laid_at at part.now row.old }
 {
-    let mut i = 0;
-    while i < part.len() {
-        row[at + i] = part[i];
-        i += 1;
-    }
+    row[at..at + part.len()].copy_from_slice(part);
 }
 
 // How many bytes a scalar has in UTF-8.
 pub fn scalar_size(x: u32) -> usize
     ensures { result ≡ length (bytes_of x) }
 {
-    if x < 0x80 {
-        return 1;
+    match x {
+        0..=0x7F => 1,
+        0x80..=0x7FF => 2,
+        0x800..=0xFFFF => 3,
+        _ => 4,
     }
-    if x < 0x800 {
-        return 2;
-    }
-    if x < 0x10000 {
-        return 3;
-    }
-    4
 }
 
 // A scalar in UTF-8. Answers the place behind it.
@@ -60,7 +50,7 @@ pub fn put_scalar(row: &mut [u8], at: usize, x: u32) -> usize
     ensures value { result ≡ at + length (bytes_of x) }
     ensures row_after { row.new ≡ laid_at at (bytes_of x) row.old }
 {
-    let v = wide(x);
+    let v = x as usize;
     if v < 0x80 {
         row[at] = v as u8;
         return at + 1;

@@ -12,7 +12,6 @@ ghost use Rattle.image_list.specs.Listed.{own, list_of};
 ghost use Rattle.image_list.specs.inner.Under.{under};
 ghost use Rattle.image_size.specs.inner.Sizing.{Stands};
 
-use cells::wide;
 use image_bytes::scalar_size;
 use trie_pool::{COUNT, FIRST, MARK, NODE};
 
@@ -24,7 +23,7 @@ pub fn mark_at(p: &[u32], i: usize) -> usize
     if i == 0 {
         return 0;
     }
-    wide(p[NODE * i + MARK])
+    p[NODE * i + MARK] as usize
 }
 
 // The bytes of the record of a node's own word, whose path takes so many bytes.
@@ -46,11 +45,10 @@ fn size_from(p: &[u32], i: usize, bytes: usize) -> usize
         result ≡ length (word_records (under p.now path i)) }
 {
     let mut size = own_size(mark_at(p, i), bytes);
-    let mut k = wide(p[NODE * i + FIRST]);
-    let end = k + wide(p[NODE * i + COUNT]);
-    while k < end {
+    let first = p[NODE * i + FIRST] as usize;
+    let count = p[NODE * i + COUNT] as usize;
+    for k in first..first + count {
         size += size_from(p, k, bytes + scalar_size(p[NODE * k]));
-        k += 1;
     }
     size
 }

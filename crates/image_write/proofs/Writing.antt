@@ -7,7 +7,7 @@ use mathlib.Core.Bool.{Bool, true, false, ◌&&◌, ◌||◌}
 use mathlib.Core.List.{List, [], ◌∷◌, ◌++◌, append_assoc, append-nil}
 use borrow.Author.Tests.{ltb-true, leb-true}
 use lib.Dec.{ltb, leb}
-use lib.ListN.{length, get_or, take}
+use lib.ListN.{length, get_or, take, drop}
 use lib.Seq.{length-take-le, take-take}
 use Rattle.utf8_sequences.specs.Utf8.{bytes_of, encode}
 use Rattle.char_string_scalars.specs.Scalars.{is_scalar}
@@ -308,3 +308,8 @@ module _ (p : List ℕ) (g : Sound p (used p) 0) (out : List ℕ) (room : length
         ∙ ap (laid_at end (last_record (length (list_of p)))) (w.is ∙ ap (λ (l : List Term). laid_at 0 (word_records l) out) (sym (root_kids p)))
         ∙ laid_then out (word_records (list_of p)) (last_record (length (list_of p))) 0 end (w.count ∙ ap (λ (k : ℕ). 0 + k) root_long)
         (omega (arith, w.count, root_long, last_long (length (list_of p)), image_long (list_of p)))
+
+-- a part laid on the front
+pub laid_front : (part row : List ℕ) → laid_at 0 part row ≡ part ++ drop (length part) row
+unfolding laid_at
+laid_front part row = let z : 0 + length part ≡ length part = omega arith in ap (λ (k : ℕ). part ++ drop k row) z

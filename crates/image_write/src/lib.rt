@@ -1,7 +1,8 @@
 // Writes the image of a dictionary.
 #![tactic(auto)]
 
-ghost use Rattle.std.specs.Prelude.{◌≡◌, List, [], ℕ, ◌+◌, ◌≤◌, length, take};
+ghost use Rattle.std.specs.Prelude.{◌≡◌, List, [], ◌∷◌, ℕ, ◌+◌, ◌≤◌, length, take};
+ghost use Rattle.refusal.specs.Answers.{answer, out_cause, output};
 ghost use Rattle.utf8_sequences.specs.Utf8.{encode};
 ghost use Rattle.trie_pool.specs.Cells.{used};
 ghost use Rattle.trie_pool.specs.Words.{at, rev};
@@ -12,9 +13,10 @@ ghost use Rattle.image_list.specs.Listed.{list_of};
 ghost use Rattle.image_bytes.specs.inner.Laying.{laid_at};
 ghost use Rattle.image_write.specs.inner.Writing.{OwnAsks, OwnWrote, Writes, Wrote};
 
-use cells::wide;
 use image_bytes::put_scalar;
 use image_put::{put_last, put_word};
+use image_size::image_size;
+use refusal::Refusal;
 use trie_pool::{COUNT, FIRST, MARK, NODE};
 use trie_search::count_words;
 
@@ -43,13 +45,12 @@ fn write_below(p: &[u32], i: usize, path: &mut [u8], n: usize, out: &mut [u8], f
         out.old out.new from result }
 {
     let mut end = from;
-    let mut k = wide(p[NODE * i + FIRST]);
-    let stop = k + wide(p[NODE * i + COUNT]);
-    while k < stop {
+    let first = p[NODE * i + FIRST] as usize;
+    let count = p[NODE * i + COUNT] as usize;
+    for k in first..first + count {
         let m = put_scalar(path, n, p[NODE * k]);
-        let next = put_own(wide(p[NODE * k + MARK]), path, m, out, end);
+        let next = put_own(p[NODE * k + MARK] as usize, path, m, out, end);
         end = write_below(p, k, path, m, out, next);
-        k += 1;
     }
     end
 }
@@ -64,4 +65,20 @@ pub fn fill_image(p: &[u32], out: &mut [u8])
     let end = write_below(p, 0, &mut path, 0, out, 0);
     let n = count_words(p);
     put_last(out, end, n);
+}
+
+// Writes the image of a dictionary to the front of a row; accepted with its bytes. Refusal 6.
+pub fn write_dictionary(p: &[u32], out: &mut [u8]) -> Result<usize, Refusal>
+    requires { Sound p.now (used p.now) 0 }
+    ensures value { result ≡
+        answer (out_cause (length (image_of (list_of p.now))) (length out.old) ∷ [])
+        (length (image_of (list_of p.now))) }
+    ensures out_after { out.new ≡ output result (image_of (list_of p.now)) out.old }
+{
+    let needed = image_size(p);
+    if out.len() < needed {
+        return Err(Refusal::OutputTooShort(needed));
+    }
+    fill_image(p, out);
+    Ok(needed)
 }

@@ -1,6 +1,7 @@
 -- What writing a plant's image answers, by the test of the pool and the bytes that are needed.
 -- Assumes nothing.
-use Rattle.std.specs.Prelude.{Ok, Err}
+use Rattle.std.specs.Prelude.{Result, Ok, Err}
+use Rattle.refusal.specs.declared.Refusal.{Refusal}
 use Prim.Native.Nat.{ℕ, ◌-◌, ◌*◌, ◌/◌, ◌≤◌, ◌<◌, min}
 use native.Mathlib.Omega.{arith}
 use mathlib.Core.Path.{◌≡◌, sym, ap, ◌∙◌}
@@ -9,14 +10,12 @@ use mathlib.Core.List.{List, [], ◌∷◌}
 use lib.ListN.{length, take, drop}
 use Rattle.refusal.specs.declared.Refusal.TheVariants.{NotADictionary, OutputTooShort}
 use Rattle.refusal.specs.Answers.{answer, output, out_cause}
-use Rattle.refusal.proofs.Causes.{out_short, out_fits}
 use Rattle.trie_pool.specs.Cells.{used}
 use Rattle.trie_pool.specs.inner.Sound.{Sound}
 use Rattle.trie_check.specs.Refusals.{pool_causes}
 use Rattle.image_rules.specs.Records.{image_of}
 use Rattle.image_list.specs.Listed.{list_of}
-use Rattle.image_bytes.specs.inner.Laying.{laid_at}
-use Rattle.word_list_write.proofs.Answers.{laid_front}
+use Rattle.word_list_write.proofs.Answers.{write_at}
 use Rattle.trie_plants.specs.declared.Plant.{Plant}
 use Rattle.trie_plants.specs.Halves.{half_at}
 use Rattle.trie_plants.specs.Rules.{is_plants}
@@ -30,9 +29,6 @@ module _ (plant : Plant) (pool : List ℕ) (b : Bool) (is : b ≡ is_plants pool
   not_one e = sym (ap (λ (z : Bool). cond z (Err NotADictionary) (answer (out_cause (length (plant_image plant pool)) (length out) ∷ []) (length (plant_image plant pool)))) (meaning_is_none plant pool false (sym e ∙ is)))
 
   module _ (e : b ≡ true) (n : ℕ) (n_is : n ≡ min (length pool / 8) 1048576) (a : ℕ) (a_is : a ≡ half_at plant) where
-    first : (q : ℕ) → answer (pool_causes (plant_meaning plant pool)) q ≡ Ok q
-    first q = ap (λ (z : Bool). cond z (Err NotADictionary) (Ok q)) (meaning_is_none plant pool true (sym e ∙ is))
-
     pub starts : a ≤ 8 * n
     starts = omega (arith, from plant pool n n_is a a_is (sym is ∙ e))
 
@@ -43,20 +39,12 @@ module _ (plant : Plant) (pool : List ℕ) (b : Bool) (is : b ≡ is_plants pool
     unfolding plant_image
     image_is = ap (λ (l : List ℕ). image_of (list_of l)) (view_is plant pool n n_is a a_is)
 
-    module _ (m : ℕ) (m_is : m ≡ length (image_of (list_of (take (8 * n - a) (drop a pool))))) where
-      needs_is : m ≡ length (plant_image plant pool)
-      needs_is = m_is ∙ ap length image_is
+    -- past 4
+    module _ (r : Result ℕ Refusal) where
+      pub answered : r ≡ write_at (image_of (list_of (take (8 * n - a) (drop a pool)))) out → r ≡ plant_write_answer plant pool out
+      answered h =
+          h ∙ ap (λ (l : List ℕ). write_at l out) image_is
+          ∙ sym (ap (λ (z : Bool). cond z (Err NotADictionary) (write_at (plant_image plant pool) out)) (meaning_is_none plant pool true (sym e ∙ is)))
 
-      -- 6
-      pub too_short : length out < m → Err (OutputTooShort m) ≡ plant_write_answer plant pool out
-      too_short l = out_short (pool_causes (plant_meaning plant pool)) (length (plant_image plant pool)) (length out) 0 (length (plant_image plant pool)) m (first 0) needs_is l
-
-      pub room : m ≤ length out → length (image_of (list_of (take (8 * n - a) (drop a pool)))) ≤ length out
-      room l = omega (arith, m_is)
-
-      pub done : m ≤ length out → (new : List ℕ) → new ≡ laid_at 0 (image_of (list_of (take (8 * n - a) (drop a pool)))) out
-          → (Ok m ≡ plant_write_answer plant pool out) × (new ≡ output (Ok m) (plant_image plant pool) out)
-      done l new w = (
-        out_fits (pool_causes (plant_meaning plant pool)) (length (plant_image plant pool)) (length out) 0 m (first 0) needs_is l,
-        w ∙ ap (λ (z : List ℕ). laid_at 0 z out) image_is ∙ laid_front (plant_image plant pool) out,
-      )
+      pub written : {new : List ℕ} → new ≡ output r (image_of (list_of (take (8 * n - a) (drop a pool)))) out → new ≡ output r (plant_image plant pool) out
+      written w = w ∙ ap (λ (l : List ℕ). output r l out) image_is

@@ -5,8 +5,7 @@ ghost use Rattle.std.specs.Prelude.{◌≡◌};
 ghost use Rattle.refusal.specs.Answers.{output};
 ghost use Rattle.word_list_plants_write.specs.Answers.{plant_image, plant_write_answer};
 
-use image_size::image_size;
-use image_write::fill_image;
+use image_write::write_dictionary;
 use refusal::Refusal;
 use trie_check::capacity;
 use trie_plants::{Plant, half_at};
@@ -24,10 +23,5 @@ pub fn write_image_in(pool: &[u32], plant: Plant, out: &mut [u8]) -> Result<usiz
     }
     let cells = NODE * capacity(pool.len());
     let a = half_at(plant);
-    let needed = image_size(&pool[a..cells]);
-    if out.len() < needed {
-        return Err(Refusal::OutputTooShort(needed));
-    }
-    fill_image(&pool[a..cells], out);
-    Ok(needed)
+    write_dictionary(&pool[a..cells], out)
 }

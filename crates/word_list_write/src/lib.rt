@@ -5,8 +5,7 @@ ghost use Rattle.std.specs.Prelude.{◌≡◌};
 ghost use Rattle.refusal.specs.Answers.{output};
 ghost use Rattle.word_list_write.specs.Answers.{image_in, write_answer};
 
-use image_size::image_size;
-use image_write::fill_image;
+use image_write::write_dictionary;
 use refusal::Refusal;
 use trie_check::{capacity, is_dictionary};
 use trie_pool::NODE;
@@ -21,10 +20,5 @@ pub fn write_image(pool: &[u32], out: &mut [u8]) -> Result<usize, Refusal>
         return Err(Refusal::NotADictionary);
     }
     let cells = NODE * capacity(pool.len());
-    let needed = image_size(&pool[..cells]);
-    if out.len() < needed {
-        return Err(Refusal::OutputTooShort(needed));
-    }
-    fill_image(&pool[..cells], out);
-    Ok(needed)
+    write_dictionary(&pool[..cells], out)
 }

@@ -11,11 +11,11 @@ mark_at-requires t c = cells c.requires
 pub own_size-size-requires : goal.own_size-size-requires
 own_size-size-requires t c = bytes_most c.requires
 
-pub overflow_mul-i : goal.overflow_mul-i
-overflow_mul-i t c = let s = c.requires in omega (arith, inside s, nodes_few s)
+pub overflow_mul-first : goal.overflow_mul-first
+overflow_mul-first t c = let s = c.requires in omega (arith, inside s, nodes_few s)
 
-pub overflow_add-i : goal.overflow_add-i
-overflow_add-i t c = let s = c.requires in omega (arith, inside s, nodes_few s)
+pub overflow_add-first : goal.overflow_add-first
+overflow_add-first t c = let s = c.requires in omega (arith, inside s, nodes_few s)
 
 pub offset_bounds-p-i : goal.offset_bounds-p-i
 offset_bounds-p-i t c = let s = c.requires in omega (arith, inside s, nodes_few s)
@@ -23,11 +23,11 @@ offset_bounds-p-i t c = let s = c.requires in omega (arith, inside s, nodes_few 
 pub bounds-p-i : goal.bounds-p-i
 bounds-p-i t c = omega (arith, cells c.requires)
 
-pub overflow_mul-i-2 : goal.overflow_mul-i-2
-overflow_mul-i-2 t c = let s = c.requires in omega (arith, inside s, nodes_few s)
+pub overflow_mul-count : goal.overflow_mul-count
+overflow_mul-count t c = let s = c.requires in omega (arith, inside s, nodes_few s)
 
-pub overflow_add-i-2 : goal.overflow_add-i-2
-overflow_add-i-2 t c = let s = c.requires in omega (arith, inside s, nodes_few s)
+pub overflow_add-count : goal.overflow_add-count
+overflow_add-count t c = let s = c.requires in omega (arith, inside s, nodes_few s)
 
 pub offset_bounds-p-i-2 : goal.offset_bounds-p-i-2
 offset_bounds-p-i-2 t c = let s = c.requires in omega (arith, inside s, nodes_few s)
@@ -35,15 +35,13 @@ offset_bounds-p-i-2 t c = let s = c.requires in omega (arith, inside s, nodes_fe
 pub bounds-p-i-2 : goal.bounds-p-i-2
 bounds-p-i-2 t c = omega (arith, cells c.requires)
 
-pub overflow_add-end : goal.overflow_add-end
-overflow_add-end t c =
+pub overflow_add-k-end : goal.overflow_add-k-end
+overflow_add-k-end t c =
     let s = c.requires in
     omega (
       arith,
       block_end s,
       nodes_few s,
-      c.wide-k.ensures,
-      c.wide.ensures,
       first_is c.args.p.now
           c.args.i,
       count_is c.args.p.now c.args.i,
@@ -52,8 +50,8 @@ overflow_add-end t c =
 pub loop-k-init : goal.loop-k-init
 loop-k-init t c =
     sizing_none c.requires _ _ _ _ c.own_size-size.ensures c.mark_at.ensures
-    (c.wide-k.ensures ∙ sym (first_is c.args.p.now c.args.i))
-    (c.wide.ensures ∙ sym (count_is c.args.p.now c.args.i))
+    (sym (first_is c.args.p.now c.args.i))
+    (sym (count_is c.args.p.now c.args.i))
 
 pub overflow_mul-k : goal.overflow_mul-k
 overflow_mul-k t c =
@@ -96,14 +94,6 @@ overflow_add-size t c =
       size_fits c.requires c.loop-k.invariant c.loop-k-test.true _ _ _
           (scalar_is c.args.p.now _) c.scalar_size.ensures c.size_from-size.ensures,
     )
-
-pub overflow_add-k : goal.overflow_add-k
-overflow_add-k t c =
-    let z = kid_in c.requires c.loop-k.invariant c.loop-k-test.true in
-    omega arith
-
-pub loop-k-smaller : goal.loop-k-smaller
-loop-k-smaller t c = omega (arith, c.loop-k-test.true)
 
 pub loop-k-preserved : goal.loop-k-preserved
 loop-k-preserved t c =

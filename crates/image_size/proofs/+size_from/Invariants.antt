@@ -1,4 +1,5 @@
-use Prim.Native.Nat.{◌-◌}
+use Prim.Native.Nat.{◌+◌, ◌-◌, ◌*◌}
+use lib.ListN.{get_or}
 use Rattle.trie_pool.specs.Cells.{used}
 use Rattle.image_size.proofs.Sizing.{Sizing}
 use Rattle.image_size.proofs.+size_from.Given as goal
@@ -7,7 +8,4 @@ abbrev pub decreases-size_from : goal.decreases-size_from
 decreases-size_from l = used l.p.now - l.i
 
 abbrev pub invariant-loop-k : goal.invariant-loop-k
-invariant-loop-k l = Sizing l.p l.i l.bytes l.end l.size l.k
-
-abbrev pub decreases-loop-k : goal.decreases-loop-k
-decreases-loop-k l = l.end - l.k
+invariant-loop-k l = Sizing l.p l.i l.bytes (get_or l.p (8 * l.i + 1) 0 + get_or l.p (8 * l.i + 2) 0) l.size l.k

@@ -8,4 +8,4 @@ pub returns-then-i-eq0 : goal.returns-then-i-eq0
 returns-then-i-eq0 c = mark_none c.args.p.now c.args.i c.if-i-eq0.true
 
 pub returns : goal.returns
-returns c = c.wide.ensures ∙ sym (mark_is c.args.p.now c.args.i (omega (arith, c.if-i-eq0.false)))
+returns c = sym (mark_is c.args.p.now c.args.i (omega (arith, c.if-i-eq0.false)))

@@ -1,16 +1,16 @@
 use Prim.Native.Nat.{◌-◌}
 use native.Mathlib.Omega.{arith}
-use mathlib.Core.Path.{sym, ◌∙◌}
+use mathlib.Core.Path.{refl, sym, ◌∙◌}
 use Rattle.trie_pool.proofs.Shape.{first_is, count_is}
 use Rattle.image_size.proofs.Sizing.{scalar_is, cells, block_end, nodes_few, inside}
 use Rattle.image_write.proofs.Writing.{stands, going_none, kid_in, kid_mark, scalar_fits, own_asks, kid_writes, going_next, going_all}
 use Rattle.image_write.proofs.+write_below.Goals as goal
 
-pub overflow_mul-i : goal.overflow_mul-i
-overflow_mul-i t c = let s = stands c.requires in omega (arith, inside s, nodes_few s)
+pub overflow_mul-first : goal.overflow_mul-first
+overflow_mul-first t c = let s = stands c.requires in omega (arith, inside s, nodes_few s)
 
-pub overflow_add-i : goal.overflow_add-i
-overflow_add-i t c = let s = stands c.requires in omega (arith, inside s, nodes_few s)
+pub overflow_add-first : goal.overflow_add-first
+overflow_add-first t c = let s = stands c.requires in omega (arith, inside s, nodes_few s)
 
 pub offset_bounds-p-i : goal.offset_bounds-p-i
 offset_bounds-p-i t c = let s = stands c.requires in omega (arith, inside s, nodes_few s)
@@ -18,11 +18,11 @@ offset_bounds-p-i t c = let s = stands c.requires in omega (arith, inside s, nod
 pub bounds-p-i : goal.bounds-p-i
 bounds-p-i t c = omega (arith, cells (stands c.requires))
 
-pub overflow_mul-i-2 : goal.overflow_mul-i-2
-overflow_mul-i-2 t c = let s = stands c.requires in omega (arith, inside s, nodes_few s)
+pub overflow_mul-count : goal.overflow_mul-count
+overflow_mul-count t c = let s = stands c.requires in omega (arith, inside s, nodes_few s)
 
-pub overflow_add-i-2 : goal.overflow_add-i-2
-overflow_add-i-2 t c = let s = stands c.requires in omega (arith, inside s, nodes_few s)
+pub overflow_add-count : goal.overflow_add-count
+overflow_add-count t c = let s = stands c.requires in omega (arith, inside s, nodes_few s)
 
 pub offset_bounds-p-i-2 : goal.offset_bounds-p-i-2
 offset_bounds-p-i-2 t c = let s = stands c.requires in omega (arith, inside s, nodes_few s)
@@ -30,15 +30,13 @@ offset_bounds-p-i-2 t c = let s = stands c.requires in omega (arith, inside s, n
 pub bounds-p-i-2 : goal.bounds-p-i-2
 bounds-p-i-2 t c = omega (arith, cells (stands c.requires))
 
-pub overflow_add-stop : goal.overflow_add-stop
-overflow_add-stop t c =
+pub overflow_add-k-end : goal.overflow_add-k-end
+overflow_add-k-end t c =
     let s = stands c.requires in
     omega (
       arith,
       block_end s,
       nodes_few s,
-      c.wide-k.ensures,
-      c.wide.ensures,
       first_is c.args.p.now
           c.args.i,
       count_is c.args.p.now c.args.i,
@@ -46,8 +44,8 @@ overflow_add-stop t c =
 
 pub loop-k-init : goal.loop-k-init
 loop-k-init t c =
-    going_none c.requires _ _ (c.wide-k.ensures ∙ sym (first_is c.args.p.now c.args.i))
-    (c.wide.ensures ∙ sym (count_is c.args.p.now c.args.i))
+    going_none c.requires _ _ (sym (first_is c.args.p.now c.args.i))
+    (sym (count_is c.args.p.now c.args.i))
 
 pub overflow_mul-k : goal.overflow_mul-k
 overflow_mul-k t c =
@@ -91,7 +89,7 @@ pub put_own-next-requires : goal.put_own-next-requires
 put_own-next-requires t c =
     own_asks c.requires c.loop-k.invariant c.loop-k-test.true _ (scalar_is c.args.p.now _) _ _
     c.put_scalar-m.ensures.value c.put_scalar-m.ensures.row_after _
-    (kid_mark c.requires c.loop-k.invariant c.loop-k-test.true _ c.wide-in-loop-k.ensures) c.put_scalar-m.auto.row
+    (kid_mark c.requires c.loop-k.invariant c.loop-k-test.true _ refl) c.put_scalar-m.auto.row
 
 pub write_below-end-requires : goal.write_below-end-requires
 write_below-end-requires t c = (
@@ -99,23 +97,15 @@ write_below-end-requires t c = (
   kid_writes
       c.requires c.loop-k.invariant c.loop-k-test.true _ (scalar_is c.args.p.now _) _ _
       c.put_scalar-m.ensures.value c.put_scalar-m.ensures.row_after _
-      (kid_mark c.requires c.loop-k.invariant c.loop-k-test.true _ c.wide-in-loop-k.ensures) _ _
+      (kid_mark c.requires c.loop-k.invariant c.loop-k-test.true _ refl) _ _
       c.put_own-next.ensures c.put_scalar-m.auto.row c.put_own-next.auto.out,
 )
-
-pub overflow_add-k-in-loop-k : goal.overflow_add-k-in-loop-k
-overflow_add-k-in-loop-k t c =
-    let z = kid_in c.requires c.loop-k.invariant c.loop-k-test.true in
-    omega arith
-
-pub loop-k-smaller : goal.loop-k-smaller
-loop-k-smaller t c = omega (arith, c.loop-k-test.true)
 
 pub loop-k-preserved : goal.loop-k-preserved
 loop-k-preserved t c =
     going_next c.requires c.loop-k.invariant c.loop-k-test.true _ (scalar_is c.args.p.now _) _ _
     c.put_scalar-m.ensures.value c.put_scalar-m.ensures.row_after _
-    (kid_mark c.requires c.loop-k.invariant c.loop-k-test.true _ c.wide-in-loop-k.ensures) _ _
+    (kid_mark c.requires c.loop-k.invariant c.loop-k-test.true _ refl) _ _
     c.put_own-next.ensures _ _ _ c.write_below-end.ensures c.put_scalar-m.auto.row
     c.write_below-end.auto.path c.put_own-next.auto.out c.write_below-end.auto.out
 
