@@ -22,6 +22,9 @@ pub fn narrow(x: usize) -> u32
     x as u32
 }
 
+// Kept: (6) here and below: the contract says what becomes of the whole row, which a caller that
+// lends a part of it would have to put together again.
+//
 // Adds `by` to each of the first k cells.
 pub fn shift(row: &mut [u32], k: usize, by: usize)
     requires { (k ≤ length row.old) × ((i : ℕ) → i < k → get_or row.old i 0 + by ≤ 65535) }

@@ -6,7 +6,7 @@ ghost use Rattle.std.specs.Prelude.{◌≡◌, length};
 ghost use Rattle.char_string.specs.Parts.{right_pair, fitted, part_of, cell_at, char_at, sub_view};
 
 // A part of a text: from start up to, and without, end.
-#[derive(Clone, Copy)]
+#[derive(Clone, Copy, Debug, PartialEq, Eq)]
 pub struct Span {
     pub start: usize,
     pub end: usize,
@@ -16,10 +16,7 @@ pub struct Span {
 pub fn is_substring(text: &[u32], start: usize, end: usize) -> bool
     ensures { result ≡ right_pair (length text.now) start end }
 {
-    if end < start {
-        return false;
-    }
-    end <= text.len()
+    start <= end && end <= text.len()
 }
 
 // The pair itself where it is right, and else the empty part at the text's start.

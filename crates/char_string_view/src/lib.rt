@@ -6,6 +6,7 @@ ghost use Rattle.std.specs.Prelude.{◌≡◌, length};
 ghost use Rattle.char_string.specs.Parts.{part_of, fitted, cell_at, char_at, sub_view};
 ghost use Rattle.char_string_view.specs.Views.{view_of, shown, shown_at, sub_view_of};
 
+// Kept: (4) a view is asked, never compared or printed.
 #[derive(Clone, Copy)]
 pub struct CharView<'a> {
     pub text: &'a [u32],

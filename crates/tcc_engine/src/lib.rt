@@ -27,13 +27,14 @@ pub const ALTERNATIVES: usize = 29;
 pub const AHEAD: usize = 27;
 
 // A cluster: the number of the alternative that won, 0 for none, and where the cluster ends.
-#[derive(Clone, Copy)]
+#[derive(Clone, Copy, Debug, PartialEq, Eq)]
 pub struct Won {
     pub number: u32,
     pub end: usize,
 }
 
 // The tables with which clusters are matched: read back, they are the alternatives.
+// Kept: (4) an engine is asked, never compared or printed.
 #[derive(Clone, Copy)]
 pub struct Engine<'a> {
     pub classes: &'a Classes,

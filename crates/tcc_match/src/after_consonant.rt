@@ -10,6 +10,7 @@ use crate::letters::{
     is_vowel,
 };
 
+// Kept: (5) here and in after_e, after_vowel: what is known of the characters differs in each function.
 pub fn from_consonant(text: &[u32], p: usize) -> usize
     requires { Begins (some consonant ∷ []) text.now p }
     ensures { result ≡ cluster_end text.now p }

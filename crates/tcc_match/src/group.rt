@@ -9,6 +9,7 @@ use crate::letters::{
 };
 
 // A class of characters that may be skipped. 0, which is read past the end, is in none.
+// Kept: (4) a class is named as a type and has no values to compare or print.
 pub trait Class {
     ghost ranges: { List Range };
 

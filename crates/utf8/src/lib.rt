@@ -12,7 +12,7 @@ use refusal::{MAX_SCALARS, Refusal};
 use utf8_sequences::{next_size, piece_at, piece_of_e0, thai_at, thai_of_four};
 
 // How far the first pass has come: a place, and how many scalars stand before it.
-#[derive(Clone, Copy)]
+#[derive(Clone, Copy, Debug, PartialEq, Eq)]
 pub struct Reached {
     pub at: usize,
     pub scalars: usize,
@@ -153,6 +153,8 @@ pub fn decode(bytes: &[u8], out: &mut [u32], positions: &mut [u32]) -> Result<us
     Ok(scalars)
 }
 
+// Kept: (6) a row may be longer than a text of n characters, and C lends it whole.
+//
 // An end of a text of n characters in bytes: the cell of its position row at that end. An end over
 // n has none, nor has one that the row has no cell for.
 pub fn end_in_bytes(positions: &[u32], n: usize, end: usize) -> Option<usize>

@@ -11,7 +11,7 @@ ghost use Rattle.utf8_sequences.specs.inner.Pieces.{piece_of, FourBytes};
 use leads::lead;
 
 // The scalar at a place, and the number of bytes of its sequence.
-#[derive(Clone, Copy)]
+#[derive(Clone, Copy, Debug, PartialEq, Eq)]
 pub struct Piece {
     pub scalar: u32,
     pub size: usize,
