@@ -16,9 +16,8 @@ use Rattle.sheet_texts.specs.declared.Reply.{Reply}
 use Rattle.sheet_texts.specs.declared.Reply.TheVariants as replies
 use Rattle.sheet_replies.specs.Replies.{next, reported}
 use Rattle.sheet_replies.proofs.Replying.{reported_text}
-use Rattle.word_lines.specs.declared.Taken.{Taken}
-use Rattle.word_lines.specs.declared.Taken.TheVariants.{NoClass, Answered}
-use Rattle.word_lines.specs.Lines.{tab_in, class_behind, class_of, word_of, is_term, add_term, taken_by, PoolBy, row_by}
+use Rattle.word_lines.specs.declared.LineError.TheVariants.{NoClass}
+use Rattle.word_lines.specs.Lines.{Taken, answered, tab_in, class_behind, class_of, word_of, is_term, add_term, taken_by, PoolBy, row_by}
 
 -- the answer that a reply reports
 answer_in : Reply → Result ℕ Refusal
@@ -52,19 +51,19 @@ module _ (line pool scalars positions : List ℕ) {tab class : ℕ} (at_tab : ta
   class_is = is ∙ ap (class_behind line) at_tab
 
   -- something else than a class stands behind the tab
-  pub no_class : 65535 < class → Takes pool pool scalars scalars positions positions NoClass (is_term line) (word_of line) (class_of line)
+  pub no_class : 65535 < class → Takes pool pool scalars scalars positions positions (Err NoClass) (is_term line) (word_of line) (class_of line)
   no_class h =
       let no' : false ≡ is_term line = sym (lt-leb (class_of line) 65535 (subst (λ (x : ℕ). 65535 < x) class_is h)) in
-      subst (λ (b : Bool). Takes pool pool scalars scalars positions positions NoClass b (word_of line) (class_of line)) no' (refl, (refl, (refl, refl)))
+      subst (λ (b : Bool). Takes pool pool scalars scalars positions positions (Err NoClass) b (word_of line) (class_of line)) no' (refl, (refl, (refl, refl)))
 
   -- the word before it is added
   pub word_added : class ≤ 65535 → {w : List ℕ} → w ≡ take tab line → (pool₁ : List ℕ) {scalars₁ positions₁ : List ℕ} {a : Result ℕ Refusal}
       → (a ≡ add_term w class pool (room_in scalars positions)) × (After (add_term w class pool (room_in scalars positions)) pool pool₁ (added (scalars_of w) class pool)
       × ((scalars₁ ≡ output (decoded w (room_in scalars positions)) (scalars_of w) scalars) × (positions₁ ≡ output (decoded w (room_in scalars positions)) (positions_of w) positions)))
-      → Takes pool pool₁ scalars scalars₁ positions positions₁ (Answered a) (is_term line) (word_of line) (class_of line)
+      → Takes pool pool₁ scalars scalars₁ positions positions₁ (answered a) (is_term line) (word_of line) (class_of line)
   word_added h {w} e pool₁ {scalars₁} {positions₁} {a} g =
       let yes' : true ≡ is_term line = sym (le-leb (class_of line) 65535 (subst (λ (x : ℕ). x ≤ 65535) class_is h)) in
-      let given : Takes pool pool₁ scalars scalars₁ positions positions₁ (Answered a) true w class = (ap Answered g.0, g.1) in
-      subst (λ (b : Bool). Takes pool pool₁ scalars scalars₁ positions positions₁ (Answered a) b (word_of line) (class_of line)) yes'
-      (subst (λ (x : ℕ). Takes pool pool₁ scalars scalars₁ positions positions₁ (Answered a) true (word_of line) x) class_is
-      (subst (λ (v : List ℕ). Takes pool pool₁ scalars scalars₁ positions positions₁ (Answered a) true v class) (e ∙ ap (λ (k : ℕ). take k line) at_tab) given))
+      let given : Takes pool pool₁ scalars scalars₁ positions positions₁ (answered a) true w class = (ap answered g.0, g.1) in
+      subst (λ (b : Bool). Takes pool pool₁ scalars scalars₁ positions positions₁ (answered a) b (word_of line) (class_of line)) yes'
+      (subst (λ (x : ℕ). Takes pool pool₁ scalars scalars₁ positions positions₁ (answered a) true (word_of line) x) class_is
+      (subst (λ (v : List ℕ). Takes pool pool₁ scalars scalars₁ positions positions₁ (answered a) true v class) (e ∙ ap (λ (k : ℕ). take k line) at_tab) given))
