@@ -2,5 +2,4 @@ pub mod TextEnds
 pub mod Answered
 pub mod Small
 pub mod Steady
-pub mod Putting
 pub mod Turns

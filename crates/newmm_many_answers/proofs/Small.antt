@@ -21,11 +21,8 @@ use Rattle.newmm_rules.specs.declared.Mode.{Mode}
 use Rattle.newmm_answers.specs.Answers.{cut_of, cut_causes, accepts, cut_answer}
 use Rattle.newmm_answers.proofs.Cuts.{few_ends, few_edges}
 use Rattle.newmm_answers.proofs.Told.{told_ends, told_refused, accepted_is}
-use Rattle.newmm_many_answers.specs.declared.Wanted.{Wanted}
-use Rattle.newmm_many_answers.specs.declared.Wanted.TheVariants as wants
 use Rattle.newmm_many_answers.specs.Turns.{ends_told}
 use Rattle.newmm_many_answers.specs.inner.Small.{Small}
-use Rattle.newmm_many_answers.specs.inner.Singles.{width_of}
 
 -- the detail of each cause fits, where it is the first that holds
 abbrev EachFits : List Cause → Type 0
@@ -82,10 +79,3 @@ few_told {told} s = go told refl
     go : (x : Result Ends Refusal) → told ≡ x → ends_told x ≤ 4294967295
     go (Ok told) h = (s.counts told.ends told.edges h).0
     go (Err r) h = omega arith
-
-module _ (told : Result Ends Refusal) {wanted : Wanted} {n : ℕ} (is : n ≡ ends_told told) where
-  pub one_each : wanted ≡ wants.Ends → n ≡ width_of wanted * ends_told told
-  one_each e = (let z : n ≡ 1 * ends_told told = omega arith in z) ∙ sym (ap (λ (x : Wanted). width_of x * ends_told told) e)
-
-  pub two_each : wanted ≡ wants.Pairs → 2 * n ≡ width_of wanted * ends_told told
-  two_each e = (let z : 2 * n ≡ 2 * ends_told told = omega arith in z) ∙ sym (ap (λ (x : Wanted). width_of x * ends_told told) e)
