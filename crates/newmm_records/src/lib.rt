@@ -19,6 +19,7 @@ pub struct Record {
     pub reason: u32,
 }
 
+// Kept: (6) one number says how much of two rows is taken, in place of two slices at the call.
 // Takes the first n told cells out of their row, which is 0 there then, into records.
 fn fill(records: &mut [Record], told: &mut [u32], n: usize)
     requires { (n ≤ length records.old) × (n ≤ length told.old) }
