@@ -70,6 +70,7 @@ impl PartWriter for PartCells {
 
 // Tells a text in a mode: its cells stand at the front of the row, whose other cells are as they
 // were.
+// Kept: (2) as `segment_single`, but for a text as a whole, which that one cuts with no shift.
 pub fn tell_text(text: &[u32], pool: &[u32], row: &mut [u32], mode: Mode) -> Ends
     requires { Ready text.now pool.now row.old }
     ensures { Written (text_cells mode (holds pool.now) text.now)
