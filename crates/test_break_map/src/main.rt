@@ -118,7 +118,9 @@ fn halve(map: &[u64], halves: &mut [u32]) {
 }
 
 // Reads a map to the front of the row; how many cells it has.
-fn read_map(rt: &impl Print, text: &[u8], map: &mut [u64], halves: &mut [u32]) -> usize {
+fn read_map(rt: &impl Print, text: &[u8], map: &mut [u64], halves: &mut [u32]) -> usize
+    ensures { result ≤ length map.old }
+{
     let n = read_cells(rt, text, halves);
     if map.len() < n / 2 {
         let _ = print!(rt; "?");

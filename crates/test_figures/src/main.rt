@@ -85,6 +85,7 @@ impl Rows {
         print!(rt; " {}", Joined(&figures, ','))
     }
 
+    // Kept: (1) whether the text's own answer is shown is a plain yes or no.
     // Feeds the text whose four fields start at the k-th of a line, with the words of the first
     // cells of the pool.
     fn feed_text(

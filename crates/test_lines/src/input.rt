@@ -47,6 +47,7 @@ pub fn read_full<R: Read>(input: &mut R, buffer: &mut [u8]) -> usize
     ensures read { Consumes (R.remaining input.old) (R.remaining input.new) (take result buffer.new) }
 {
     let mut done = 0;
+    // Kept: (3) a read says how far it came, so no iterator goes over the buffer.
     while done < buffer.len() {
         match input.read(&mut buffer[done..]) {
             Ok(0) => return done,

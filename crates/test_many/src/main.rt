@@ -149,27 +149,24 @@ impl<'a> Lent<'a> {
     }
 
     fn call(&mut self, mode: Mode, form: Form) -> Result<usize, Refusal> {
-        let Lent {
-            texts,
-            text_ends,
-            pool,
-            answers,
-            out,
-            scratch,
-        } = self;
+        let (texts, ends, pool) = (self.texts, self.text_ends, self.pool);
+        let answers = &mut *self.answers;
+        let out = &mut *self.out;
+        let scratch = &mut *self.scratch;
         match form {
-            Form::Ends => cut_many(texts, text_ends, pool, answers, out, scratch, mode),
-            Form::Pairs => cut_reasons_many(texts, text_ends, pool, answers, out, scratch, mode),
+            Form::Ends => cut_many(texts, ends, pool, answers, out, scratch, mode),
+            Form::Pairs => cut_reasons_many(texts, ends, pool, answers, out, scratch, mode),
             Form::EndsOf(plant) => {
-                cut_many_in(texts, text_ends, pool, plant, answers, out, scratch, mode)
+                cut_many_in(texts, ends, pool, plant, answers, out, scratch, mode)
             }
             Form::PairsOf(plant) => {
-                cut_reasons_many_in(texts, text_ends, pool, plant, answers, out, scratch, mode)
+                cut_reasons_many_in(texts, ends, pool, plant, answers, out, scratch, mode)
             }
         }
     }
 }
 
+// Kept: (1) whether there are pairs is a plain yes or no.
 // The cells that the answers count: one for an end, two for a pair; all of them where that is less.
 fn used_cells(answers: &[u32], room: usize, pairs: bool) -> usize {
     if pairs {

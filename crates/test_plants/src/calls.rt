@@ -15,6 +15,7 @@ use word_list_plants::read_image_in;
 use word_list_plants_write::write_image_in;
 use word_list_write::write_image;
 
+// Kept: (2, 7) what is tested are two public functions with contracts of their own for each call.
 // The plant whose words are meant; none in a plain pool.
 pub type Whose = Option<Plant>;
 

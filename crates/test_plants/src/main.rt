@@ -9,7 +9,7 @@ mod calls;
 mod cuts;
 mod steps;
 
-ghost use Rattle.std.specs.Prelude.{◌≤◌, length};
+ghost use Rattle.std.specs.Prelude.{◌≤◌, IfOk, length, vec_len};
 
 use crate::calls::amount;
 use std::io;
@@ -91,7 +91,9 @@ impl Rows {
 
     // Makes a step with the first n cells of the pool lent, and answers how many are lent from then
     // on.
-    fn turn(&mut self, rt: &impl Print, text: &[u8], n: usize) -> io::Result<usize> {
+    fn turn(&mut self, rt: &impl Print, text: &[u8], n: usize) -> io::Result<usize>
+        ensures { IfOk result (λ m. m ≤ vec_len self.new.pool) }
+    {
         let room = n.min(self.pool.len());
         let (op, given) = opened(text);
         if op == b'l' {

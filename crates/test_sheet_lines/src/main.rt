@@ -92,14 +92,18 @@ fn feed_all(
     let mut used = 0;
     let mut kept = 0;
     let mut rest = bytes;
-    while !rest.is_empty() {
+    // Each call takes a byte at least.
+    for _turn in 0..bytes.len() {
+        if rest.is_empty() {
+            break;
+        }
         let part = front(rest, most);
         let fed = feed(
             part, line, kept, pool, scalars, positions, ends, scratch, out,
         );
         used = keep(written, used, front(out, fed.written));
         kept = fed.kept;
-        rest = &rest[fed.taken..];
+        rest = rest.get(fed.taken..).unwrap_or(&[]);
     }
     let n = finish(line, kept, pool, scalars, positions, ends, scratch, out);
     keep(written, used, front(out, n))
