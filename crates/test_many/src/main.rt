@@ -79,17 +79,6 @@ struct Rows {
     scratch: Vec<u32>,
 }
 
-// The rows of one call, as long as a line says.
-#[derive(Drop)]
-struct Lent<'a> {
-    texts: &'a [u32],
-    text_ends: &'a [u32],
-    pool: &'a [u32],
-    answers: &'a mut [u32],
-    out: &'a mut [u32],
-    scratch: &'a mut [u32],
-}
-
 impl Answers for Rows {
     // many mode, words, texts, text ends, answer cells, out cells, scratch cells
     //     => ok texts answers ends scratch
@@ -111,57 +100,72 @@ impl Answers for Rows {
         let told = lent(rt, field(line, 5), self.answers.len());
         let room = lent(rt, field(line, 6), self.out.len());
         let scratch_room = lent(rt, field(line, 7), self.scratch.len());
-        let rows = Lent {
-            texts: &self.texts[..n],
-            text_ends: &self.text_ends[..k],
-            pool: first(&self.pool, cells),
-            answers: &mut self.answers[..told],
-            out: &mut self.out[..room],
-            scratch: &mut self.scratch[..scratch_room],
-        };
-        rows.tell(rt, mode, form)
+        tell_many(
+            rt,
+            &self.texts[..n],
+            &self.text_ends[..k],
+            first(&self.pool, cells),
+            &mut self.answers[..told],
+            &mut self.out[..room],
+            &mut self.scratch[..scratch_room],
+            mode,
+            form,
+        )
     }
 }
 
-impl<'a> Lent<'a> {
-    fn tell(mut self, rt: &impl Print, mode: Mode, form: Form) -> io::Result<()> {
-        smear(self.answers);
-        smear(self.out);
-        smear(self.scratch);
-        match self.call(mode, form) {
-            Ok(n) => {
-                let told = first(self.answers, n.saturating_mul(4));
-                let used = used_cells(told, self.out.len(), form.has_pairs());
-                let ends = first(self.out, used);
-                print!(rt; "ok {n} {} {} ", Joined(told, ','), Joined(ends, ','))?;
-                expect_leftovers(rt, self.out, used);
-                expect_leftovers(rt, self.answers, told.len());
-                print_left(rt, self.scratch);
-                Ok(())
-            }
-            Err(r) => {
-                expect_leftovers(rt, self.answers, 0);
-                expect_leftovers(rt, self.out, 0);
-                expect_leftovers(rt, self.scratch, 0);
-                print!(rt; "{}", Refused(r))
-            }
+fn tell_many(
+    rt: &impl Print,
+    texts: &[u32],
+    text_ends: &[u32],
+    pool: &[u32],
+    answers: &mut [u32],
+    out: &mut [u32],
+    scratch: &mut [u32],
+    mode: Mode,
+    form: Form,
+) -> io::Result<()> {
+    smear(answers);
+    smear(out);
+    smear(scratch);
+    match answer_to(texts, text_ends, pool, answers, out, scratch, mode, form) {
+        Ok(n) => {
+            let told = first(answers, n.saturating_mul(4));
+            let used = used_cells(told, out.len(), form.has_pairs());
+            let ends = first(out, used);
+            print!(rt; "ok {n} {} {} ", Joined(told, ','), Joined(ends, ','))?;
+            expect_leftovers(rt, out, used);
+            expect_leftovers(rt, answers, told.len());
+            print_left(rt, scratch);
+            Ok(())
+        }
+        Err(r) => {
+            expect_leftovers(rt, answers, 0);
+            expect_leftovers(rt, out, 0);
+            expect_leftovers(rt, scratch, 0);
+            print!(rt; "{}", Refused(r))
         }
     }
+}
 
-    fn call(&mut self, mode: Mode, form: Form) -> Result<usize, Refusal> {
-        let (texts, ends, pool) = (self.texts, self.text_ends, self.pool);
-        let answers = &mut *self.answers;
-        let out = &mut *self.out;
-        let scratch = &mut *self.scratch;
-        match form {
-            Form::Ends => cut_many(texts, ends, pool, answers, out, scratch, mode),
-            Form::Pairs => cut_reasons_many(texts, ends, pool, answers, out, scratch, mode),
-            Form::EndsOf(plant) => {
-                cut_many_in(texts, ends, pool, plant, answers, out, scratch, mode)
-            }
-            Form::PairsOf(plant) => {
-                cut_reasons_many_in(texts, ends, pool, plant, answers, out, scratch, mode)
-            }
+fn answer_to(
+    texts: &[u32],
+    text_ends: &[u32],
+    pool: &[u32],
+    answers: &mut [u32],
+    out: &mut [u32],
+    scratch: &mut [u32],
+    mode: Mode,
+    form: Form,
+) -> Result<usize, Refusal> {
+    match form {
+        Form::Ends => cut_many(texts, text_ends, pool, answers, out, scratch, mode),
+        Form::Pairs => cut_reasons_many(texts, text_ends, pool, answers, out, scratch, mode),
+        Form::EndsOf(plant) => {
+            cut_many_in(texts, text_ends, pool, plant, answers, out, scratch, mode)
+        }
+        Form::PairsOf(plant) => {
+            cut_reasons_many_in(texts, text_ends, pool, plant, answers, out, scratch, mode)
         }
     }
 }
