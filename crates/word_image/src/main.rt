@@ -58,56 +58,61 @@ impl fmt::Display for Stop {
 
 // The words so far, the rows for one more, and how many lines were read.
 #[derive(Drop)]
-struct Adding {
-    pool: [u32; POOL],
-    scalars: [u32; TEXT],
-    positions: [u32; POSITIONS],
+struct Adding<'a> {
+    pool: &'a mut [u32],
+    scalars: &'a mut [u32],
+    positions: &'a mut [u32],
     lines: u64,
 }
 
-impl Lines for Adding {
+impl<'a> Lines for Adding<'a> {
     type Stop = Stop;
 
     // Adds the word of the next line.
     fn take_line(&mut self, line: &[u8]) -> Result<(), Stop> {
-        let Adding {
-            pool,
-            scalars,
-            positions,
-            lines,
-        } = self;
-        *lines = lines.saturating_add(1);
+        self.lines = self.lines.saturating_add(1);
         if LINE <= line.len() {
-            return Err(Stop::TooLong(*lines));
+            return Err(Stop::TooLong(self.lines));
         }
-        match take_line(line, pool, scalars, positions) {
+        match take_line(line, self.pool, self.scalars, self.positions) {
             Ok(_) => Ok(()),
-            Err(error) => Err(Stop::Line(*lines, error)),
+            Err(error) => Err(Stop::Line(self.lines, error)),
         }
     }
 }
 
 fn main(rt: HostRuntime) {
-    if let Err(stop) = make_image(&mut rt.stdin(), &mut rt.stdout()) {
+    let mut pool = [0; POOL];
+    // A pool of this length is not refused.
+    let _ = trie_char::fresh(&mut pool);
+    if let Err(stop) = make_image(&mut rt.stdin(), &mut rt.stdout(), &mut pool) {
         let _ = println!(rt.stderr(); "word_image: {stop}");
     }
 }
 
-// Adds the words of all of the input, and writes the image.
-fn make_image<R: Read, W: Write>(input: &mut R, output: &mut W) -> Result<(), Stop> {
+// Adds the words of all of the input to the pool, and writes their image.
+fn make_image<R: Read, W: Write>(
+    input: &mut R,
+    output: &mut W,
+    pool: &mut [u32],
+) -> Result<(), Stop> {
     let mut row = [0u8; LINE];
-    let mut pool = [0; POOL];
-    // A pool of this length is not refused.
-    let _ = trie_char::fresh(&mut pool);
+    let mut scalars = [0; TEXT];
+    let mut positions = [0; POSITIONS];
     let mut adding = Adding {
         pool,
-        scalars: [0; TEXT],
-        positions: [0; POSITIONS],
+        scalars: &mut scalars,
+        positions: &mut positions,
         lines: 0,
     };
     read_lines(input, &mut row, &mut adding)?;
+    write_words(output, adding.pool)
+}
+
+// Writes the image of the pool's words.
+fn write_words<W: Write>(output: &mut W, pool: &[u32]) -> Result<(), Stop> {
     let mut image = [0u8; IMAGE];
-    match write_image(&adding.pool, &mut image) {
+    match write_image(pool, &mut image) {
         Ok(n) => {
             write_whole(output, front(&image, n))?;
             Ok(())
