@@ -78,6 +78,7 @@ fn list_words<R: Read, W: Write>(input: &mut R, output: &mut W) -> Result<(), St
 // Reads to the end of the input, or until the row is full.
 fn read_all<R: Read>(input: &mut R, image: &mut [u8]) -> Result<usize, Failure> {
     let mut n = 0;
+    // Kept: (3) a read says how far it came, so no iterator goes over the row.
     while n < image.len() {
         let k = read_some(input, &mut image[n..])?;
         if k == 0 {

@@ -106,7 +106,7 @@ impl Rows {
             return Ok(most);
         }
         self.work.step(rt, text, &mut self.pool[..room])?;
-        Ok(room)
+        Ok(room.min(self.pool.len()))
     }
 }
 

@@ -30,6 +30,8 @@ use Rattle.sheet_texts.proofs.keep_number.Kinds as keep_number_kinds
 use Rattle.sheet_texts.proofs.keep_number.Reads as keep_number_contract
 use Rattle.sheet_bytes.proofs.keep.Kinds as keep_kinds
 use Rattle.sheet_bytes.proofs.keep.Reads as keep_contract
+use Rattle.sheet_bytes.proofs.count_before.Kinds as count_before_kinds
+use Rattle.sheet_bytes.proofs.count_before.Reads as count_before_contract
 use Rattle.sheet_bytes.proofs.line_end.Kinds as line_end_kinds
 use Rattle.sheet_bytes.proofs.line_end.Reads as line_end_contract
 use Rattle.sheet_bytes.proofs.front.Kinds as front_kinds
@@ -98,6 +100,9 @@ keep_number_one κs a x y s t p q = both (answer p.0 q.0) (answer p.1 q.1)
 
 pub keep_one : OneAnswer {A = ℕ × List ℕ} 2 keep_kinds.ps keep_kinds.r keep_contract.Post (λ κs x s. (x, s.0.now))
 keep_one κs a x y s t p q = both (answer p.0 q.0) (answer p.1 q.1)
+
+pub count_before_one : OneAnswer {A = ℕ} 1 count_before_kinds.ps count_before_kinds.r count_before_contract.Post (λ κs x s. x)
+count_before_one κs a x y s t p q = answer p q
 
 pub line_end_one : OneAnswer {A = ℕ} 1 line_end_kinds.ps line_end_kinds.r line_end_contract.Post (λ κs x s. x)
 line_end_one κs a x y s t p q = answer p q
