@@ -22,7 +22,7 @@ def read(*path):
 
 def numbers(source, name):
     """The numbers of a constant array."""
-    body = re.search(r"pub const %s: \w+ = \[(.*?)\];" % name, source, re.S)[1]
+    body = re.search(r"pub (?:const|static) %s: \w+ = \[(.*?)\];" % name, source, re.S)[1]
     return [int(x.replace("_", ""), 0) for x in re.sub(r"//.*", "", body).replace(",", " ").split()]
 
 
