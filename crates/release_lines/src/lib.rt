@@ -57,14 +57,7 @@ fn count_text(
     let decoded = utf8::decode(text, scalars, positions);
     match decoded {
         Err(r) => is_refused_full(feed_refused(figures, r.number() as u32)),
-        Ok(n) => is_fed_full(feed(
-            figures,
-            &scalars[..n],
-            pool,
-            pairs,
-            scratch,
-            mode,
-        )),
+        Ok(n) => is_fed_full(feed(figures, &scalars[..n], pool, pairs, scratch, mode)),
     }
 }
 
