@@ -1,6 +1,6 @@
 """Checks that every name in docs/TRACE.md exists, and every path into a crate in README.md and docs/: python3 docs/check_trace.py
 
-It leaves out docs/PORT.md, which has older paths, too.
+It leaves out docs/PORT.md and docs/DESIGN-PASS.md, which have older paths, too.
 
 A definition or a theorem stands in the file before it, a contract's function in its crate's src/, a must-fail edit in
 its crate, and an op of a test in the first fields of the test's stdin.
@@ -186,7 +186,7 @@ def main():
                 print("line %d, %s: %s" % (number, column, problem))
                 problems += 1
     pages = [os.path.join(ROOT, name) for name in ("README.md", "CONTRIBUTING.md") if os.path.exists(os.path.join(ROOT, name))]
-    pages += sorted(set(glob.glob(os.path.join(ROOT, "docs", "*.md"))) - {os.path.join(ROOT, "docs", "PORT.md")})
+    pages += sorted(set(glob.glob(os.path.join(ROOT, "docs", "*.md"))) - {os.path.join(ROOT, "docs", n) for n in ("PORT.md", "DESIGN-PASS.md")})
     for page in pages:
         for problem in paths(page):
             print(problem)
