@@ -18,7 +18,6 @@ use Rattle.newmm_rules.proofs.Spans.{non_thai_inside}
 use Rattle.newmm_rules.proofs.Lengths.{behind, behind_all, behind_end, behind_none, behind_word, behind_part}
 use Rattle.trie_pool.specs.inner.Sound.{Readable}
 use Rattle.tcc.specs.Flags.{is_end, end_flags}
-use Rattle.newmm_word_step.specs.inner.Places.{Place}
 use Rattle.newmm_word_step.specs.declared.Step.{Step}
 use Rattle.newmm_word_step.specs.declared.Step.TheVariants.{Nothing, Word, Part}
 use Rattle.newmm_word_step.specs.inner.Walks.{given_by, Walked, Asks, Next, StepIs}
@@ -168,31 +167,65 @@ module _ (g : Given) (b : ℕ) where
   unfolding token_end
   token_match k h n = simp (ne_eqb (non_thai_at g b) 0 (λ e. n (h ∙ e))) (ap (λ (i : ℕ). b + i) h)
 
--- ---- by what stands there
+-- ---- both walks
 
-module _ {text pool flags : List ℕ} {p : ℕ} (a : Place text pool flags p) where
-  abbrev here : Given
-  here = given_by text pool
+-- the words at the cluster end p are being tried
+pub record Inner (text pool : List ℕ) (b p limit e node : ℕ) : Type 0 where
+  pub skipping : Skipping (given_by text pool) b p
+  pub inside : p < length text
+  pub end_is : is_end text p ≡ true
+  pub plain : ltb 0 (non_thai_at (given_by text pool) p) ≡ false
+  pub trying : Trying text pool p limit e node
 
-  pub not_here : get_or flags p 0 ≡ 0 → false ≡ stops_at here p
-  not_here z = sym (stops_not_end here p (end_no text a.flags_are (let i = a.inside in omega arith) z))
+module _ {text : List ℕ} (pool : List ℕ) {b p : ℕ} (s : Skipping (given_by text pool) b p) (inside : p < length text) where
+  pub on_plain : (flags : List ℕ) → flags ≡ end_flags text → get_or flags p 0 ≡ 0 → Skipping (given_by text pool) b (p + 1)
+  on_plain flags f z = skip_on s inside (stops_not_end (given_by text pool) p (end_no text f (omega arith) z))
 
-  module _ (n : get_or flags p 0 ≡ 0 → ⊥) {r : Bool} (m : r ≡ ltb 0 (non_thai (take (length text - p) (drop p text)))) where
+  module _ (flags : List ℕ) (f : flags ≡ end_flags text) (n : get_or flags p 0 ≡ 0 → ⊥) {r : Bool} (m : r ≡ ltb 0 (non_thai (take (length text - p) (drop p text)))) where
     ends_here : is_end text p ≡ true
-    ends_here = end_yes text a.flags_are (let i = a.inside in omega arith) n
+    ends_here = end_yes text f (omega arith) n
 
-    matches : r ≡ ltb 0 (non_thai_at here p)
+    matches : r ≡ ltb 0 (non_thai_at (given_by text pool) p)
     matches = m ∙ ap (λ (l : List ℕ). ltb 0 (non_thai l)) (tail_drop text p)
 
-    pub run_here : r ≡ true → true ≡ stops_at here p
-    run_here t = sym (stops_non_thai here p ends_here (sym matches ∙ t))
+    pub here_non_thai : r ≡ true → p ≡ skip_end (given_by text pool) b
+    here_non_thai t = skip_here s inside (stops_non_thai (given_by text pool) p ends_here (sym matches ∙ t))
 
-    pub word_here : r ≡ false → {s : Bool} → s ≡ starts_word here p → s ≡ stops_at here p
-    word_here t {s} h = go s h
-      where
-        go : (s : Bool) → s ≡ starts_word here p → s ≡ stops_at here p
-        go true h = sym (stops_word here p ends_here (sym h))
-        go false h = sym (stops_no_word here p (sym h) (sym matches ∙ t))
+    pub inner_first : {limit : ℕ} → r ≡ false → Readable pool 0 → limit ≡ p + min 255 (length text - p) → Inner text pool b p limit p 0
+    inner_first {limit} t q l = record { skipping = s; inside = inside; end_is = ends_here; plain = sym matches ∙ t; trying = try_first text pool p limit (omega arith) q l }
+
+module _ {text pool : List ℕ} {b p limit e node : ℕ} (i : Inner text pool b p limit e node) where
+  past : starts_word (given_by text pool) p ≡ false → Skipping (given_by text pool) b (p + 1)
+  past n = skip_on i.skipping i.inside (stops_no_word (given_by text pool) p n i.plain)
+
+  pub inner_end : limit ≤ e → Skipping (given_by text pool) b (p + 1)
+  inner_end h = past (try_end text pool p limit i.trying h)
+
+  module _ (r : Step) (told : (b : ℕ) → Walked text pool b e node → StepIs r text pool b e) where
+    pub inner_none : r ≡ Nothing → Skipping (given_by text pool) b (p + 1)
+    inner_none q = past (try_none text pool p limit i.trying (subst (λ (x : Step). StepIs x text pool p e) q (told p i.trying.walked)))
+
+    part_of : {k : ℕ} → r ≡ Part k → Next text pool p e k false
+    part_of q = subst (λ (x : Step). StepIs x text pool p e) q (told p i.trying.walked)
+
+    word_of : {k : ℕ} → r ≡ Word k → Next text pool p e k true
+    word_of q = subst (λ (x : Step). StepIs x text pool p e) q (told p i.trying.walked)
+
+    again : {k : ℕ} → Trying text pool p limit (e + 1) k → Inner text pool b p limit (e + 1) k
+    again t = record { skipping = i.skipping; inside = i.inside; end_is = i.end_is; plain = i.plain; trying = t }
+
+    module _ (more : e < limit) where
+      pub inner_part : {k : ℕ} → r ≡ Part k → Inner text pool b p limit (e + 1) k
+      inner_part q = again (try_part text pool p limit i.trying more (part_of q))
+
+      pub inner_short : {k : ℕ} {t : Bool} → r ≡ Word k → t ≡ is_short (span (given_by text pool) p (e + 1)) → t ≡ true → Inner text pool b p limit (e + 1) k
+      inner_short q u v = again (try_short text pool p limit i.trying more (word_of q) (sym u ∙ v))
+
+      pub inner_word : {k : ℕ} {t : Bool} → r ≡ Word k → t ≡ is_short (span (given_by text pool) p (e + 1)) → t ≡ false → p ≡ skip_end (given_by text pool) b
+      inner_word q u v = skip_here i.skipping i.inside (stops_word (given_by text pool) p i.end_is (try_word text pool p limit i.trying more (word_of q) (sym u ∙ v)))
+
+  pub asks : (flags : List ℕ) → flags ≡ end_flags text → e < limit → Asks text pool flags e node
+  asks flags f h = record { inside = omega (arith, i.trying.far); node_is = i.trying.node_is; flags_are = f }
 
 module _ (text pool : List ℕ) (b k : ℕ) (h : k ≡ non_thai (take (length text - b) (drop b text))) where
   at_b : k ≡ non_thai_at (given_by text pool) b
