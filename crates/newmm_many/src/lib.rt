@@ -81,7 +81,8 @@ pub fn answer_many(
     Ok(n)
 }
 
-// The cells in which a pool's dictionary stands, if it is one.
+// The cells in which a pool's dictionary stands, if it is one. It looks at every node, so a caller
+// refuses a whole call first.
 fn dictionary_in(pool: &[u32]) -> Option<&[u32]>
     ensures means { seen_in result ≡ meaning pool.now }
     ensures readable { IfSome result (λ v. Readable v.now 0) }
@@ -111,6 +112,7 @@ pub fn cut_many(
         answers.old out.old scratch.old mode)
         result answers.new out.new scratch.new }
 {
+    check_many(text_ends, texts.len(), answers.len())?;
     answer_many(
         texts,
         text_ends,
@@ -138,6 +140,7 @@ pub fn cut_reasons_many(
         answers.old pairs.old scratch.old mode)
         result answers.new pairs.new scratch.new }
 {
+    check_many(text_ends, texts.len(), answers.len())?;
     answer_many(
         texts,
         text_ends,

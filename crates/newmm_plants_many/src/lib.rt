@@ -10,7 +10,7 @@ ghost use Rattle.newmm_many_turn.specs.inner.Knowing.{seen_in};
 ghost use Rattle.newmm_plants_many.specs.Calls.{PlantManyCuts, PlantManyReasons};
 
 use newmm_many::answer_many;
-use newmm_many_answers::Wanted;
+use newmm_many_answers::{Wanted, check_many};
 use newmm_rules::Mode;
 use refusal::Refusal;
 use trie_check::capacity;
@@ -18,7 +18,8 @@ use trie_plants::{Plant, half_at};
 use trie_plants_check::is_plants;
 use trie_pool::NODE;
 
-// The half in which a plant's dictionary stands, if the pool is a plants' pool.
+// The half in which a plant's dictionary stands, if the pool is a plants' pool. It looks at every
+// node, so a caller refuses a whole call first.
 fn dictionary_of(plant: Plant, pool: &[u32]) -> Option<&[u32]>
     ensures means { seen_in result ≡ plant_meaning plant pool.now }
     ensures readable { IfSome result (λ v. Readable v.now 0) }
@@ -51,6 +52,7 @@ pub fn cut_many_in(
         answers.old out.old scratch.old mode)
         result answers.new out.new scratch.new }
 {
+    check_many(text_ends, texts.len(), answers.len())?;
     answer_many(
         texts,
         text_ends,
@@ -80,6 +82,7 @@ pub fn cut_reasons_many_in(
         answers.old pairs.old scratch.old mode)
         result answers.new pairs.new scratch.new }
 {
+    check_many(text_ends, texts.len(), answers.len())?;
     answer_many(
         texts,
         text_ends,
