@@ -23,24 +23,27 @@ const HALVES: usize = 2200;
 
 const HALF: u64 = 4294967296;
 
-fn main(rt: HostRuntime) -> io::Result<()> {
-    let mut input = vec![in rt.alloc(); 0u8; INPUT]?;
+fn main(rt: HostRuntime) {
+    let mut input = [0u8; INPUT];
+    let mut ends = [0u32; ENDS];
+    let mut map = [0u64; CELLS];
+    let mut halves = [0u32; HALVES];
     let mut rows = Rows {
-        ends: vec![in rt.alloc(); 0u32; ENDS]?,
-        map: vec![in rt.alloc(); 0u64; CELLS]?,
-        halves: vec![in rt.alloc(); 0u32; HALVES]?,
+        ends: &mut ends,
+        map: &mut map,
+        halves: &mut halves,
     };
-    replay(&rt, &mut rt.stdin(), &mut input, &mut rows)
+    let _ = replay(&rt, &mut rt.stdin(), &mut input, &mut rows);
 }
 
 #[derive(Drop)]
-struct Rows {
-    ends: Vec<u32>,
-    map: Vec<u64>,
-    halves: Vec<u32>,
+struct Rows<'a> {
+    ends: &'a mut [u32],
+    map: &'a mut [u64],
+    halves: &'a mut [u32],
 }
 
-impl Answers for Rows {
+impl Answers for Rows<'_> {
     fn answer(&mut self, rt: &impl Print, line: &[u8]) -> io::Result<()> {
         match field(line, 0) {
             b"map" => self.write(rt, line),
@@ -51,22 +54,23 @@ impl Answers for Rows {
     }
 }
 
-impl Rows {
+impl Rows<'_> {
     // map n, ends as cells, cells of the row => ok the cells written
     fn write(&mut self, rt: &impl Print, line: &[u8]) -> io::Result<()> {
+        let (ends, map, halves) = (&mut *self.ends, &mut *self.map, &mut *self.halves);
         let n = number(rt, field(line, 1));
-        let k = read_cells(rt, field(line, 2), &mut self.ends);
-        let cells = lent(rt, field(line, 3), self.map.len());
-        let row = &mut self.map[..cells];
-        tell_map(rt, n, &self.ends[..k], row, &mut self.halves)
+        let k = read_cells(rt, field(line, 2), ends);
+        let cells = lent(rt, field(line, 3), map.len());
+        let ends = &ends[..k];
+        tell_map(rt, n, ends, &mut map[..cells], halves)
     }
 
     // rank n, the row's cells, position => ok breaks
     fn count(&mut self, rt: &impl Print, line: &[u8]) -> io::Result<()> {
-        let cells = read_map(rt, field(line, 2), &mut self.map, &mut self.halves);
+        let cells = read_map(rt, field(line, 2), self.map, self.halves);
         let n = number(rt, field(line, 1));
         let position = number(rt, field(line, 3));
-        match breaks_up_to(n, first(&self.map, cells), position) {
+        match breaks_up_to(n, first(self.map, cells), position) {
             Ok(k) => print!(rt; "ok {k}"),
             Err(r) => print!(rt; "{}", Refused(r)),
         }
@@ -74,10 +78,10 @@ impl Rows {
 
     // next n, the row's cells, position => ok position, or ok none
     fn find(&mut self, rt: &impl Print, line: &[u8]) -> io::Result<()> {
-        let cells = read_map(rt, field(line, 2), &mut self.map, &mut self.halves);
+        let cells = read_map(rt, field(line, 2), self.map, self.halves);
         let n = number(rt, field(line, 1));
         let position = number(rt, field(line, 3));
-        match next_break(n, first(&self.map, cells), position) {
+        match next_break(n, first(self.map, cells), position) {
             Ok(Some(p)) => print!(rt; "ok {p}"),
             Ok(None) => print!(rt; "ok none"),
             Err(r) => print!(rt; "{}", Refused(r)),

@@ -19,24 +19,27 @@ const BYTES: usize = 300000;
 
 const CELLS: usize = 65540;
 
-fn main(rt: HostRuntime) -> io::Result<()> {
-    let mut input = vec![in rt.alloc(); 0u8; INPUT]?;
+fn main(rt: HostRuntime) {
+    let mut input = [0u8; INPUT];
+    let mut bytes = [0u8; BYTES];
+    let mut cells = [0u32; CELLS];
+    let mut positions = [0u32; CELLS];
     let mut rows = Rows {
-        bytes: vec![in rt.alloc(); 0u8; BYTES]?,
-        cells: vec![in rt.alloc(); 0u32; CELLS]?,
-        positions: vec![in rt.alloc(); 0u32; CELLS]?,
+        bytes: &mut bytes,
+        cells: &mut cells,
+        positions: &mut positions,
     };
-    replay(&rt, &mut rt.stdin(), &mut input, &mut rows)
+    let _ = replay(&rt, &mut rt.stdin(), &mut input, &mut rows);
 }
 
 #[derive(Drop)]
-struct Rows {
-    bytes: Vec<u8>,
-    cells: Vec<u32>,
-    positions: Vec<u32>,
+struct Rows<'a> {
+    bytes: &'a mut [u8],
+    cells: &'a mut [u32],
+    positions: &'a mut [u32],
 }
 
-impl Answers for Rows {
+impl Answers for Rows<'_> {
     fn answer(&mut self, rt: &impl Print, line: &[u8]) -> io::Result<()> {
         match field(line, 0) {
             b"decode" => self.decode(rt, line),
@@ -69,31 +72,31 @@ impl fmt::Display for Or {
     }
 }
 
-impl Rows {
+impl Rows<'_> {
     // trim scalars => ok start end
     fn trim(&mut self, rt: &impl Print, line: &[u8]) -> io::Result<()> {
-        let n = read_cells(rt, field(line, 1), &mut self.cells);
+        let n = read_cells(rt, field(line, 1), self.cells);
         let s = char_string_trim::trim(&self.cells[..n]);
         print!(rt; "ok {} {}", s.start, s.end)
     }
 
     // rspace scalars => ok index, or ok none
     fn rspace(&mut self, rt: &impl Print, line: &[u8]) -> io::Result<()> {
-        let n = read_cells(rt, field(line, 1), &mut self.cells);
+        let n = read_cells(rt, field(line, 1), self.cells);
         let space = char_string_last_space::rfind_space_char_index(&self.cells[..n]);
         print!(rt; "ok {}", Or(space, "none"))
     }
 
     // scalars cells => ok index of the first cell that is no scalar value, or ok none
     fn scalars(&mut self, rt: &impl Print, line: &[u8]) -> io::Result<()> {
-        let n = read_cells(rt, field(line, 1), &mut self.cells);
+        let n = read_cells(rt, field(line, 1), self.cells);
         let bad = char_string_scalars::first_non_scalar(&self.cells[..n]);
         print!(rt; "ok {}", Or(Some(bad).filter(|k| *k < n), "none"))
     }
 
     // text cells => ok n
     fn text(&mut self, rt: &impl Print, line: &[u8]) -> io::Result<()> {
-        let n = read_cells(rt, field(line, 1), &mut self.cells);
+        let n = read_cells(rt, field(line, 1), self.cells);
         match char_string_scalars::check_text(&self.cells[..n]) {
             Ok(count) => print!(rt; "ok {count}"),
             Err(r) => print!(rt; "{}", Refused(r)),
@@ -102,14 +105,14 @@ impl Rows {
 
     // word scalars => ok the trimmed scalars
     fn word(&mut self, rt: &impl Print, line: &[u8]) -> io::Result<()> {
-        let n = read_cells(rt, field(line, 1), &mut self.cells);
+        let n = read_cells(rt, field(line, 1), self.cells);
         print!(rt; "ok {}", Cells(char_string_trim::trimmed(&self.cells[..n])))
     }
 
     // view n, start, end, index, from, to => ok length, character at index or none, start and end of
     //   the sub-view
     fn view(&mut self, rt: &impl Print, line: &[u8]) -> io::Result<()> {
-        count_up(&mut self.cells);
+        count_up(self.cells);
         let n = lent(rt, field(line, 1), self.cells.len());
         let start = number(rt, field(line, 2));
         let end = number(rt, field(line, 3));
@@ -118,7 +121,7 @@ impl Rows {
 
     // part n, start, end => ok right(0/1) start length
     fn part(&mut self, rt: &impl Print, line: &[u8]) -> io::Result<()> {
-        count_up(&mut self.cells);
+        count_up(self.cells);
         let n = lent(rt, field(line, 1), self.cells.len());
         let start = number(rt, field(line, 2));
         let end = number(rt, field(line, 3));

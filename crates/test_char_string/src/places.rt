@@ -6,30 +6,32 @@ use std::io;
 use test_lines::{Cells, Refused, field, first, lent, number, read_bytes, read_cells};
 use test_rows::{expect_leftovers, smear};
 
-impl Rows {
+impl Rows<'_> {
     // decode bytes, out cells, position cells => ok n scalars, and the positions: the first, and
     //   how far each is from the one before
     pub(crate) fn decode(&mut self, rt: &impl Print, line: &[u8]) -> io::Result<()> {
-        let n = read_bytes(rt, field(line, 1), &mut self.bytes);
-        let room = lent(rt, field(line, 2), self.cells.len());
-        let places = lent(rt, field(line, 3), self.positions.len());
+        let (bytes, cells, positions) = (&mut *self.bytes, &mut *self.cells, &mut *self.positions);
+        let n = read_bytes(rt, field(line, 1), bytes);
+        let room = lent(rt, field(line, 2), cells.len());
+        let places = lent(rt, field(line, 3), positions.len());
         tell_decoded(
             rt,
-            &self.bytes[..n],
-            &mut self.cells[..room],
-            &mut self.positions[..places],
+            &bytes[..n],
+            &mut cells[..room],
+            &mut positions[..places],
         )
     }
 
     // endbytes bytes, ends as cells => ok the ends in bytes, joined by commas, `x` for one that has
     //   none
     pub(crate) fn ends_in_bytes(&mut self, rt: &impl Print, line: &[u8]) -> io::Result<()> {
-        let n = read_bytes(rt, field(line, 1), &mut self.bytes);
-        match utf8::decode(&self.bytes[..n], &mut self.cells, &mut self.positions) {
+        let (bytes, cells, positions) = (&mut *self.bytes, &mut *self.cells, &mut *self.positions);
+        let n = read_bytes(rt, field(line, 1), bytes);
+        match utf8::decode(&bytes[..n], cells, positions) {
             Ok(characters) => {
-                let ends = read_cells(rt, field(line, 2), &mut self.cells);
+                let ends = read_cells(rt, field(line, 2), cells);
                 print!(rt; "ok ")?;
-                tell_ends(rt, &self.positions, characters, first(&self.cells, ends))
+                tell_ends(rt, positions, characters, first(cells, ends))
             }
             Err(r) => print!(rt; "{}", Refused(r)),
         }
@@ -37,10 +39,10 @@ impl Rows {
 
     // end_in_bytes a position row, n, end => ok place, or ok x
     pub(crate) fn end_in_row(&mut self, rt: &impl Print, line: &[u8]) -> io::Result<()> {
-        let cells = read_cells(rt, field(line, 1), &mut self.positions);
+        let cells = read_cells(rt, field(line, 1), self.positions);
         let n = number(rt, field(line, 2));
         let end = number(rt, field(line, 3));
-        let place = utf8::end_in_bytes(first(&self.positions, cells), n, end);
+        let place = utf8::end_in_bytes(first(self.positions, cells), n, end);
         print!(rt; "ok {}", Or(place, "x"))
     }
 }

@@ -6,10 +6,10 @@ use char_string_view::{sub_chars_len, sub_get_char_at, sub_part};
 use std::io;
 use test_lines::{Cells, field, lent, number};
 
-impl Rows {
+impl Rows<'_> {
     // view_part n, start, end => the answer of part, by the sub-view of the view of the whole text
     pub(crate) fn view_part(&mut self, rt: &impl Print, line: &[u8]) -> io::Result<()> {
-        count_up(&mut self.cells);
+        count_up(self.cells);
         let n = lent(rt, field(line, 1), self.cells.len());
         let start = number(rt, field(line, 2));
         let end = number(rt, field(line, 3));
@@ -20,7 +20,7 @@ impl Rows {
     // sub_view n, start, end, from, to, index => ok length, character at index or none, and cells of
     //   the view's sub-view
     pub(crate) fn sub_view(&mut self, rt: &impl Print, line: &[u8]) -> io::Result<()> {
-        count_up(&mut self.cells);
+        count_up(self.cells);
         let n = lent(rt, field(line, 1), self.cells.len());
         let start = number(rt, field(line, 2));
         let end = number(rt, field(line, 3));

@@ -23,43 +23,53 @@ const TEXT: usize = 70000;
 
 const SCRATCH: usize = 589952;
 
-fn main(rt: HostRuntime) -> io::Result<()> {
-    let mut input = vec![in rt.alloc(); 0u8; INPUT]?;
+fn main(rt: HostRuntime) {
+    let mut input = [0u8; INPUT];
+    let mut pool = [0u32; POOL];
+    let mut text = [0u32; TEXT];
+    let mut claimed = [0u32; TEXT];
+    let mut scratch = [0u32; SCRATCH];
     let mut rows = Rows {
-        pool: vec![in rt.alloc(); 0u32; POOL]?,
-        text: vec![in rt.alloc(); 0u32; TEXT]?,
-        claimed: vec![in rt.alloc(); 0u32; TEXT]?,
-        scratch: vec![in rt.alloc(); 0u32; SCRATCH]?,
+        pool: &mut pool,
+        text: &mut text,
+        claimed: &mut claimed,
+        scratch: &mut scratch,
     };
-    replay(&rt, &mut rt.stdin(), &mut input, &mut rows)
+    let _ = replay(&rt, &mut rt.stdin(), &mut input, &mut rows);
 }
 
 #[derive(Drop)]
-struct Rows {
-    pool: Vec<u32>,
-    text: Vec<u32>,
-    claimed: Vec<u32>,
-    scratch: Vec<u32>,
+struct Rows<'a> {
+    pool: &'a mut [u32],
+    text: &'a mut [u32],
+    claimed: &'a mut [u32],
+    scratch: &'a mut [u32],
 }
 
-impl Answers for Rows {
+impl Answers for Rows<'_> {
     // claim words, scalars, claimed ends as cells, scratch cells => ok yes, or ok token
     // claim_pool the pool's cells, scalars, claimed ends as cells, scratch cells => the same
     fn answer(&mut self, rt: &impl Print, line: &[u8]) -> io::Result<()> {
+        let (pool, text, claimed, scratch) = (
+            &mut *self.pool,
+            &mut *self.text,
+            &mut *self.claimed,
+            &mut *self.scratch,
+        );
         let cells = match field(line, 0) {
-            b"claim" => hold(rt, field(line, 1), &mut self.text, &mut self.pool),
-            b"claim_pool" => read_cells(rt, field(line, 1), &mut self.pool),
+            b"claim" => hold(rt, field(line, 1), text, pool),
+            b"claim_pool" => read_cells(rt, field(line, 1), pool),
             _ => return print!(rt; "?"),
         };
-        let n = read_cells(rt, field(line, 2), &mut self.text);
-        let ends = read_cells(rt, field(line, 3), &mut self.claimed);
-        let room = scratch_cells(rt, field(line, 4), n, self.scratch.len());
+        let n = read_cells(rt, field(line, 2), text);
+        let ends = read_cells(rt, field(line, 3), claimed);
+        let room = scratch_cells(rt, field(line, 4), n, scratch.len());
         tell_claim(
             rt,
-            &self.text[..n],
-            first(&self.pool, cells),
-            &self.claimed[..ends],
-            &mut self.scratch[..room],
+            &text[..n],
+            first(pool, cells),
+            &claimed[..ends],
+            &mut scratch[..room],
         )
     }
 }

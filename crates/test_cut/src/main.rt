@@ -28,15 +28,19 @@ const TEXT: usize = 70000;
 
 const SCRATCH: usize = 589952;
 
-fn main(rt: HostRuntime) -> io::Result<()> {
-    let mut input = vec![in rt.alloc(); 0u8; INPUT]?;
+fn main(rt: HostRuntime) {
+    let mut input = [0u8; INPUT];
+    let mut pool = [0u32; POOL];
+    let mut text = [0u32; TEXT];
+    let mut out = [0u32; TEXT];
+    let mut scratch = [0u32; SCRATCH];
     let mut rows = Rows {
-        pool: vec![in rt.alloc(); 0u32; POOL]?,
-        text: vec![in rt.alloc(); 0u32; TEXT]?,
-        out: vec![in rt.alloc(); 0u32; TEXT]?,
-        scratch: vec![in rt.alloc(); 0u32; SCRATCH]?,
+        pool: &mut pool,
+        text: &mut text,
+        out: &mut out,
+        scratch: &mut scratch,
     };
-    replay_all(&rt, &mut rt.stdin(), &mut input, &mut rows)
+    replay_all(&rt, &mut rt.stdin(), &mut input, &mut rows);
 }
 
 // Replays a source, as many whole lines at once as the row holds. A proved loop has to end: this
@@ -46,22 +50,23 @@ fn replay_all<R: Read, A: Answers>(
     source: &mut R,
     input: &mut [u8],
     answers: &mut A,
-) -> io::Result<()> {
+) {
     let mut kept = 0;
     for _turn in 0..u64::MAX {
         let n = kept + read_full(source, &mut input[kept..]);
         if n < input.len() {
-            return replay_lines(rt, &input[..n], answers);
+            let _ = replay_lines(rt, &input[..n], answers);
+            return;
         }
         let end = whole_lines(input);
-        replay_lines(rt, &input[..end], answers)?;
+        let _ = replay_lines(rt, &input[..end], answers);
         if end == 0 {
-            return print!(rt; "?");
+            let _ = print!(rt; "?");
+            return;
         }
         input.rotate_left(end);
         kept = input.len() - end;
     }
-    Ok(())
 }
 
 // Where the last whole line of a text ends; 0 where there is none.
@@ -75,34 +80,40 @@ fn whole_lines(text: &[u8]) -> usize
 }
 
 #[derive(Drop)]
-struct Rows {
-    pool: Vec<u32>,
-    text: Vec<u32>,
-    out: Vec<u32>,
-    scratch: Vec<u32>,
+struct Rows<'a> {
+    pool: &'a mut [u32],
+    text: &'a mut [u32],
+    out: &'a mut [u32],
+    scratch: &'a mut [u32],
 }
 
-impl Answers for Rows {
+impl Answers for Rows<'_> {
     // cut mode, words, scalars, scratch cells, out cells => ok ends edges
     // cut_pool mode, the pool's cells, scalars, scratch cells, out cells => ok ends edges
     fn answer(&mut self, rt: &impl Print, line: &[u8]) -> io::Result<()> {
+        let (pool, text, out, scratch) = (
+            &mut *self.pool,
+            &mut *self.text,
+            &mut *self.out,
+            &mut *self.scratch,
+        );
         let cells = match field(line, 0) {
-            b"cut" => hold(rt, field(line, 2), &mut self.text, &mut self.pool),
-            b"cut_pool" => read_cells(rt, field(line, 2), &mut self.pool),
+            b"cut" => hold(rt, field(line, 2), text, pool),
+            b"cut_pool" => read_cells(rt, field(line, 2), pool),
             _ => return print!(rt; "?"),
         };
-        let n = read_cells(rt, field(line, 3), &mut self.text);
-        let room = scratch_cells(rt, field(line, 4), n, self.scratch.len());
-        let ends = lent(rt, field(line, 5), self.out.len());
+        let n = read_cells(rt, field(line, 3), text);
+        let room = scratch_cells(rt, field(line, 4), n, scratch.len());
+        let ends = lent(rt, field(line, 5), out.len());
         let Some(mode) = mode_of(field(line, 1)) else {
             return print!(rt; "?");
         };
         tell_cut(
             rt,
-            &self.text[..n],
-            first(&self.pool, cells),
-            &mut self.out[..ends],
-            &mut self.scratch[..room],
+            &text[..n],
+            first(pool, cells),
+            &mut out[..ends],
+            &mut scratch[..room],
             mode,
         )
     }

@@ -33,30 +33,18 @@ const SCRATCH: usize = 16384;
 // The most texts of a line.
 const TEXTS: usize = 16;
 
-fn main(rt: HostRuntime) -> io::Result<()> {
-    let mut input = vec![in rt.alloc(); 0u8; INPUT]?;
-    let mut rows = Rows {
-        text: vec![in rt.alloc(); 0u32; TEXT]?,
-        pool: vec![in rt.alloc(); 0u32; POOL]?,
-        pairs: vec![in rt.alloc(); 0u32; PAIRS]?,
-        scratch: vec![in rt.alloc(); 0u32; SCRATCH]?,
-    };
-    replay(&rt, &mut rt.stdin(), &mut input, &mut rows)
+fn main(rt: HostRuntime) {
+    let mut input = [0u8; INPUT];
+    let _ = replay(&rt, &mut rt.stdin(), &mut input, &mut Texts);
 }
 
 #[derive(Drop)]
-struct Rows {
-    text: Vec<u32>,
-    pool: Vec<u32>,
-    pairs: Vec<u32>,
-    scratch: Vec<u32>,
-}
+struct Texts;
 
-impl Answers for Rows {
+impl Answers for Texts {
     fn answer(&mut self, rt: &impl Print, line: &[u8]) -> io::Result<()> {
         match field(line, 0) {
-            b"figures" => self.run(rt, line),
-            b"feed" => self.feed_one(rt, line),
+            b"figures" | b"feed" => cut_texts(rt, line),
             b"refused" => refuse(rt, line),
             b"join" => join_two(rt, line),
             _ => print!(rt; "?"),
@@ -64,10 +52,37 @@ impl Answers for Rows {
     }
 }
 
-impl Rows {
+// The rows that the texts of a line are cut with.
+#[derive(Drop)]
+struct Rows<'a> {
+    text: &'a mut [u32],
+    pool: &'a mut [u32],
+    pairs: &'a mut [u32],
+    scratch: &'a mut [u32],
+}
+
+// Answers a line with texts, by rows of its own.
+fn cut_texts(rt: &impl Print, line: &[u8]) -> io::Result<()> {
+    let mut text = [0u32; TEXT];
+    let mut pool = [0u32; POOL];
+    let mut pairs = [0u32; PAIRS];
+    let mut scratch = [0u32; SCRATCH];
+    let mut rows = Rows {
+        text: &mut text,
+        pool: &mut pool,
+        pairs: &mut pairs,
+        scratch: &mut scratch,
+    };
+    match field(line, 0) {
+        b"figures" => rows.run(rt, line),
+        _ => rows.feed_one(rt, line),
+    }
+}
+
+impl Rows<'_> {
     // figures words, number of texts, the texts => ok figures
     fn run(&mut self, rt: &impl Print, line: &[u8]) -> io::Result<()> {
-        let cells = hold(rt, field(line, 1), &mut self.text, &mut self.pool);
+        let cells = hold(rt, field(line, 1), self.text, self.pool);
         let texts = lent(rt, field(line, 2), TEXTS);
         let mut figures = [0u64; 16];
         for i in 0..texts {
@@ -79,7 +94,7 @@ impl Rows {
     // feed words, figures, text => ok pairs edges figures, or the refusal and figures; after 13 what
     // became of scratch before them
     fn feed_one(&mut self, rt: &impl Print, line: &[u8]) -> io::Result<()> {
-        let cells = hold(rt, field(line, 1), &mut self.text, &mut self.pool);
+        let cells = hold(rt, field(line, 1), self.text, self.pool);
         let mut figures = read_figures(rt, field(line, 2));
         self.feed_text(rt, line, 3, cells, &mut figures, true)?;
         print!(rt; " {}", Joined(&figures, ','))
@@ -99,20 +114,22 @@ impl Rows {
     ) -> io::Result<()>
         requires { k ≤ 99 }
     {
-        let n = read_cells(rt, field(line, k + 1), &mut self.text);
-        let room = scratch_cells(rt, field(line, k + 2), n, self.scratch.len());
+        let (text, pool) = (&mut *self.text, &mut *self.pool);
+        let (pairs, scratch) = (&mut *self.pairs, &mut *self.scratch);
+        let n = read_cells(rt, field(line, k + 1), text);
+        let room = scratch_cells(rt, field(line, k + 2), n, scratch.len());
         let records = lent(rt, field(line, k + 3), PAIRS / 2);
         let Some(mode) = mode_of(field(line, k)) else {
             return print!(rt; "?");
         };
-        let told = self.pairs.len().min(2 * records + 1);
+        let told = pairs.len().min(2 * records + 1);
         tell_figures(
             rt,
-            &self.text[..n],
-            first(&self.pool, cells),
+            &text[..n],
+            first(pool, cells),
             figures,
-            &mut self.pairs[..told],
-            &mut self.scratch[..room],
+            &mut pairs[..told],
+            &mut scratch[..room],
             mode,
             shown,
         )

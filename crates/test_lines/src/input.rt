@@ -15,7 +15,8 @@ pub trait Answers {
     fn answer(&mut self, rt: &impl Print, line: &[u8]) -> io::Result<()>;
 }
 
-// Reads an input into buffer and writes a line with the answer for each of its lines.
+// Reads an input into buffer and writes a line with the answer for each of its lines. A write that
+// fails is passed over.
 pub fn replay<R: Read, A: Answers>(
     rt: &impl Print,
     input: &mut R,
@@ -31,11 +32,12 @@ pub fn replay<R: Read, A: Answers>(
     replay_lines(rt, &buffer[..n], answers)
 }
 
-// Writes a line with the answer for each line of a text.
+// Writes a line with the answer for each line of a text. A write that fails is passed over, and the
+// next line is answered.
 pub fn replay_lines<A: Answers>(rt: &impl Print, text: &[u8], answers: &mut A) -> io::Result<()> {
     for line in parts_of(text, b'\n') {
-        answers.answer(rt, line)?;
-        println!(rt)?;
+        let _ = answers.answer(rt, line);
+        let _ = println!(rt);
     }
     Ok(())
 }

@@ -29,17 +29,23 @@ const ANSWERS: usize = 1024;
 
 const SCRATCH: usize = 589952;
 
-fn main(rt: HostRuntime) -> io::Result<()> {
-    let mut input = vec![in rt.alloc(); 0u8; INPUT]?;
+fn main(rt: HostRuntime) {
+    let mut input = [0u8; INPUT];
+    let mut pool = [0u32; POOL];
+    let mut texts = [0u32; TEXT];
+    let mut text_ends = [0u32; ANSWERS];
+    let mut answers = [0u32; ANSWERS];
+    let mut out = [0u32; TEXT];
+    let mut scratch = [0u32; SCRATCH];
     let mut rows = Rows {
-        pool: vec![in rt.alloc(); 0u32; POOL]?,
-        texts: vec![in rt.alloc(); 0u32; TEXT]?,
-        text_ends: vec![in rt.alloc(); 0u32; ANSWERS]?,
-        answers: vec![in rt.alloc(); 0u32; ANSWERS]?,
-        out: vec![in rt.alloc(); 0u32; TEXT]?,
-        scratch: vec![in rt.alloc(); 0u32; SCRATCH]?,
+        pool: &mut pool,
+        texts: &mut texts,
+        text_ends: &mut text_ends,
+        answers: &mut answers,
+        out: &mut out,
+        scratch: &mut scratch,
     };
-    replay(&rt, &mut rt.stdin(), &mut input, &mut rows)
+    let _ = replay(&rt, &mut rt.stdin(), &mut input, &mut rows);
 }
 
 // What a line asks for: ends or pairs, by the words of a pool or of one of its plants.
@@ -70,44 +76,52 @@ impl Form {
 }
 
 #[derive(Drop)]
-struct Rows {
-    pool: Vec<u32>,
-    texts: Vec<u32>,
-    text_ends: Vec<u32>,
-    answers: Vec<u32>,
-    out: Vec<u32>,
-    scratch: Vec<u32>,
+struct Rows<'a> {
+    pool: &'a mut [u32],
+    texts: &'a mut [u32],
+    text_ends: &'a mut [u32],
+    answers: &'a mut [u32],
+    out: &'a mut [u32],
+    scratch: &'a mut [u32],
 }
 
-impl Answers for Rows {
+impl Answers for Rows<'_> {
     // many mode, words, texts, text ends, answer cells, out cells, scratch cells
     //     => ok texts answers ends scratch
     // many_pool mode, the pool's cells, and so on, as many; pairs_pool tells ends and reasons
     // many_a, many_b, pairs_a, pairs_b by a plant's words
     fn answer(&mut self, rt: &impl Print, line: &[u8]) -> io::Result<()> {
+        let (pool, texts, text_ends, answers, out, scratch) = (
+            &mut *self.pool,
+            &mut *self.texts,
+            &mut *self.text_ends,
+            &mut *self.answers,
+            &mut *self.out,
+            &mut *self.scratch,
+        );
         let Some(form) = Form::named(field(line, 0)) else {
             return print!(rt; "?");
         };
         let cells = match field(line, 0) {
-            b"many" => hold(rt, field(line, 2), &mut self.texts, &mut self.pool),
-            _ => read_cells(rt, field(line, 2), &mut self.pool),
+            b"many" => hold(rt, field(line, 2), texts, pool),
+            _ => read_cells(rt, field(line, 2), pool),
         };
         let Some(mode) = mode_of(field(line, 1)) else {
             return print!(rt; "?");
         };
-        let n = read_cells(rt, field(line, 3), &mut self.texts);
-        let k = read_cells(rt, field(line, 4), &mut self.text_ends);
-        let told = lent(rt, field(line, 5), self.answers.len());
-        let room = lent(rt, field(line, 6), self.out.len());
-        let scratch_room = lent(rt, field(line, 7), self.scratch.len());
+        let n = read_cells(rt, field(line, 3), texts);
+        let k = read_cells(rt, field(line, 4), text_ends);
+        let told = lent(rt, field(line, 5), answers.len());
+        let room = lent(rt, field(line, 6), out.len());
+        let scratch_room = lent(rt, field(line, 7), scratch.len());
         tell_many(
             rt,
-            &self.texts[..n],
-            &self.text_ends[..k],
-            first(&self.pool, cells),
-            &mut self.answers[..told],
-            &mut self.out[..room],
-            &mut self.scratch[..scratch_room],
+            &texts[..n],
+            &text_ends[..k],
+            first(pool, cells),
+            &mut answers[..told],
+            &mut out[..room],
+            &mut scratch[..scratch_room],
             mode,
             form,
         )

@@ -28,47 +28,57 @@ const PAIRS: usize = 140001;
 
 const SCRATCH: usize = 589952;
 
-fn main(rt: HostRuntime) -> io::Result<()> {
-    let mut input = vec![in rt.alloc(); 0u8; INPUT]?;
+fn main(rt: HostRuntime) {
+    let mut input = [0u8; INPUT];
+    let mut pool = [0u32; POOL];
+    let mut text = [0u32; TEXT];
+    let mut pairs = [0u32; PAIRS];
+    let mut scratch = [0u32; SCRATCH];
     let mut rows = Rows {
-        pool: vec![in rt.alloc(); 0u32; POOL]?,
-        text: vec![in rt.alloc(); 0u32; TEXT]?,
-        pairs: vec![in rt.alloc(); 0u32; PAIRS]?,
-        scratch: vec![in rt.alloc(); 0u32; SCRATCH]?,
+        pool: &mut pool,
+        text: &mut text,
+        pairs: &mut pairs,
+        scratch: &mut scratch,
     };
-    replay(&rt, &mut rt.stdin(), &mut input, &mut rows)
+    let _ = replay(&rt, &mut rt.stdin(), &mut input, &mut rows);
 }
 
 #[derive(Drop)]
-struct Rows {
-    pool: Vec<u32>,
-    text: Vec<u32>,
-    pairs: Vec<u32>,
-    scratch: Vec<u32>,
+struct Rows<'a> {
+    pool: &'a mut [u32],
+    text: &'a mut [u32],
+    pairs: &'a mut [u32],
+    scratch: &'a mut [u32],
 }
 
-impl Answers for Rows {
+impl Answers for Rows<'_> {
     // reasons mode, words, scalars, scratch cells, records => ok end:reason,.. edges
     // reasons_pool mode, the pool's cells, scalars, scratch cells, records => the same
     fn answer(&mut self, rt: &impl Print, line: &[u8]) -> io::Result<()> {
+        let (pool, text, pairs, scratch) = (
+            &mut *self.pool,
+            &mut *self.text,
+            &mut *self.pairs,
+            &mut *self.scratch,
+        );
         let cells = match field(line, 0) {
-            b"reasons" => hold(rt, field(line, 2), &mut self.text, &mut self.pool),
-            b"reasons_pool" => read_cells(rt, field(line, 2), &mut self.pool),
+            b"reasons" => hold(rt, field(line, 2), text, pool),
+            b"reasons_pool" => read_cells(rt, field(line, 2), pool),
             _ => return print!(rt; "?"),
         };
-        let n = read_cells(rt, field(line, 3), &mut self.text);
-        let room = scratch_cells(rt, field(line, 4), n, self.scratch.len());
-        let records = lent(rt, field(line, 5), self.pairs.len() / 2);
+        let n = read_cells(rt, field(line, 3), text);
+        let room = scratch_cells(rt, field(line, 4), n, scratch.len());
+        let records = lent(rt, field(line, 5), pairs.len() / 2);
         let Some(mode) = mode_of(field(line, 1)) else {
             return print!(rt; "?");
         };
-        let told = self.pairs.len().min(2 * records + 1);
+        let told = pairs.len().min(2 * records + 1);
         tell_reasons(
             rt,
-            &self.text[..n],
-            first(&self.pool, cells),
-            &mut self.pairs[..told],
-            &mut self.scratch[..room],
+            &text[..n],
+            first(pool, cells),
+            &mut pairs[..told],
+            &mut scratch[..room],
             mode,
         )
     }

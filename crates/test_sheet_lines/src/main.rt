@@ -15,34 +15,37 @@ const INPUT: usize = 524288;
 // The bytes of one run, and twice as many as are shown of what it writes.
 const RUN: usize = 262144;
 
-fn main(rt: HostRuntime) -> io::Result<()> {
-    let mut input = vec![in rt.alloc(); 0u8; INPUT]?;
+fn main(rt: HostRuntime) {
+    let mut input = [0u8; INPUT];
+    let mut run = [0u8; RUN];
+    let mut written = [0u8; RUN];
     let mut rows = Rows {
-        run: vec![in rt.alloc(); 0u8; RUN]?,
-        written: vec![in rt.alloc(); 0u8; RUN]?,
+        run: &mut run,
+        written: &mut written,
     };
-    replay(&rt, &mut rt.stdin(), &mut input, &mut rows)
+    let _ = replay(&rt, &mut rt.stdin(), &mut input, &mut rows);
 }
 
 #[derive(Drop)]
-struct Rows {
-    run: Vec<u8>,
-    written: Vec<u8>,
+struct Rows<'a> {
+    run: &'a mut [u8],
+    written: &'a mut [u8],
 }
 
-impl Answers for Rows {
+impl Answers for Rows<'_> {
     // program bytes, most bytes at a time => ok bytes, `-` for none
     fn answer(&mut self, rt: &impl Print, line: &[u8]) -> io::Result<()> {
+        let (run, written) = (&mut *self.run, &mut *self.written);
         if !matches!(field(line, 0), b"program") {
             return print!(rt; "?");
         }
-        let n = read_bytes(rt, field(line, 1), &mut self.run);
-        let most = lent(rt, field(line, 2), self.run.len());
+        let n = read_bytes(rt, field(line, 1), run);
+        let most = lent(rt, field(line, 2), run.len());
         if most == 0 {
             return print!(rt; "?");
         }
-        let k = program(&self.run[..n], most, &mut self.written);
-        match front(&self.written, k) {
+        let k = program(&run[..n], most, written);
+        match front(written, k) {
             [] => print!(rt; "ok -"),
             bytes => print!(rt; "ok {}", Bytes(front(bytes, RUN / 2))),
         }

@@ -13,22 +13,24 @@ const CELLS: usize = 65540;
 // What a lent row holds before the call.
 const BEFORE: u32 = 7;
 
-fn main(rt: HostRuntime) -> io::Result<()> {
-    let mut input = vec![in rt.alloc(); 0u8; INPUT]?;
+fn main(rt: HostRuntime) {
+    let mut input = [0u8; INPUT];
+    let mut text = [0u32; CELLS];
+    let mut out = [0u32; CELLS];
     let mut rows = Rows {
-        text: vec![in rt.alloc(); 0u32; CELLS]?,
-        out: vec![in rt.alloc(); 0u32; CELLS]?,
+        text: &mut text,
+        out: &mut out,
     };
-    replay(&rt, &mut rt.stdin(), &mut input, &mut rows)
+    let _ = replay(&rt, &mut rt.stdin(), &mut input, &mut rows);
 }
 
 #[derive(Drop)]
-struct Rows {
-    text: Vec<u32>,
-    out: Vec<u32>,
+struct Rows<'a> {
+    text: &'a mut [u32],
+    out: &'a mut [u32],
 }
 
-impl Answers for Rows {
+impl Answers for Rows<'_> {
     fn answer(&mut self, rt: &impl Print, line: &[u8]) -> io::Result<()> {
         match field(line, 0) {
             b"clusters" => self.clusters(rt, line),
@@ -40,24 +42,26 @@ impl Answers for Rows {
     }
 }
 
-impl Rows {
+impl Rows<'_> {
     // clusters scalars, out cells => ok ends
     fn clusters(&mut self, rt: &impl Print, line: &[u8]) -> io::Result<()> {
-        let n = read_cells(rt, field(line, 1), &mut self.text);
-        let room = lent(rt, field(line, 2), self.out.len());
-        match tcc::tcc_pos(&self.text[..n], &mut self.out[..room]) {
-            Ok(count) => print!(rt; "ok {}", Joined(first(&self.out, count), ',')),
+        let (text, out) = (&mut *self.text, &mut *self.out);
+        let n = read_cells(rt, field(line, 1), text);
+        let room = lent(rt, field(line, 2), out.len());
+        match tcc::tcc_pos(&text[..n], &mut out[..room]) {
+            Ok(count) => print!(rt; "ok {}", Joined(first(out, count), ',')),
             Err(r) => print!(rt; "{}", Refused(r)),
         }
     }
 
     // last scalars, out cells => ok number of ends, the last
     fn last(&mut self, rt: &impl Print, line: &[u8]) -> io::Result<()> {
-        let n = read_cells(rt, field(line, 1), &mut self.text);
-        let room = lent(rt, field(line, 2), self.out.len());
-        match tcc::tcc_pos(&self.text[..n], &mut self.out[..room]) {
+        let (text, out) = (&mut *self.text, &mut *self.out);
+        let n = read_cells(rt, field(line, 1), text);
+        let room = lent(rt, field(line, 2), out.len());
+        match tcc::tcc_pos(&text[..n], &mut out[..room]) {
             Ok(count) => {
-                let last = first(&self.out, count).last().copied().unwrap_or(0);
+                let last = first(out, count).last().copied().unwrap_or(0);
                 print!(rt; "ok {count} {last}")
             }
             Err(r) => print!(rt; "{}", Refused(r)),
@@ -66,11 +70,12 @@ impl Rows {
 
     // row scalars, out cells => the whole row after the call, each cell 7 before it
     fn row(&mut self, rt: &impl Print, line: &[u8]) -> io::Result<()> {
-        let n = read_cells(rt, field(line, 1), &mut self.text);
-        let room = lent(rt, field(line, 2), self.out.len());
-        let row = &mut self.out[..room];
+        let (text, out) = (&mut *self.text, &mut *self.out);
+        let n = read_cells(rt, field(line, 1), text);
+        let room = lent(rt, field(line, 2), out.len());
+        let row = &mut out[..room];
         row.fill(BEFORE);
-        let mark = match tcc::tcc_pos(&self.text[..n], row) {
+        let mark = match tcc::tcc_pos(&text[..n], row) {
             Ok(_) => "ok",
             Err(_) => "!",
         };
@@ -79,14 +84,15 @@ impl Rows {
 
     // flags scalars, row cells => the whole row after the call, each cell 7 before it
     fn flags(&mut self, rt: &impl Print, line: &[u8]) -> io::Result<()> {
-        let n = read_cells(rt, field(line, 1), &mut self.text);
-        let room = lent(rt, field(line, 2), self.out.len());
+        let (text, out) = (&mut *self.text, &mut *self.out);
+        let n = read_cells(rt, field(line, 1), text);
+        let room = lent(rt, field(line, 2), out.len());
         if room <= n {
             return print!(rt; "?");
         }
-        let row = &mut self.out[..room];
+        let row = &mut out[..room];
         row.fill(BEFORE);
-        tcc::tcc_flags(&self.text[..n], row);
+        tcc::tcc_flags(&text[..n], row);
         print!(rt; "ok {}", Cells(row))
     }
 }

@@ -22,24 +22,27 @@ const OUT: usize = 256;
 // A cell that no dictionary has.
 const NO_CELL: u32 = u32::MAX;
 
-fn main(rt: HostRuntime) -> io::Result<()> {
-    let mut input = vec![in rt.alloc(); 0u8; INPUT]?;
+fn main(rt: HostRuntime) {
+    let mut input = [0u8; INPUT];
+    let mut pool = [0u32; POOL];
+    let mut cells = [0u32; CELLS];
+    let mut out = [0u32; OUT];
     let mut rows = Rows {
-        pool: vec![in rt.alloc(); 0u32; POOL]?,
-        cells: vec![in rt.alloc(); 0u32; CELLS]?,
-        out: vec![in rt.alloc(); 0u32; OUT]?,
+        pool: &mut pool,
+        cells: &mut cells,
+        out: &mut out,
     };
-    replay(&rt, &mut rt.stdin(), &mut input, &mut rows)
+    let _ = replay(&rt, &mut rt.stdin(), &mut input, &mut rows);
 }
 
 #[derive(Drop)]
-struct Rows {
-    pool: Vec<u32>,
-    cells: Vec<u32>,
-    out: Vec<u32>,
+struct Rows<'a> {
+    pool: &'a mut [u32],
+    cells: &'a mut [u32],
+    out: &'a mut [u32],
 }
 
-impl Answers for Rows {
+impl Answers for Rows<'_> {
     fn answer(&mut self, rt: &impl Print, line: &[u8]) -> io::Result<()> {
         match field(line, 0) {
             b"dict" => self.dict(rt, line),
@@ -50,24 +53,27 @@ impl Answers for Rows {
     }
 }
 
-impl Rows {
+impl Rows<'_> {
     // dict pool cells, script => ok answers
     fn dict(&mut self, rt: &impl Print, line: &[u8]) -> io::Result<()> {
-        let n = lent(rt, field(line, 1), self.pool.len());
-        self.pool.fill(NO_CELL);
+        let (pool, cells, out) = (&mut *self.pool, &mut *self.cells, &mut *self.out);
+        let n = lent(rt, field(line, 1), pool.len());
+        pool.fill(NO_CELL);
         print!(rt; "ok ")?;
-        let pool = &mut self.pool[..n];
-        script(rt, field(line, 2), pool, &mut self.cells, &mut self.out)
+        let pool = &mut pool[..n];
+        script(rt, field(line, 2), pool, cells, out)
     }
 
     // prefix words, scalars, out cells => ok lengths
     fn prefix(&mut self, rt: &impl Print, line: &[u8]) -> io::Result<()> {
-        self.pool.fill(NO_CELL);
-        let held = hold(rt, field(line, 1), &mut self.cells, &mut self.pool);
-        let n = read_cells(rt, field(line, 2), &mut self.cells);
-        let room = lent(rt, field(line, 3), self.out.len());
-        let out = &mut self.out[..room];
-        match prefix_lengths(first(&self.pool, held), &self.cells[..n], out) {
+        let (pool, cells, out) = (&mut *self.pool, &mut *self.cells, &mut *self.out);
+        pool.fill(NO_CELL);
+        let held = hold(rt, field(line, 1), cells, pool);
+        let n = read_cells(rt, field(line, 2), cells);
+        let room = lent(rt, field(line, 3), out.len());
+        let (pool, text) = (first(pool, held), &cells[..n]);
+        let out = &mut out[..room];
+        match prefix_lengths(pool, text, out) {
             Ok(count) => print!(rt; "ok {}", Joined(first(out, count), ',')),
             Err(r) => print!(rt; "{}", Refused(r)),
         }
@@ -75,7 +81,7 @@ impl Rows {
 
     // pool cells => ok words, or a refusal
     fn given(&mut self, rt: &impl Print, line: &[u8]) -> io::Result<()> {
-        let n = read_cells(rt, field(line, 1), &mut self.pool);
+        let n = read_cells(rt, field(line, 1), self.pool);
         match amount_of_words(&self.pool[..n]) {
             Ok(words) => print!(rt; "ok {words}"),
             Err(r) => print!(rt; "{}", Refused(r)),

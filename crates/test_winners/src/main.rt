@@ -16,34 +16,38 @@ const INPUT: usize = 262144;
 // A little more than the longest text that is accepted.
 const CELLS: usize = 65540;
 
-fn main(rt: HostRuntime) -> io::Result<()> {
-    let mut input = vec![in rt.alloc(); 0u8; INPUT]?;
+fn main(rt: HostRuntime) {
+    let mut input = [0u8; INPUT];
+    let mut text = [0u32; CELLS];
+    let mut ends = [0u32; CELLS];
+    let mut winners = [0u32; CELLS];
     let mut rows = Rows {
-        text: vec![in rt.alloc(); 0u32; CELLS]?,
-        ends: vec![in rt.alloc(); 0u32; CELLS]?,
-        winners: vec![in rt.alloc(); 0u32; CELLS]?,
+        text: &mut text,
+        ends: &mut ends,
+        winners: &mut winners,
     };
-    replay(&rt, &mut rt.stdin(), &mut input, &mut rows)
+    let _ = replay(&rt, &mut rt.stdin(), &mut input, &mut rows);
 }
 
 #[derive(Drop)]
-struct Rows {
-    text: Vec<u32>,
-    ends: Vec<u32>,
-    winners: Vec<u32>,
+struct Rows<'a> {
+    text: &'a mut [u32],
+    ends: &'a mut [u32],
+    winners: &'a mut [u32],
 }
 
-impl Answers for Rows {
+impl Answers for Rows<'_> {
     // alts scalars, cells for the ends, cells for the winners => ok ends winners
     fn answer(&mut self, rt: &impl Print, line: &[u8]) -> io::Result<()> {
+        let (text, ends, winners) = (&mut *self.text, &mut *self.ends, &mut *self.winners);
         if !matches!(field(line, 0), b"alts") {
             return print!(rt; "?");
         }
-        let n = read_cells(rt, field(line, 1), &mut self.text);
-        let room = lent(rt, field(line, 2), self.ends.len());
-        let more = lent(rt, field(line, 3), self.winners.len());
-        let text = &self.text[..n];
-        tell_winners(rt, text, &mut self.ends[..room], &mut self.winners[..more])
+        let n = read_cells(rt, field(line, 1), text);
+        let room = lent(rt, field(line, 2), ends.len());
+        let more = lent(rt, field(line, 3), winners.len());
+        let text = &text[..n];
+        tell_winners(rt, text, &mut ends[..room], &mut winners[..more])
     }
 }
 

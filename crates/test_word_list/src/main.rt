@@ -21,24 +21,26 @@ const POOL: usize = 32768;
 
 const IMAGE: usize = 32768;
 
-fn main(rt: HostRuntime) -> io::Result<()> {
-    let mut input = vec![in rt.alloc(); 0u8; INPUT]?;
+fn main(rt: HostRuntime) {
+    let mut input = [0u8; INPUT];
+    let mut pool = [0u32; POOL];
+    let mut image = [0u8; IMAGE];
     let mut rows = Rows {
-        pool: vec![in rt.alloc(); 0u32; POOL]?,
-        image: vec![in rt.alloc(); 0u8; IMAGE]?,
+        pool: &mut pool,
+        image: &mut image,
     };
-    replay(&rt, &mut rt.stdin(), &mut input, &mut rows)
+    let _ = replay(&rt, &mut rt.stdin(), &mut input, &mut rows);
 }
 
 #[derive(Drop)]
-struct Rows {
-    pool: Vec<u32>,
-    image: Vec<u8>,
+struct Rows<'a> {
+    pool: &'a mut [u32],
+    image: &'a mut [u8],
 }
 
-impl Answers for Rows {
+impl Answers for Rows<'_> {
     fn answer(&mut self, rt: &impl Print, line: &[u8]) -> io::Result<()> {
-        let cells = read_cells(rt, field(line, 1), &mut self.pool);
+        let cells = read_cells(rt, field(line, 1), self.pool);
         match field(line, 0) {
             b"imgread" => self.read(rt, field(line, 2), cells),
             _ => self.write(rt, field(line, 2), cells),
@@ -46,13 +48,15 @@ impl Answers for Rows {
     }
 }
 
-impl Rows {
+impl Rows<'_> {
     // imgread the pool's cells, image => ok words, or the refusal; the pool's cells then
     fn read(&mut self, rt: &impl Print, bytes: &[u8], cells: usize) -> io::Result<()> {
-        let n = read_bytes(rt, bytes, &mut self.image);
-        let room = cells.min(self.pool.len());
-        let pool = &mut self.pool[..room];
-        match read_image(pool, &self.image[..n]) {
+        let (pool, image) = (&mut *self.pool, &mut *self.image);
+        let n = read_bytes(rt, bytes, image);
+        let room = cells.min(pool.len());
+        let image = &image[..n];
+        let pool = &mut pool[..room];
+        match read_image(pool, image) {
             Ok(words) => print!(rt; "ok {words} {}", Cells(pool)),
             Err(r) => print!(rt; "{} {}", Refused(r), Cells(pool)),
         }
@@ -60,8 +64,9 @@ impl Rows {
 
     // imgwrite the pool's cells, image bytes => ok image
     fn write(&mut self, rt: &impl Print, bytes: &[u8], cells: usize) -> io::Result<()> {
-        let room = lent(rt, bytes, self.image.len());
-        tell_image(rt, first(&self.pool, cells), &mut self.image[..room])
+        let (pool, image) = (&mut *self.pool, &mut *self.image);
+        let room = lent(rt, bytes, image.len());
+        tell_image(rt, first(pool, cells), &mut image[..room])
     }
 }
 
