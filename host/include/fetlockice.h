@@ -59,10 +59,10 @@ extern "C" {
 #define FETLOCKICE_MAX_NODES 1048576
 
 /* The bytes of stack that a call takes at most. Measured over hostile and deepest inputs: on x86-64
- * fetlockice_write_image 33,832 and fetlockice_remove 12,384, as they go down a word of 255 scalars by recursion,
- * fetlockice_read_image 7,544 and fetlockice_plant_read_image 7,624, which have a few rows of a word's length there, and the
- * other two of a plant about the same; fetlockice_cut_safe 3,688, fetlockice_winners 2,824, the others under 1,100; on
- * aarch64, by an earlier kit and an earlier form of the code, fetlockice_write_image 46,176. */
+ * fetlockice_write_image 17,520 and fetlockice_remove 12,384, as they go down a word of 255 scalars by recursion,
+ * fetlockice_read_image 7,528 and fetlockice_plant_read_image 7,608, which have a few rows of a word's length there, and the
+ * other two of a plant about the same; fetlockice_winners 2,824, the others under 1,100; on aarch64, by an earlier kit and an
+ * earlier form of the code, fetlockice_write_image 46,176. */
 #define FETLOCKICE_MAX_STACK 98304
 
 /* The scratch cells that a call on a text of n scalars asks for. */

@@ -32,7 +32,7 @@ pub fn shift(row: &mut [u32], k: usize, by: usize)
         ≡ map (λ (e : ℕ). by + e) (take k row.old) ++ drop k row.old }
 {
     for cell in row[..k].iter_mut() {
-        *cell = (by + *cell as usize) as u32;
+        *cell = narrow(by + wide(*cell));
     }
 }
 
@@ -49,7 +49,7 @@ pub fn clear_first(row: &mut [u32], k: usize)
     requires { k ≤ length row.old }
     ensures { row.new ≡ replicate k 0 ++ drop k row.old }
 {
-    row[..k].fill(0);
+    clear_from(&mut row[..k], 0);
 }
 
 // Copies the first k cells of one row to the front of another, which keeps its other cells.
@@ -57,5 +57,7 @@ pub fn copy(from: &[u32], to: &mut [u32], k: usize)
     requires { (k ≤ length from.now) × (k ≤ length to.old) }
     ensures { to.new ≡ take k from.now ++ drop k to.old }
 {
-    to[..k].copy_from_slice(&from[..k]);
+    for i in 0..k {
+        to[i] = from[i];
+    }
 }

@@ -5,7 +5,6 @@ use native.Mathlib.Numerals.{add-one}
 use native.Mathlib.Nat.{add-zero}
 use mathlib.Core.Path.{◌≡◌, refl, sym, ap, ◌∙◌}
 use mathlib.Core.List.{List, [], ◌∷◌, ◌++◌, append_assoc, append-nil}
-use borrow.Rule.Slice.PartMut.{put_mid}
 use lib.ListN.{length, get_or, set, take, drop, length-append, length-drop, length-set, take-append-drop}
 use lib.Seq.{length-take-le, take_at, drop_at, drop-drop, take-suc, take-length, take-append-le, sets, sets-eq}
 use Rattle.image_rules.specs.Records.{le}
@@ -91,10 +90,29 @@ laid_twice row place v h e f =
     f ∙ ap (laid_at (place + 2) (le 2 (v / 256 / 256))) e
     ∙ laid_then row (v % 256 ∷ v / 256 % 256 ∷ []) (v / 256 / 256 % 256 ∷ v / 256 / 256 / 256 % 256 ∷ []) place (place + 2) refl (omega arith)
 
--- a part that is copied to its place
-pub laid_part : (row part ys : List ℕ) (place k : ℕ) → k ≡ length part → ys ≡ part → put_mid place k row ys ≡ laid_at place part row
-unfolding laid_at
-laid_part row part ys place k e f =
-    ap (put_mid place k row) f ∙ ap (λ (n : ℕ). put_mid place n row part) e
-    ∙ ap (λ (l : List ℕ). take place row ++ (part ++ l)) (drop-drop (length part) place row)
-    ∙ sym (append_assoc (take place row) part (drop (place + length part) row))
+-- ---- a part, cell by cell
+
+pub record Copied (row₀ : List ℕ) (place : ℕ) (part row : List ℕ) (i : ℕ) : Type 0 where
+  pub upto : i ≤ length part
+  pub fits : place + length part ≤ length row₀
+  pub same : length row ≡ length row₀
+  pub is : row ≡ laid_at place (take i part) row₀
+
+pub copied_none : (row : List ℕ) (place : ℕ) (part : List ℕ) → place + length part ≤ length row → Copied row place part row 0
+copied_none row place part h = record { upto = omega arith; fits = h; same = refl; is = sym (laid_none row place) }
+
+pub copied_more : {row₀ part row : List ℕ} {place i : ℕ} → Copied row₀ place part row i → i < length part → Copied row₀ place part (set row (place + i) (get_or part i 0)) (i + 1)
+copied_more {row₀} {part} {row} {place} {i} c l = record {
+  upto = omega arith;
+  fits = c.fits;
+  same = length-set row (place + i) (get_or part i 0) ∙ c.same;
+  is = laid_1 row (place + i) (get_or part i 0) (omega (arith, c.fits, c.same))
+      ∙ ap (laid_at (place + i) (get_or part i 0 ∷ [])) c.is
+      ∙ laid_then row₀ (take i part) (get_or part i 0 ∷ []) place (place + i) (let z : place + i ≡ place + length (take i part) = omega (arith, length-take-le i part (omega arith)) in z) (omega (arith, c.fits))
+      ∙ ap (λ (l : List ℕ). laid_at place l row₀) (sym (take-suc part i 0 l) ∙ ap (λ (k : ℕ). take k part) (sym (add-one i)));
+}
+
+pub copied_all : {row₀ part row : List ℕ} {place i : ℕ} → Copied row₀ place part row i → length part ≤ i → row ≡ laid_at place part row₀
+copied_all {row₀} {part} {row} {place} {i} c h =
+    let e : i ≡ length part = omega (arith, c.upto) in
+    c.is ∙ ap (λ (k : ℕ). laid_at place (take k part) row₀) e ∙ ap (λ (l : List ℕ). laid_at place l row₀) (take-length part)

@@ -29,7 +29,9 @@ pub fn put_bytes(row: &mut [u8], at: usize, part: &[u8])
     requires { at + length part.now ≤ length row.old }
     ensures { row.new ≡ laid_at at part.now row.old }
 {
-    row[at..at + part.len()].copy_from_slice(part);
+    for i in 0..part.len() {
+        row[at + i] = part[i];
+    }
 }
 
 // How many bytes a scalar has in UTF-8.

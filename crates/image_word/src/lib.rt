@@ -5,6 +5,7 @@ ghost use Rattle.std.specs.Prelude.{◌≡◌, ◌≤◌, length, take};
 ghost use Rattle.image_rules.specs.Order.{below, common};
 ghost use Rattle.image_word.specs.inner.Words.{Decodes, Rises, Takes};
 
+use cells::copy;
 use char_string_white_space::is_trimmed;
 use utf8::decode;
 
@@ -56,7 +57,9 @@ fn word_in(bytes: &[u8], row: &mut [u32; 255], positions: &mut [u32; 256]) -> Op
 }
 
 // Puts the first n cells of `row` to the front of `last`, if that word stands behind the one of
-// `size` characters there. Answers how many characters the two share.
+// `size` characters there. Answers how many characters the two share. As a part of its caller it
+// would copy within one struct, by a memmove that a host for C may lack.
+#[inline(never)]
 fn put_behind(last: &mut [u32; 255], size: usize, row: &[u32; 255], n: usize) -> Option<usize>
     requires { (size ≤ 255) × (n ≤ 255) }
     ensures { Rises (take size last.old) (take n row.now) last.old last.new result }
@@ -66,7 +69,7 @@ fn put_behind(last: &mut [u32; 255], size: usize, row: &[u32; 255], n: usize) ->
     if !rises(&last[..size], word, l) {
         return None;
     }
-    last[..n].copy_from_slice(word);
+    copy(row, last, n);
     Some(l)
 }
 

@@ -5,6 +5,7 @@ ghost use Rattle.std.specs.Prelude.{length};
 ghost use Rattle.newmm_answers.specs.Calls.{call, Cuts};
 ghost use Rattle.newmm_answers.specs.inner.Passing.{in_view, Sees, Blank, CutsBy};
 
+use cells::copy;
 use newmm_answers::check_cut;
 use newmm_rules::{Ends, Mode};
 use newmm_segment::segment_single;
@@ -32,7 +33,7 @@ pub fn cut_ready(
         scratch[..n].fill(0);
         return Err(Refusal::OutputTooShort(n));
     }
-    out[..n].copy_from_slice(&scratch[..n]);
+    copy(scratch, out, n);
     scratch[..n].fill(0);
     Ok(r)
 }

@@ -7,8 +7,9 @@
 // another reason is a `Failure`. A proved loop has to end: each has more turns than any run uses up.
 #![tactic(auto)]
 
-ghost use Rattle.std.specs.Prelude.{◌≡◌, ℕ, ◌≤◌, length, take, IfOk};
-ghost use Rattle.std.specs.Io.KnownBytes.{Appends, IsAtEnd};
+ghost use Rattle.std.specs.Prelude.{◌≡◌, ℕ, ◌≤◌, List, length, take, IfOk, ⊤};
+ghost use Rattle.std.specs.Io.KnownBytes.{Appends, Consumes, IsAtEnd};
+ghost use Rattle.sheet_io.specs.Handing.{Handed};
 ghost use Rattle.sheet_io.specs.Reading.{ReadOnce};
 
 use sheet_bytes::{front, keep, line_end};
@@ -85,13 +86,21 @@ pub trait Program {
     // Why it stops before the end of its input.
     type Stop: From<Failure> + Drop;
 
+    // What the program becomes by the bytes that it takes.
+    ghost takes: { Self → List ℕ → Self → Type 0 };
+
     // Does what is to be done with the next bytes.
-    fn take(&mut self, bytes: &[u8]) -> Result<(), Self::Stop>;
+    fn take(&mut self, bytes: &[u8]) -> Result<(), Self::Stop>
+        ensures { IfOk result (λ _. takes self.old bytes.now self.new) };
 }
 
-// Reads to the end of the input, and hands the program each part. `Ok` says that nothing is left.
+// Reads to the end of the input, and hands the program each part. `Ok` says that nothing is left,
+// and that the program was handed what was read, all of it and in order.
 pub fn read_all<R: Read, G: Program>(input: &mut R, program: &mut G) -> Result<(), G::Stop>
-    ensures { IfOk result (λ _. IsAtEnd (R.remaining input.new)) }
+    ensures at_end { IfOk result (λ _. IsAtEnd (R.remaining input.new)) }
+    ensures handed { IfOk result (λ _. (bytes : List ℕ)
+        × Consumes (R.remaining input.old) (R.remaining input.new) bytes
+        × Handed G.takes program.old bytes program.new) }
 {
     let mut buffer = [0u8; 65536];
     for _ in 0..u64::MAX {
@@ -124,6 +133,8 @@ struct Joined<'a, 'b, L> {
 
 impl<'a, 'b, L: Lines> Program for Joined<'a, 'b, L> {
     type Stop = L::Stop;
+
+    ghost takes = { λ s bytes t. ⊤ };
 
     fn take(&mut self, bytes: &[u8]) -> Result<(), L::Stop> {
         let Joined { lines, row, kept } = self;

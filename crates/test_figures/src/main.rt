@@ -12,7 +12,7 @@ use newmm_rules::{Ends, Mode};
 use refusal::Refusal;
 use std::io;
 use test_lines::{
-    Answers, Joined, Refused, field, first, lent, number, parts_of, read_cells, replay,
+    Answers, Each, Joined, Refused, field, first, lent, number, parts_of, read_cells, replay,
 };
 use test_rows::{expect_leftovers, expect_zero, mode_of, print_left, scratch_cells, smear};
 use test_words::hold;
@@ -88,7 +88,7 @@ impl Rows<'_> {
         for i in 0..texts {
             self.feed_text(rt, line, 3 + 4 * i, cells, &mut figures, false)?;
         }
-        print!(rt; "ok {}", Joined(&figures, ','))
+        print!(rt; "ok {}", Each(&figures, ','))
     }
 
     // feed words, figures, text => ok pairs edges figures, or the refusal and figures; after 13 what
@@ -97,7 +97,7 @@ impl Rows<'_> {
         let cells = hold(rt, field(line, 1), self.text, self.pool);
         let mut figures = read_figures(rt, field(line, 2));
         self.feed_text(rt, line, 3, cells, &mut figures, true)?;
-        print!(rt; " {}", Joined(&figures, ','))
+        print!(rt; " {}", Each(&figures, ','))
     }
 
     // Kept: (1) whether the text's own answer is shown is a plain yes or no.
@@ -214,9 +214,12 @@ fn tell_given(
     figures: &[u64; 16],
 ) -> io::Result<()> {
     match given {
-        Ok(0) => print!(rt; "ok {}", Joined(figures, ',')),
-        Ok(_) => print!(rt; "?ok {}", Joined(figures, ',')),
-        Err(r) => print!(rt; "{} {}", Refused(r), Joined(figures, ',')),
+        Ok(0) => print!(rt; "ok {}", Each(figures, ',')),
+        Ok(_) => {
+            print!(rt; "?")?;
+            print!(rt; "ok {}", Each(figures, ','))
+        }
+        Err(r) => print!(rt; "{} {}", Refused(r), Each(figures, ',')),
     }
 }
 

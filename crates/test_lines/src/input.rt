@@ -5,7 +5,7 @@ ghost use Rattle.std.specs.Io.KnownBytes.{Consumes};
 ghost use Rattle.test_lines.specs.Marks.{mark_at};
 ghost use Rattle.io.specs.Counts.{IsPrefixLen};
 
-use crate::output::unread;
+use crate::output::{Passing, unread};
 use std::io;
 use std::io::Read;
 
@@ -32,12 +32,13 @@ pub fn replay<R: Read, A: Answers>(
     replay_lines(rt, &buffer[..n], answers)
 }
 
-// Writes a line with the answer for each line of a text. A write that fails is passed over, and the
-// next line is answered.
+// Writes a line with the answer for each line of a text. A write that fails is passed over: the
+// pieces of the answer behind it are written all the same, and the next line is answered.
 pub fn replay_lines<A: Answers>(rt: &impl Print, text: &[u8], answers: &mut A) -> io::Result<()> {
+    let passing = Passing(rt);
     for line in parts_of(text, b'\n') {
-        let _ = answers.answer(rt, line);
-        let _ = println!(rt);
+        let _ = answers.answer(&passing, line);
+        let _ = print!(passing; "\n");
     }
     Ok(())
 }

@@ -21,8 +21,11 @@
 //   read_bytes(text, row) -> usize   `e0b881*2.61`, `-` for none, to row's front; how many bytes
 //   first(row, n) -> &[T]            the first n cells of row, or all of it where there are fewer
 //
-// Writing: values with a `Display`.
-//   Joined(row, mark)                in decimal with the mark between, `-` for none
+// Writing: values with a `Display`, whose pieces are written one by one.
+//   Passing(rt)                      a runtime that passes over a write that fails
+//   Gathered(value)                  the pieces of a value together
+//   Joined(row, mark)                in decimal with the mark between, `-` for none, gathered
+//   Each(row, mark)                  the same, not gathered
 //   Pairs(row, mark)                 by two with a colon, with the mark between, `-` for none
 //   Cells(row)                       as read_cells reads them, four or more equal cells as a run
 //   Bytes(row)                       in hexadecimal
@@ -35,5 +38,5 @@ mod output;
 mod parse;
 
 pub use input::{Answers, Parts, cut_at, field, opened, parts_of, read_full, replay, replay_lines};
-pub use output::{Bytes, Cells, Joined, Pairs, Refused, Told, first};
+pub use output::{Bytes, Cells, Each, Gathered, Joined, Pairs, Passing, Refused, Told, first};
 pub use parse::{lent, number, read_bytes, read_cells};

@@ -8,7 +8,7 @@ use sheet_bytes::{front, keep};
 use sheet_input::{feed, finish};
 use sheet_steps::{LINE, POOL, POSITIONS, REPLY, SCRATCH, TEXT};
 use std::io;
-use test_lines::{Answers, Bytes, field, lent, read_bytes, replay};
+use test_lines::{Answers, Bytes, Gathered, field, lent, read_bytes, replay};
 
 const INPUT: usize = 524288;
 
@@ -45,9 +45,10 @@ impl Answers for Rows<'_> {
             return print!(rt; "?");
         }
         let k = program(&run[..n], most, written);
+        print!(rt; "ok ")?;
         match front(written, k) {
-            [] => print!(rt; "ok -"),
-            bytes => print!(rt; "ok {}", Bytes(front(bytes, RUN / 2))),
+            [] => print!(rt; "-"),
+            bytes => print!(rt; "{}", Gathered(Bytes(front(bytes, RUN / 2)))),
         }
     }
 }

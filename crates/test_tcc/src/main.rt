@@ -76,10 +76,10 @@ impl Rows<'_> {
         let row = &mut out[..room];
         row.fill(BEFORE);
         let mark = match tcc::tcc_pos(&text[..n], row) {
-            Ok(_) => "ok",
-            Err(_) => "!",
+            Ok(_) => "ok ",
+            Err(_) => "! ",
         };
-        print!(rt; "{mark} {}", Cells(row))
+        print!(rt; "{mark}{}", Cells(row))
     }
 
     // flags scalars, row cells => the whole row after the call, each cell 7 before it

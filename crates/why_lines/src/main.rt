@@ -3,6 +3,8 @@
 // standard error tells which and why.
 #![tactic(auto)]
 
+ghost use Rattle.std.specs.Prelude.{⊤};
+
 use sheet_bytes::front;
 use sheet_io::{Failure, Program, read_all, write_whole};
 use std::io::{Read, Write};
@@ -44,6 +46,8 @@ impl<'a, W: Write> Run<'a, W> {
 
 impl<'a, W: Write> Program for Run<'a, W> {
     type Stop = Failure;
+
+    ghost takes = { λ s bytes t. ⊤ };
 
     // Writes the replies of the lines that end in the bytes.
     fn take(&mut self, bytes: &[u8]) -> Result<(), Failure> {

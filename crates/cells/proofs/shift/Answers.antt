@@ -7,6 +7,6 @@ use Rattle.cells.proofs.shift.Goals as goal
 
 pub loop-cell-preserved : goal.loop-cell-preserved
 loop-cell-preserved c =
-    map_over_more (λ (e : ℕ). c.args.by + e) (take c.args.k c.args.row.now) c.loop-cell.cell-items c.loop-cell.cell-index _
+    rw c.narrow.ensures (rw c.wide.ensures (map_over_more (λ (e : ℕ). c.args.by + e) (take c.args.k c.args.row.now) c.loop-cell.cell-items c.loop-cell.cell-index _
     c.loop-cell-test.true c.loop-cell.invariant
-    (get_or_default c.loop-cell.cell-items c.loop-cell.cell-index 0 _ (omega (arith, c.loop-cell.auto.cell-items, c.loop-cell-test.true)))
+    (get_or_default c.loop-cell.cell-items c.loop-cell.cell-index 0 _ (omega (arith, c.loop-cell.auto.cell-items, c.loop-cell-test.true)))))

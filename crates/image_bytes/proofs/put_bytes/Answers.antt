@@ -1,7 +1,8 @@
-use borrow.Author.Rules.{rules}
-use native.Mathlib.Omega.{arith}
-use Rattle.image_bytes.proofs.Laying.{laid_part}
+use Rattle.image_bytes.proofs.Laying.{copied_none, copied_more}
 use Rattle.image_bytes.proofs.put_bytes.Goals as goal
 
-pub returns : goal.returns
-returns c = laid_part c.args.row.now c.args.part.now _ c.args.at _ (omega arith) (search rules)
+pub loop-i-init : goal.loop-i-init
+loop-i-init c = copied_none _ _ _ c.requires
+
+pub loop-i-preserved : goal.loop-i-preserved
+loop-i-preserved c = copied_more c.loop-i.invariant c.loop-i-test.true

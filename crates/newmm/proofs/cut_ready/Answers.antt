@@ -3,7 +3,6 @@ use Prim.Native.Nat.{ℕ}
 use mathlib.Core.Path.{◌≡◌, sym, ◌∙◌, ap}
 use mathlib.Core.List.{List, ◌++◌}
 use lib.ListN.{length, take, drop, replicate}
-use lib.Seq.{length-take-le}
 use Rattle.std.proofs.Common.{rules}
 use Rattle.newmm_answers.specs.Answers.{cut_of}
 use Rattle.newmm.proofs.Calls.{the_cut, Ended, ready, ends_fit, ends_lent, short_cuts, done_cuts}
@@ -24,26 +23,14 @@ returns-then-out-n c =
     short_cuts c.args.scratch.now c.args.out.now (ended) c.if-out-n.true
     (ap (λ (l : List ℕ). l ++ drop c.segment_single-r.result.ends c.segment_single-r.new.row) (z ∙ ap (λ (k : ℕ). replicate {A = ℕ} k 0) (ends_lent (ended))))
 
-pub slice_bounds-copy_from_slice-end-3 : goal.slice_bounds-copy_from_slice-end-3
-slice_bounds-copy_from_slice-end-3 c =
+pub copy-requires : goal.copy-requires
+copy-requires c =
     let ended : Ended cut_of c.args.mode c.args.text.now c.args.view.now c.segment_single-r.new.row (length c.args.scratch.now) c.segment_single-r.result = record { like = the_cut; blank_row = _; lent = record { sees = c.requires.0; blank = c.requires.1 }; written = c.segment_single-r.ensures } in
-    ends_fit (ended)
-
-pub slice_bounds-copy_from_slice-end-4 : goal.slice_bounds-copy_from_slice-end-4
-slice_bounds-copy_from_slice-end-4 c =
-    let ended : Ended cut_of c.args.mode c.args.text.now c.args.view.now c.segment_single-r.new.row (length c.args.scratch.now) c.segment_single-r.result = record { like = the_cut; blank_row = _; lent = record { sees = c.requires.0; blank = c.requires.1 }; written = c.segment_single-r.ensures } in
-    sym (ends_lent (ended))
-
-pub copy_from_slice-requires : goal.copy_from_slice-requires
-copy_from_slice-requires c =
-    let ended : Ended cut_of c.args.mode c.args.text.now c.args.view.now c.segment_single-r.new.row (length c.args.scratch.now) c.segment_single-r.result = record { like = the_cut; blank_row = _; lent = record { sees = c.requires.0; blank = c.requires.1 }; written = c.segment_single-r.ensures } in
-    omega (arith, ends_lent (ended), length-take-le c.segment_single-r.result.ends c.args.out.now c.if-out-n.false)
+    (ends_fit (ended), c.if-out-n.false)
 
 pub returns : goal.returns
 returns c =
     let ended : Ended cut_of c.args.mode c.args.text.now c.args.view.now c.segment_single-r.new.row (length c.args.scratch.now) c.segment_single-r.result = record { like = the_cut; blank_row = _; lent = record { sees = c.requires.0; blank = c.requires.1 }; written = c.segment_single-r.ensures } in
-    let y : c.copy_from_slice.new.self ≡ take c.segment_single-r.result.ends c.segment_single-r.new.row = search rules in
     let z : c.fill-2.new.self ≡ replicate {A = ℕ} (length (take c.segment_single-r.result.ends c.segment_single-r.new.row)) 0 = search rules in
-    done_cuts c.args.scratch.now c.args.out.now (ended) c.if-out-n.false
-    (ap (λ (l : List ℕ). l ++ drop c.segment_single-r.result.ends c.args.out.now) y)
+    done_cuts c.args.scratch.now c.args.out.now (ended) c.if-out-n.false c.copy.ensures
     (ap (λ (l : List ℕ). l ++ drop c.segment_single-r.result.ends c.segment_single-r.new.row) (z ∙ ap (λ (k : ℕ). replicate {A = ℕ} k 0) (ends_lent (ended))))
