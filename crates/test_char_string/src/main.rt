@@ -160,10 +160,13 @@ fn tell_part(
     end: usize,
     part: &[u32],
 ) -> io::Result<()> {
-    let right = char_string::is_substring(text, start, end);
-    let empty = if right { start } else { 0 };
+    let (right, empty) = if char_string::is_substring(text, start, end) {
+        ("1 ", start)
+    } else {
+        ("0 ", 0)
+    };
     let at = part.first().map_or(empty, |x| *x as usize);
-    print!(rt; "ok {} {at} {}", u8::from(right), part.len())
+    print!(rt; "ok {right}{at} {}", part.len())
 }
 
 // A character as its number.

@@ -87,8 +87,7 @@ fn word_step(
 // Whether the word is held, and its class.
 fn tell_word(rt: &impl Print, answer: Result<Option<u16>, Refusal>) -> io::Result<()> {
     match answer {
-        Ok(Some(class)) => print!(rt; "1.{class}"),
-        Ok(None) => print!(rt; "0.0"),
+        Ok(class) => print!(rt; "{}.{}", u8::from(class.is_some()), class.unwrap_or(0)),
         Err(r) => print!(rt; "{}", Told(Err(r))),
     }
 }
